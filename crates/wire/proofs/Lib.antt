@@ -1,0 +1,5 @@
+pub mod Laws
+pub mod Turns
+pub mod Signed
+pub mod Nan
+pub mod Forms

@@ -1,0 +1,4 @@
+pub mod Faults
+pub mod Schema
+pub mod Table
+pub mod Layout

@@ -29,14 +29,18 @@ enumTotal k = getD k 321 0
 unfoldable pub widthIn : List ℕ → ℕ → ℕ
 widthIn k g = cond (ltb g 64) (getD k (64 + g) 0) 0
 
--- k is the index of the table t.
+-- The first n groups' records stand where the index k of the table t says, with their fields' records behind them.
+pub record Placed (t k : List ℕ) (n : ℕ) : Type 0 where
+  pub group : (g : ℕ) → g < n → drop g (schema t) ≡ groupAt (enums t) (drop (groupPlace k g) t) ∷ drop (g + 1) (schema t)
+  pub inside : (g : ℕ) → g < n → groupPlace k g + 16 + 16 * fieldCount (drop (groupPlace k g) t) ≤ length t
+
+-- k is the index of the accepted table t.
 pub record Layout (t k : List ℕ) : Type 0 where
   pub long : length k ≡ 322
   pub small : length t ≤ 65536
   pub few : length (schema t) ≤ 64
   pub total : groupTotal k ≡ length (schema t)
-  pub group : (g : ℕ) → g < length (schema t) → drop g (schema t) ≡ groupAt (enums t) (drop (groupPlace k g) t) ∷ drop (g + 1) (schema t)
-  pub inside : (g : ℕ) → g < length (schema t) → groupPlace k g + 16 + 16 * fieldCount (drop (groupPlace k g) t) ≤ length t
+  pub placed : Placed t k (length (schema t))
   pub wide : (d g : ℕ) → shallow (schema t) d g ≡ true → widthIn k g ≡ width (schema t) d g
   pub narrow : (g : ℕ) → widthIn k g ≤ 4096
   pub shallows : (g : ℕ) → shallow (schema t) 5 g ≡ true

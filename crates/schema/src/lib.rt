@@ -1,7 +1,275 @@
-// The schema table: its check, and what every walk of a message looks up in it.
+// The schema table, and what every walk of a message looks up in it.
+//
+// `index` is what Layout.antt says of an accepted table: where its records stand, and how wide its
+// groups are. Callers ask for a number of it by name, never by its position.
+ghost use mathlib.Core.Path.{_≡_};
+ghost use mathlib.Core.Bool.{_&&_};
+ghost use mathlib.Core.List.{List, []};
+ghost use Prim.Native.Nat.{ℕ, _+_, _*_, _<_, _≤_, _^_};
+ghost use lib.ListN.{length, take, drop, getD};
+ghost use lib.Dec.{eqb};
+ghost use Rattle.schema.specs.Schema.{member, find, allows, superOf, kindWidth, valueWidth, fieldWidth};
+ghost use Rattle.schema.specs.Table.{scalarWidth, fieldAt, fieldCount, idFlag, typeId, superNumber, valuesAt, enums, schema};
+ghost use Rattle.schema.specs.Layout.{groupPlace, groupTotal, symbolPlace, symbolTotal, widthIn, Placed, Layout};
+ghost use Rattle.schema.specs.FieldKinds.{kindFrom, textKind, Widths};
 
 // A check's answer: this number of document 01's, at this place.
 pub enum Verdict {
     Accepted,
     Refused { number: u8, place: usize },
+}
+
+// The kind of a field or an item, as its record in the table says: the numbers whose bytes are
+// tested each have a kind of their own.
+pub enum FieldKind {
+    Plain { width: u8 },
+    Flag,
+    Millis,
+    Nanos,
+    Symbol { list: usize },
+    Inline { utf8: bool, capacity: u8 },
+    Indirect { utf8: bool },
+    Static { group: usize },
+    Dynamic { allowed: usize },
+}
+
+fn wide(x: u8) -> usize
+    ensures { λ r. ⌜ (r ≡ x) × (r < 256) ⌝ }
+{
+    x as usize
+}
+
+fn wide16(x: u16) -> usize
+    ensures { λ r. ⌜ (r ≡ x) × (r < 65536) ⌝ }
+{
+    x as usize
+}
+
+// THE INDEX
+
+// Where group number `group` has its record.
+pub fn group_place(index: &[u16], group: usize) -> usize
+    requires { ⌜ (length (now index) ≡ 322) × (group < 64) ⌝ }
+    ensures { λ r. ⌜ (r ≡ groupPlace (now (index .entry)) group) × (r < 65536) ⌝ }
+{
+    wide16(index[group])
+}
+
+// How many groups there are.
+pub fn group_total(index: &[u16]) -> usize
+    requires { ⌜ length (now index) ≡ 322 ⌝ }
+    ensures { λ r. ⌜ (r ≡ groupTotal (now (index .entry))) × (r < 65536) ⌝ }
+{
+    wide16(index[320])
+}
+
+// The width of a static group; a number past the last group is that of none.
+pub fn group_width(index: &[u16], group: usize) -> usize
+    requires { ⌜ Widths (now index) ⌝ }
+    ensures { λ r. ⌜ (r ≡ widthIn (now (index .entry)) group) × (r ≤ 4096) ⌝ }
+{
+    if group < 64 {
+        return wide16(index[64 + group]);
+    }
+    0
+}
+
+fn symbol_place(index: &[u16], list: usize) -> usize
+    requires { ⌜ (length (now index) ≡ 322) × (list < 64) ⌝ }
+    ensures { λ r. ⌜ (r ≡ symbolPlace (now (index .entry)) list) × (r < 65536) ⌝ }
+{
+    wide16(index[128 + list])
+}
+
+fn symbol_total(index: &[u16], list: usize) -> usize
+    requires { ⌜ (length (now index) ≡ 322) × (list < 64) ⌝ }
+    ensures { λ r. ⌜ (r ≡ symbolTotal (now (index .entry)) list) × (r < 65536) ⌝ }
+{
+    wide16(index[192 + list])
+}
+
+// A GROUP'S RECORD
+
+// How many fields the group has whose record stands at `at`.
+pub fn field_count(table: &[u8], at: usize) -> usize
+    requires { ⌜ at + 16 ≤ length (now table) ⌝ }
+    ensures { λ r. ⌜ (r ≡ fieldCount (drop at (now (table .entry)))) × (r < 256) ⌝ }
+{
+    wide(table[at + 13])
+}
+
+// "super group number plus 1, or 0"
+fn super_number(table: &[u8], at: usize) -> usize
+    requires { ⌜ at + 16 ≤ length (now table) ⌝ }
+    ensures { λ r. ⌜ (r ≡ superNumber (drop at (now (table .entry)))) × (r < 2 ^ 16) ⌝ }
+{
+    wire::read_u16(table, at + 11)
+}
+
+// Whether the group whose record stands at `at` has this id.
+fn has_id(table: &[u8], at: usize, id: u64) -> bool
+    requires { ⌜ at + 16 ≤ length (now table) ⌝ }
+    ensures { λ r. ⌜ r ≡ eqb (idFlag (drop at (now (table .entry)))) 1 && eqb (typeId (drop at (now (table .entry)))) id ⌝ }
+{
+    table[at + 10] == 1 && wire::read_u64(table, at + 2) == id
+}
+
+// The number of the group with this id among the first n; n where none of them has it.
+pub fn find(table: &[u8], index: &[u16], n: usize, id: u64) -> usize
+    requires { ⌜ (Placed (now table) (now index) n) × (length (now index) ≡ 322) × (n ≤ 64) × (length (now table) ≤ 65536) ⌝ }
+    ensures { λ r. ⌜ (r ≡ find (take n (schema (now (table .entry)))) id) × (r ≤ n) ⌝ }
+{
+    let mut i = 0;
+    while i < n {
+        if has_id(table, group_place(index, i), id) {
+            return i;
+        }
+        i += 1;
+    }
+    i
+}
+
+// Whether the group may stand for a dynamic field, whose kind has the number `allowed`: the named
+// group and all below it, or any group where that number is 0.
+pub fn allows(table: &[u8], index: &[u16], allowed: usize, group: usize) -> bool
+    requires { ⌜ (Layout (now table) (now index)) × (group < length (schema (now table))) ⌝ }
+    ensures { λ r. ⌜ r ≡ allows (schema (now (table .entry))) allowed group ⌝ }
+{
+    if allowed == 0 {
+        return true;
+    }
+    let mut above = group;
+    while allowed - 1 != above {
+        let next = super_number(table, group_place(index, above));
+        if next == 0 {
+            return false;
+        }
+        above = next - 1;
+    }
+    true
+}
+
+// Whether the value is a symbol of enumeration number `list`.
+pub fn has_symbol(table: &[u8], index: &[u16], list: usize, value: usize) -> bool
+    requires { ⌜ (Layout (now table) (now index)) × (list < 64) ⌝ }
+    ensures { λ r. ⌜ r ≡ member value (getD (enums (now (table .entry))) list []) ⌝ }
+{
+    let n = symbol_total(index, list);
+    let start = symbol_place(index, list);
+    let mut i = 0;
+    while i < n {
+        if value == wire::read_u32(table, start + 16 * i + 2) {
+            return true;
+        }
+        i += 1;
+    }
+    false
+}
+
+// A FIELD'S RECORD
+
+const SCALAR_WIDTHS: [u8; 17] = [1, 1, 1, 2, 2, 4, 4, 8, 8, 8, 9, 1, 4, 8, 8, 4, 8];
+
+fn scalar_width(number: u8) -> u8
+    requires { ⌜ number < 17 ⌝ }
+    ensures { λ r. ⌜ r ≡ scalarWidth number ⌝ }
+{
+    SCALAR_WIDTHS[wide(number)]
+}
+
+// A string's or binary's kind.
+fn text_kind(utf8: bool, capacity: u8) -> FieldKind
+    ensures { λ r. ⌜ ((es : List (List ℕ)) → kindFrom es r ≡ textKind utf8 capacity) ⌝ }
+{
+    if capacity == 0 {
+        return FieldKind::Indirect { utf8 };
+    }
+    FieldKind::Inline { utf8, capacity }
+}
+
+// The kind of the field whose record stands at `at`.
+pub fn kind_at(table: &[u8], at: usize) -> FieldKind
+    requires { ⌜ at + 16 ≤ length (now table) ⌝ }
+    ensures { λ r. ⌜ ((es : List (List ℕ)) → kindFrom es r ≡ fieldAt es (drop at (now (table .entry))) .kind) ⌝ }
+{
+    let number = table[at + 2];
+    let size = table[at + 5];
+    let reference = wire::read_u16(table, at + 6);
+    match number {
+        11 => FieldKind::Flag,
+        15 => FieldKind::Millis,
+        16 => FieldKind::Nanos,
+        17 => text_kind(true, size),
+        18 => text_kind(false, size),
+        19 => FieldKind::Plain { width: size },
+        20 => FieldKind::Symbol { list: reference },
+        21 => FieldKind::Static { group: reference },
+        22 => FieldKind::Dynamic {
+            allowed: reference + 1,
+        },
+        _ => {
+            if number < 17 {
+                return FieldKind::Plain {
+                    width: scalar_width(number),
+                };
+            }
+            FieldKind::Dynamic { allowed: 0 }
+        }
+    }
+}
+
+pub fn is_optional(table: &[u8], at: usize) -> bool
+    requires { ⌜ at + 16 ≤ length (now table) ⌝ }
+    ensures { λ r. ⌜ ((es : List (List ℕ)) → r ≡ fieldAt es (drop at (now (table .entry))) .optional) ⌝ }
+{
+    table[at + 3] == 1
+}
+
+pub fn is_sequence(table: &[u8], at: usize) -> bool
+    requires { ⌜ at + 16 ≤ length (now table) ⌝ }
+    ensures { λ r. ⌜ ((es : List (List ℕ)) → r ≡ fieldAt es (drop at (now (table .entry))) .sequence) ⌝ }
+{
+    table[at + 4] == 1
+}
+
+// WIDTHS
+
+// The width of an item of this kind.
+pub fn kind_width(index: &[u16], kind: FieldKind) -> usize
+    requires { ⌜ Widths (now index) ⌝ }
+    ensures { λ r. ⌜ ((es : List (List ℕ)) → r ≡ kindWidth (widthIn (now (index .entry))) (kindFrom es kind)) × (r ≤ 4096) ⌝ }
+{
+    match kind {
+        FieldKind::Plain { width } => wide(width),
+        FieldKind::Flag => 1,
+        FieldKind::Millis => 4,
+        FieldKind::Nanos => 8,
+        FieldKind::Symbol { list } => 4,
+        FieldKind::Inline { utf8, capacity } => wide(capacity) + 1,
+        FieldKind::Indirect { utf8 } => 4,
+        FieldKind::Static { group } => group_width(index, group),
+        FieldKind::Dynamic { allowed } => 4,
+    }
+}
+
+// The width of the field whose record stands at `at`, without its flag.
+pub fn value_width(table: &[u8], index: &[u16], at: usize) -> usize
+    requires { ⌜ (Widths (now index)) × (at + 16 ≤ length (now table)) ⌝ }
+    ensures { λ r. ⌜ ((es : List (List ℕ)) → r ≡ valueWidth (widthIn (now (index .entry))) (fieldAt es (drop at (now (table .entry))))) × (r ≤ 4096) ⌝ }
+{
+    if is_sequence(table, at) {
+        return 4;
+    }
+    kind_width(index, kind_at(table, at))
+}
+
+pub fn field_width(table: &[u8], index: &[u16], at: usize) -> usize
+    requires { ⌜ (Widths (now index)) × (at + 16 ≤ length (now table)) ⌝ }
+    ensures { λ r. ⌜ ((es : List (List ℕ)) → r ≡ fieldWidth (widthIn (now (index .entry))) (fieldAt es (drop at (now (table .entry))))) × (r ≤ 4097) ⌝ }
+{
+    let width = value_width(table, index, at);
+    if is_optional(table, at) {
+        return width + 1;
+    }
+    width
 }

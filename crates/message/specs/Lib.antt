@@ -1,0 +1,5 @@
+pub mod Marks
+pub mod Sheet
+pub mod Walk
+pub mod Count
+pub mod Cases

@@ -1,0 +1,1 @@
+// A message under its schema: what it means, and when it is one.

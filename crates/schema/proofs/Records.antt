@@ -1,0 +1,75 @@
+-- The table's records where they stand: what is defined of the table's bytes that are left, at an index of the whole table.
+use Prim.Native.Nat.{ℕ, suc, _+_, _-_, _*_, _<_, _≤_}
+use mathlib.Core.Path.{_≡_}
+use mathlib.Core.Bool.{true, false}
+use mathlib.Core.List.{List, [], _∷_}
+use native.Mathlib.Omega.{arith}
+use native.Mathlib.Nat.{sub-zero, add-zero, mul-zero}
+use lib.ListN.{getD, drop}
+use lib.Seq.{drop-drop, getD-drop}
+use lib.Dec.{eqb}
+use borrow.Author.Tests.{eq-eqb, ne-eqb}
+use Rattle.wire.specs.Bytes.{part, le}
+use Rattle.schema.specs.Schema.{member}
+use Rattle.schema.specs.Table.{kindOf, fieldAt, fieldsAt, valuesAt}
+
+-- a byte, and a number, of what is left at p
+pub byte-at : (t : List ℕ) (p i : ℕ) → getD (drop p t) i 0 ≡ getD t (p + i) 0
+byte-at t p i = getD-drop p t i 0
+
+pub number-at : (n i p : ℕ) (t : List ℕ) → le (part n i (drop p t)) ≡ le (part n (p + i) t)
+number-at n i p t = rw (drop-drop i p t)
+
+-- FIELDS
+
+module _ (es : List (List ℕ)) (t : List ℕ) (p : ℕ) where
+  pub field-kind : fieldAt es (drop p t) .kind ≡ kindOf es (getD t (p + 2) 0) (getD t (p + 5) 0) (le (part 2 (p + 6) t))
+  unfolding fieldAt
+  field-kind = rw (byte-at t p 2, byte-at t p 5, number-at 2 6 p t)
+
+  pub field-optional : fieldAt es (drop p t) .optional ≡ eqb (getD t (p + 3) 0) 1
+  unfolding fieldAt
+  field-optional = rw (byte-at t p 3)
+
+  pub field-sequence : fieldAt es (drop p t) .sequence ≡ eqb (getD t (p + 4) 0) 1
+  unfolding fieldAt
+  field-sequence = rw (byte-at t p 4)
+
+  -- of n fields' records that begin at p, those behind the first i, one turn further
+  pub fields-more : (n i : ℕ) → i < n → fieldsAt es (n - i) (drop p t) ≡ fieldAt es (drop p t) ∷ fieldsAt es (n - (i + 1)) (drop (p + 16) t)
+  unfolding fieldsAt
+  fields-more n i h = let e : n - i ≡ suc (n - (i + 1)) = omega arith in rw (e, drop-drop 16 p t)
+
+  pub fields-none : (n i : ℕ) → n ≤ i → fieldsAt es (n - i) (drop p t) ≡ []
+  unfolding fieldsAt
+  fields-none n i h = let e : n - i ≡ 0 = omega arith in rw e
+
+-- SYMBOLS
+
+-- of the n symbols' records that begin at p, the values of those behind the first i
+abbrev pub valuesFrom : List ℕ → ℕ → ℕ → ℕ → List ℕ
+valuesFrom t p n i = valuesAt (n - i) (drop (p + 16 * i) t)
+
+module _ (t : List ℕ) (p n v : ℕ) where
+  pub symbol-all : member v (valuesAt n (drop p t)) ≡ member v (valuesFrom t p n 0)
+  symbol-all = rw (sub-zero, mul-zero, add-zero)
+
+  module _ (i : ℕ) (h : i < n) where
+    values-more : valuesFrom t p n i ≡ le (part 4 (p + 16 * i + 2) t) ∷ valuesFrom t p n (i + 1)
+    unfolding valuesAt
+    values-more =
+        let e : n - i ≡ suc (n - (i + 1)) = omega arith in
+        let f : p + 16 * i + 16 ≡ p + 16 * (i + 1) = omega arith in
+        rw (e, number-at 4 2 (p + 16 * i) t, drop-drop 16 (p + 16 * i) t, f)
+
+    pub symbol-hit : v ≡ le (part 4 (p + 16 * i + 2) t) → member v (valuesFrom t p n i) ≡ true
+    unfolding member
+    symbol-hit e = rw (values-more, eq-eqb _ _ e)
+
+    pub symbol-miss : (v ≡ le (part 4 (p + 16 * i + 2) t) → ⊥) → member v (valuesFrom t p n i) ≡ member v (valuesFrom t p n (i + 1))
+    unfolding member
+    symbol-miss e = rw (values-more, ne-eqb _ _ e)
+
+  pub symbol-end : (i : ℕ) → n ≤ i → member v (valuesFrom t p n i) ≡ false
+  unfolding member valuesAt
+  symbol-end i h = let e : n - i ≡ 0 = omega arith in rw e

@@ -1,0 +1,86 @@
+-- The kind of each type, as the code sees it, and its width.
+use Prim.Native.Nat.{ℕ, zero, suc, _+_, _<_, _≤_}
+use mathlib.Core.Path.{_≡_, refl}
+use mathlib.Core.Bool.{true, false}
+use mathlib.Core.List.{List, [], _∷_}
+use native.Mathlib.Omega.{arith}
+use lib.ListN.{length, getD}
+use borrow.Author.Tests.{ne-eqb, le-leb, lt-leb}
+use Rattle.schema.specs.Schema.{Field, kindWidth, valueWidth, fieldWidth}
+use Rattle.schema.specs.Table.{kindOf, scalarWidth}
+use Rattle.schema.specs.FieldKinds.{kindFrom, textKind}
+use Rattle.schema.specs.declared.FieldKind.the-variants.{Plain, Flag, Millis, Nanos, Symbol, Static, Dynamic}
+
+module _ (es : List (List ℕ)) (type size ref : ℕ) where
+  pub kind-flag : type ≡ 11 → kindFrom es Flag ≡ kindOf es type size ref
+  unfolding kindOf kindFrom
+  kind-flag e = rw e
+
+  pub kind-millis : type ≡ 15 → kindFrom es Millis ≡ kindOf es type size ref
+  unfolding kindOf kindFrom
+  kind-millis e = rw e
+
+  pub kind-nanos : type ≡ 16 → kindFrom es Nanos ≡ kindOf es type size ref
+  unfolding kindOf kindFrom
+  kind-nanos e = rw e
+
+  pub kind-string : type ≡ 17 → textKind true size ≡ kindOf es type size ref
+  unfolding kindOf textKind
+  kind-string e = rw e
+
+  pub kind-binary : type ≡ 18 → textKind false size ≡ kindOf es type size ref
+  unfolding kindOf textKind
+  kind-binary e = rw e
+
+  pub kind-fixed : type ≡ 19 → kindFrom es (Plain size) ≡ kindOf es type size ref
+  unfolding kindOf kindFrom
+  kind-fixed e = rw e
+
+  pub kind-symbol : type ≡ 20 → kindFrom es (Symbol ref) ≡ kindOf es type size ref
+  unfolding kindOf kindFrom
+  kind-symbol e = rw e
+
+  pub kind-static : type ≡ 21 → kindFrom es (Static ref) ≡ kindOf es type size ref
+  unfolding kindOf kindFrom
+  kind-static e = rw e
+
+  pub kind-dynamic : type ≡ 22 → kindFrom es (Dynamic (ref + 1)) ≡ kindOf es type size ref
+  unfolding kindOf kindFrom
+  kind-dynamic e = rw e
+
+  pub kind-plain : (w : ℕ) → w ≡ scalarWidth type → (type ≡ 11 → ⊥) → (type ≡ 15 → ⊥) → (type ≡ 16 → ⊥) → type < 17 → kindFrom es (Plain w) ≡ kindOf es type size ref
+  unfolding kindOf kindFrom
+  kind-plain w e a b c l = rw (ne-eqb _ _ a, ne-eqb _ _ b, ne-eqb _ _ c, le-leb type 16 (omega arith), e)
+
+  pub kind-any : 23 ≤ type → kindFrom es (Dynamic 0) ≡ kindOf es type size ref
+  unfolding kindOf kindFrom
+  kind-any l =
+      rw (ne-eqb type 11 (omega arith), ne-eqb type 15 (omega arith), ne-eqb type 16 (omega arith), lt-leb type 16 (omega arith), ne-eqb type 17 (omega arith))
+      (rw (ne-eqb type 18 (omega arith), ne-eqb type 19 (omega arith), ne-eqb type 20 (omega arith), ne-eqb type 21 (omega arith), ne-eqb type 22 (omega arith)))
+
+-- one number less of those that `type` may be: a `match` on numbers says what it is not, one by one
+pub above : (type n : ℕ) → n ≤ type → (type ≡ n → ⊥) → n + 1 ≤ type
+above type n h d = omega arith
+
+-- what stands in a list inside its length is what stands there with any other default
+pub get-inside : (s : List ℕ) (i d e : ℕ) → i < length s → getD s i d ≡ getD s i e
+get-inside [] i d e h = absurd (omega arith)
+get-inside (x ∷ s) zero d e h = refl
+get-inside (x ∷ s) (suc i) d e h = get-inside s i d e (omega arith)
+
+module _ (sw : ℕ → ℕ) (f : Field) where
+  pub width-sequence : f .sequence ≡ true → 4 ≡ valueWidth sw f
+  unfolding valueWidth
+  width-sequence e = rw e
+
+  pub width-one : f .sequence ≡ false → kindWidth sw (f .kind) ≡ valueWidth sw f
+  unfolding valueWidth
+  width-one e = rw e
+
+  pub width-optional : f .optional ≡ true → valueWidth sw f + 1 ≡ fieldWidth sw f
+  unfolding fieldWidth valueWidth
+  width-optional e = rw e
+
+  pub width-required : f .optional ≡ false → valueWidth sw f ≡ fieldWidth sw f
+  unfolding fieldWidth valueWidth
+  width-required e = rw e

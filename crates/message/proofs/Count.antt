@@ -1,17 +1,16 @@
 -- Laws of the walk's count, for code that reads a message and writes no sheet: each way to join readers, and one turn of each loop.
-use mathlib.Core.Path.{_≡_, refl, sym, ap, _∙_}
+use mathlib.Core.Path.{_≡_, refl, _∙_}
 use mathlib.Core.Bool.{Bool, true, false, cond}
-use mathlib.Core.List.{List, [], _∷_, _++_}
-use Prim.Native.Nat.{ℕ, zero, suc, _+_, _*_, _≤_}
+use mathlib.Core.List.{List, [], _∷_}
+use Prim.Native.Nat.{ℕ, suc, _+_, _≤_}
 use native.Mathlib.Nat.{zero-add, add-assoc}
-use native.Mathlib.Omega.{arith}
-use lib.ListN.{length, take, drop, length-append}
+use lib.ListN.{length, length-append}
 use Rattle.wire.specs.Bytes.{part}
 use Rattle.wire.proofs.Laws.{length-part}
 use Rattle.schema.specs.Faults.{need}
 use Rattle.schema.specs.Schema.{Field, fieldWidth}
 use Rattle.message.specs.Sheet.{Mark, VA, ST, SG, SQ, GB, XT, XU, markBytes}
-use Rattle.message.specs.Walk.{Reading, refused, done, prefixed, next, Here, Reader, Inner, Place, lost, found, locate, onward, noneR, thenR, markedR, indirectR, innerR, itemsR, listR, fieldR, fieldsR}
+use Rattle.message.specs.Walk.{Reading, refused, done, prefixed, next, Here, Reader, Inner, lost, found, locate, onward, noneR, thenR, markedR, indirectR, innerR, itemsR, listR, fieldR, fieldsR}
 use Rattle.message.specs.Count.{Count, failed, counted, count, more, andThen}
 
 -- LENGTHS

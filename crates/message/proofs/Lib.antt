@@ -1,1 +1,13 @@
 pub mod Count
+pub mod Tests
+pub mod Marking
+pub mod Sat
+pub mod Utf8
+pub mod Lookups
+pub mod Values
+pub mod Judged
+pub mod Extents
+pub mod Holders
+pub mod Agree
+pub mod Accepted
+pub mod Eleven

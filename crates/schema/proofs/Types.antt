@@ -4,24 +4,29 @@ use mathlib.Core.Path.{_≡_, refl}
 use mathlib.Core.Bool.{true, false}
 use mathlib.Core.List.{List, [], _∷_}
 use native.Mathlib.Omega.{arith}
-use lib.ListN.{length, getD}
+use lib.ListN.{length, take, drop, getD, List·getD-eq-default}
+use lib.Dec.{ltb}
 use borrow.Author.Tests.{ne-eqb, le-leb, lt-leb}
-use Rattle.schema.specs.Schema.{Field, kindWidth, valueWidth, fieldWidth}
-use Rattle.schema.specs.Table.{kindOf, scalarWidth}
-use Rattle.schema.specs.FieldKinds.{kindFrom, textKind}
-use Rattle.schema.specs.declared.FieldKind.the-variants.{Plain, Flag, Millis, Nanos, Symbol, Static, Dynamic}
+use Rattle.schema.specs.Schema.{Test, flag, below, symbol, plain, passes, testFault, member, Field, kindWidth, valueWidth, fieldWidth}
+use Rattle.wire.specs.Bytes.{part, le}
+use Rattle.wire.proofs.Laws.{drop-more}
+use Rattle.schema.specs.Table.{kindOf, fieldAt, scalarWidth}
+use Rattle.schema.proofs.Records.{byte-at}
+use Rattle.schema.specs.FieldKinds.{kindFrom, textKind, testedKind, kindFault, plainField}
+use Rattle.schema.specs.declared.FieldKind.the-variants.{Plain, Number, Static, Dynamic}
+use Rattle.schema.specs.declared.Tested.the-variants.{Flag, Millis, Nanos, Symbol}
 
 module _ (es : List (List ℕ)) (type size ref : ℕ) where
-  pub kind-flag : type ≡ 11 → kindFrom es Flag ≡ kindOf es type size ref
-  unfolding kindOf kindFrom
+  pub kind-flag : type ≡ 11 → kindFrom es (Number Flag) ≡ kindOf es type size ref
+  unfolding kindOf kindFrom testedKind
   kind-flag e = rw e
 
-  pub kind-millis : type ≡ 15 → kindFrom es Millis ≡ kindOf es type size ref
-  unfolding kindOf kindFrom
+  pub kind-millis : type ≡ 15 → kindFrom es (Number Millis) ≡ kindOf es type size ref
+  unfolding kindOf kindFrom testedKind
   kind-millis e = rw e
 
-  pub kind-nanos : type ≡ 16 → kindFrom es Nanos ≡ kindOf es type size ref
-  unfolding kindOf kindFrom
+  pub kind-nanos : type ≡ 16 → kindFrom es (Number Nanos) ≡ kindOf es type size ref
+  unfolding kindOf kindFrom testedKind
   kind-nanos e = rw e
 
   pub kind-string : type ≡ 17 → textKind true size ≡ kindOf es type size ref
@@ -36,8 +41,8 @@ module _ (es : List (List ℕ)) (type size ref : ℕ) where
   unfolding kindOf kindFrom
   kind-fixed e = rw e
 
-  pub kind-symbol : type ≡ 20 → kindFrom es (Symbol ref) ≡ kindOf es type size ref
-  unfolding kindOf kindFrom
+  pub kind-symbol : type ≡ 20 → kindFrom es (Number (Symbol ref)) ≡ kindOf es type size ref
+  unfolding kindOf kindFrom testedKind
   kind-symbol e = rw e
 
   pub kind-static : type ≡ 21 → kindFrom es (Static ref) ≡ kindOf es type size ref
@@ -84,3 +89,43 @@ module _ (sw : ℕ → ℕ) (f : Field) where
   pub width-required : f .optional ≡ false → valueWidth sw f ≡ fieldWidth sw f
   unfolding fieldWidth valueWidth
   width-required e = rw e
+
+-- a required field of a type without a test
+pub plain-field : (es : List (List ℕ)) (t : List ℕ) (p w : ℕ) → w ≡ scalarWidth (getD t (p + 2) 0)
+    → (getD t (p + 3) 0 ≡ 1 → ⊥) → (getD t (p + 4) 0 ≡ 1 → ⊥) → (getD t (p + 2) 0 ≡ 11 → ⊥) → getD t (p + 2) 0 < 15 → fieldAt es (drop p t) ≡ plainField w
+unfolding fieldAt kindOf
+plain-field es t p w e o s a l =
+    let type = getD t (p + 2) 0 in
+    rw (byte-at t p 2, byte-at t p 3, byte-at t p 4, ne-eqb _ _ o, ne-eqb _ _ s, ne-eqb _ _ a, ne-eqb type 15 (omega arith), ne-eqb type 16 (omega arith), le-leb type 16 (omega arith), e)
+
+-- TESTS
+
+module _ (w : ℕ) (x : Test) (s : List ℕ) where
+  pub fault-none : passes x (take w s) ≡ true → 0 ≡ kindFault (plain w x) s
+  unfolding kindFault
+  fault-none e = rw e
+
+  pub fault-some : passes x (take w s) ≡ false → testFault x ≡ kindFault (plain w x) s
+  unfolding kindFault
+  fault-some e = rw e
+
+pub flag-is : (s : List ℕ) → passes flag s ≡ ltb (le s) 2
+unfolding passes
+flag-is s = refl
+
+pub below-is : (n : ℕ) (s : List ℕ) → passes (below n) s ≡ ltb (le s) n
+unfolding passes
+below-is n s = refl
+
+pub symbol-is : (vs s : List ℕ) → passes (symbol vs) s ≡ member (le s) vs
+unfolding passes
+symbol-is vs s = refl
+
+-- an enumeration past the last has no symbol
+pub no-symbol : (es : List (List ℕ)) (e : ℕ) (s : List ℕ) → length es ≤ e → passes (symbol (getD es e [])) s ≡ false
+unfolding passes member
+no-symbol es e s h = rw (List·getD-eq-default es [] h)
+
+pub le-one : (s : List ℕ) (at : ℕ) → at + 1 ≤ length s → le (part 1 at s) ≡ getD s at 0
+unfolding le
+le-one s at h = rw (drop-more s at (omega arith)) (omega arith)

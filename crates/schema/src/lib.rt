@@ -11,7 +11,7 @@ ghost use lib.Dec.{eqb};
 ghost use Rattle.schema.specs.Schema.{member, find, allows, superOf, kindWidth, valueWidth, fieldWidth};
 ghost use Rattle.schema.specs.Table.{scalarWidth, fieldAt, fieldCount, idFlag, typeId, superNumber, valuesAt, enums, schema};
 ghost use Rattle.schema.specs.Layout.{groupPlace, groupTotal, symbolPlace, symbolTotal, widthIn, Placed, Layout};
-ghost use Rattle.schema.specs.FieldKinds.{kindFrom, textKind, Widths};
+ghost use Rattle.schema.specs.FieldKinds.{kindFrom, textKind, testedKind, kindFault, plainField, Widths};
 
 // A check's answer: this number of document 01's, at this place.
 pub enum Verdict {
@@ -19,14 +19,19 @@ pub enum Verdict {
     Refused { number: u8, place: usize },
 }
 
-// The kind of a field or an item, as its record in the table says: the numbers whose bytes are
-// tested each have a kind of their own.
-pub enum FieldKind {
-    Plain { width: u8 },
+// The numbers whose bytes are tested: a bool, a time of day in milliseconds or nanoseconds, and a
+// symbol of enumeration number `list`.
+pub enum Tested {
     Flag,
     Millis,
     Nanos,
     Symbol { list: usize },
+}
+
+// The kind of a field or an item, as its record in the table says.
+pub enum FieldKind {
+    Plain { width: u8 },
+    Number { tested: Tested },
     Inline { utf8: bool, capacity: u8 },
     Indirect { utf8: bool },
     Static { group: usize },
@@ -196,13 +201,21 @@ pub fn kind_at(table: &[u8], at: usize) -> FieldKind
     let size = table[at + 5];
     let reference = wire::read_u16(table, at + 6);
     match number {
-        11 => FieldKind::Flag,
-        15 => FieldKind::Millis,
-        16 => FieldKind::Nanos,
+        11 => FieldKind::Number {
+            tested: Tested::Flag,
+        },
+        15 => FieldKind::Number {
+            tested: Tested::Millis,
+        },
+        16 => FieldKind::Number {
+            tested: Tested::Nanos,
+        },
         17 => text_kind(true, size),
         18 => text_kind(false, size),
         19 => FieldKind::Plain { width: size },
-        20 => FieldKind::Symbol { list: reference },
+        20 => FieldKind::Number {
+            tested: Tested::Symbol { list: reference },
+        },
         21 => FieldKind::Static { group: reference },
         22 => FieldKind::Dynamic {
             allowed: reference + 1,
@@ -232,7 +245,39 @@ pub fn is_sequence(table: &[u8], at: usize) -> bool
     table[at + 4] == 1
 }
 
+// The width of a required value of a type without a test; 0 for every other field.
+pub fn plain_width(table: &[u8], at: usize) -> usize
+    requires { ⌜ at + 16 ≤ length (now table) ⌝ }
+    ensures { λ r. ⌜ ((r ≡ 0 → ⊥) → (es : List (List ℕ)) → fieldAt es (drop at (now (table .entry))) ≡ plainField r) × (r < 256) ⌝ }
+{
+    let number = table[at + 2];
+    if table[at + 3] == 1 {
+        return 0;
+    }
+    if table[at + 4] == 1 {
+        return 0;
+    }
+    if number == 11 {
+        return 0;
+    }
+    if 15 <= number {
+        return 0;
+    }
+    wide(scalar_width(number))
+}
+
 // WIDTHS
+
+pub fn tested_width(tested: Tested) -> u8
+    ensures { λ r. ⌜ ((es : List (List ℕ)) (sw : ℕ → ℕ) → r ≡ kindWidth sw (testedKind es tested)) ⌝ }
+{
+    match tested {
+        Tested::Flag => 1,
+        Tested::Millis => 4,
+        Tested::Nanos => 8,
+        Tested::Symbol { list } => 4,
+    }
+}
 
 // The width of an item of this kind.
 pub fn kind_width(index: &[u16], kind: FieldKind) -> usize
@@ -241,10 +286,7 @@ pub fn kind_width(index: &[u16], kind: FieldKind) -> usize
 {
     match kind {
         FieldKind::Plain { width } => wide(width),
-        FieldKind::Flag => 1,
-        FieldKind::Millis => 4,
-        FieldKind::Nanos => 8,
-        FieldKind::Symbol { list } => 4,
+        FieldKind::Number { tested } => wide(tested_width(tested)),
         FieldKind::Inline { utf8, capacity } => wide(capacity) + 1,
         FieldKind::Indirect { utf8 } => 4,
         FieldKind::Static { group } => group_width(index, group),
@@ -272,4 +314,43 @@ pub fn field_width(table: &[u8], index: &[u16], at: usize) -> usize
         return width + 1;
     }
     width
+}
+
+// TESTS
+
+// "10, 11, 12: no such symbol; bool or flag not 0, 1; 24 hours or more", or 0 where the number that
+// stands at `at` passes.
+pub fn test_fault(table: &[u8], index: &[u16], tested: Tested, bytes: &[u8], at: usize) -> u8
+    requires { ⌜ (Layout (now table) (now index)) × (at + kindWidth (widthIn (now index)) (testedKind (enums (now table)) tested) ≤ length (now bytes)) ⌝ }
+    ensures { λ r. ⌜ r ≡ kindFault (testedKind (enums (now (table .entry))) tested) (drop at (now (bytes .entry))) ⌝ }
+{
+    match tested {
+        Tested::Flag => {
+            if bytes[at] < 2 {
+                return 0;
+            }
+            11
+        }
+        Tested::Millis => {
+            if wire::read_u32(bytes, at) < 86400000 {
+                return 0;
+            }
+            12
+        }
+        Tested::Nanos => {
+            if wire::read_u64(bytes, at) < 86400000000000 {
+                return 0;
+            }
+            12
+        }
+        Tested::Symbol { list } => {
+            if 64 <= list {
+                return 10;
+            }
+            if has_symbol(table, index, list, wire::read_u32(bytes, at)) {
+                return 0;
+            }
+            10
+        }
+    }
 }

@@ -1,3 +1,4 @@
+use mathlib.Core.Path.{_∙_}
 use native.Mathlib.Omega.{arith}
 use borrow.Author.Needs.{needs}
 use Rattle.schema.specs.Schema.{kindWidth}
@@ -11,35 +12,23 @@ returns c = (λ es. rw (c .before .before .kind .given .1) (c .wide .ensures .0)
 
 returns-2 : tie.Need-returns-2
 unfolding kindWidth kindFrom
-returns-2 c = (λ es. rw (c .enum-told .given .1), omega arith)
+returns-2 c = (λ es. rw (c .before .before .before .kind2 .given .1) (c .wide2 .ensures .0 ∙ c .before .tested-width .ensures es _), omega (arith, c .wide2 .ensures .1))
 
 returns-3 : tie.Need-returns-3
 unfolding kindWidth kindFrom
-returns-3 c = (λ es. rw (c .enum-told2 .given .1), omega arith)
+returns-3 c = (λ es. rw (c .before .before .kind3 .given .1) (omega (arith, c .wide3 .ensures .0)), omega (arith, c .wide3 .ensures .1))
 
 returns-4 : tie.Need-returns-4
 unfolding kindWidth kindFrom
-returns-4 c = (λ es. rw (c .enum-told3 .given .1), omega arith)
+returns-4 c = (λ es. rw (c .before .kind4 .given .1), omega arith)
 
 returns-5 : tie.Need-returns-5
 unfolding kindWidth kindFrom
-returns-5 c = (λ es. rw (c .before .kind2 .given .1), omega arith)
+returns-5 c = (λ es. rw (c .before .before .kind5 .given .1) (c .group-width .ensures .0), omega (arith, c .group-width .ensures .1))
 
 returns-6 : tie.Need-returns-6
 unfolding kindWidth kindFrom
-returns-6 c = (λ es. rw (c .before .before .kind3 .given .1) (omega (arith, c .wide2 .ensures .0)), omega (arith, c .wide2 .ensures .1))
-
-returns-7 : tie.Need-returns-7
-unfolding kindWidth kindFrom
-returns-7 c = (λ es. rw (c .before .kind4 .given .1), omega arith)
-
-returns-8 : tie.Need-returns-8
-unfolding kindWidth kindFrom
-returns-8 c = (λ es. rw (c .before .before .kind5 .given .1) (c .group-width .ensures .0), omega (arith, c .group-width .ensures .1))
-
-returns-9 : tie.Need-returns-9
-unfolding kindWidth kindFrom
-returns-9 c = (λ es. rw (c .before .kind6 .given .1), omega arith)
+returns-6 c = (λ es. rw (c .before .kind6 .given .1), omega arith)
 
 pub kind-width-spec : {M : Type 1} → statement M
 kind-width-spec =
@@ -48,9 +37,8 @@ kind-width-spec =
     (λ c. search needs)
     (λ c κs. search needs)
     (λ c. search needs)
-    (λ c. search needs)
-    (λ c. search needs)
-    (λ c. search needs)
+    (λ c κs. search needs)
+    (λ c κs. search needs)
     (λ c. search needs)
     (λ c κs. search needs)
     (λ c. search needs)
@@ -63,7 +51,4 @@ kind-width-spec =
     returns-3
     returns-4
     returns-5
-    returns-6
-    returns-7
-    returns-8
-    returns-9)
+    returns-6)

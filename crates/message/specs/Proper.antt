@@ -1,0 +1,29 @@
+-- What the table's check gives of every schema: the premises of the theorems on messages.
+use mathlib.Core.Path.{_≡_}
+use mathlib.Core.Bool.{true}
+use mathlib.Core.List.{List, [], _∷_}
+use Prim.Native.Nat.{ℕ, _≤_, _<_}
+use Rattle.schema.specs.Schema.{Kind, plain, inline, indirect, static, dynamic, Field, Group, fieldsOf, superOf, shallow}
+use Rattle.message.specs.Conforms.{Names}
+
+-- "A super number is lower than the group's own", and "the id of a group that has one" came once: that a message is accepted exactly when it conforms.
+pub record Proper (gs : List Group) : Type 0 where
+  pub falls : (g : ℕ) → superOf gs g ≤ g
+  pub once : (g k id : ℕ) → Names gs g id → Names gs k id → g ≡ k
+
+-- No value has width 0, and an inline count fits in its byte.
+abbrev pub SizedKind : Kind → Type 0
+SizedKind (plain w t) = 1 ≤ w
+SizedKind (inline u c) = (1 ≤ c) × (c < 256)
+SizedKind (indirect u) = Unit
+SizedKind (static g) = Unit
+SizedKind (dynamic g) = Unit
+
+abbrev pub SizedFields : List Field → Type 0
+SizedFields [] = Unit
+SizedFields (f ∷ fs) = SizedKind (f .kind) × SizedFields fs
+
+-- 33 and 35: that "a sheet is never longer than eleven times its message", and the round trip.
+pub record Sized (gs : List Group) : Type 0 where
+  pub kinds : (g : ℕ) → SizedFields (fieldsOf gs g)
+  pub shallows : (g : ℕ) → shallow gs 5 g ≡ true

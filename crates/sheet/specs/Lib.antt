@@ -1,0 +1,3 @@
+pub mod Written
+pub mod Rewritten
+pub mod Canonical

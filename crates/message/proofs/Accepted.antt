@@ -15,7 +15,7 @@ use Rattle.message.specs.Walk.{Ignored, Here, here, Reading, refused, do
 use Rattle.message.specs.Conforms.{Value, number, presence, inlineText, text, list, group, extension, extending, valuesOf, areaOf, size, typeId, Extent, extentOf, extents, Apart, Pad, Good, Each, Allowed, GroupConforms, ConformsAt, Conforms}
 use Rattle.message.specs.Proper.{Proper}
 use Rattle.message.proofs.Tests.{or-unless, unless-or}
-use Rattle.message.proofs.Lookups.{known-names, names-known, allows-allowed, allowed-allows}
+use Rattle.message.proofs.Lookups.{known-names, names-known, allows-allowed, allowed-allows, names-once}
 use Rattle.message.proofs.Judged.{Judged, wrong, right, judge-need, judge-prefixed, judge-next, judge-iff}
 use Rattle.message.proofs.Extents.{marks, Clear}
 use Rattle.message.proofs.Holders.{holders, pad-none, none-pad, once-apart, apart-once, Fits, marks-get, marks-length, clear-apart, apart-clear, pads-get, get-pads, zeros-get}
@@ -95,7 +95,7 @@ record Formed (I : Ignored) (gs : List Group) (C : ℕ → List ℕ → Type 0) 
 module _ (I : Ignored) (gs : List Group) (proper : Proper gs) where
   formed : (C : ℕ → List ℕ → Type 0) (n : ℕ) (b : List ℕ) → GroupConforms I gs C n b → Formed I gs C n (find gs (typeId b)) b
   formed C n b x =
-      let q : x .type ≡ find gs (typeId b) = proper .once _ _ (typeId b) (x .w2) (known-names gs (typeId b) (names-known (x .w2))) in
+      let q : x .type ≡ find gs (typeId b) = names-once gs proper _ _ (typeId b) (x .w2) (known-names gs (typeId b) (names-known (x .w2))) in
       let f : Formed I gs C n (x .type) b = record { allowed = x .allowed; s1 = x .s1; each = x .each; apart = x .apart; w6 = x .w6 } in
       rw q at f
 

@@ -6,7 +6,7 @@ use mathlib.Core.List.{List, [], _∷_, _++_}
 use Prim.Native.Nat.{ℕ, zero, suc, _+_, _*_, _≤_}
 use native.Mathlib.Omega.{arith}
 use native.Mathlib.Nat.{mul-le-mul-left, mul-le-mul-right}
-use lib.ListN.{length, take, drop, replicate, length-append, length-take, length-replicate}
+use lib.ListN.{length, drop, replicate, length-append, length-take, length-replicate}
 use lib.Dec.{leb, eqb}
 use borrow.Author.Tests.{leb-true}
 use Rattle.wire.specs.Bytes.{part, le, bytesOf}
@@ -18,7 +18,7 @@ use Rattle.message.specs.Count.{count, counted}
 use Rattle.message.specs.Proper.{SizedKind, SizedFields, Sized}
 use Rattle.message.proofs.Marking.{taken, taken-le, taken-more}
 use Rattle.message.proofs.Count.{length-mark}
-use Rattle.message.proofs.Sat.{Sat, unsaid, said, sat-is, sat-need, sat-cond, sat-prefixed, sat-next, sat-map, sat-padded, Lies, sat-indirect}
+use Rattle.message.proofs.Sat.{Sat, unsaid, said, sat-is, sat-need, sat-cond, sat-prefixed, sat-next, sat-map, sat-padded, sat-indirect}
 
 -- READERS
 

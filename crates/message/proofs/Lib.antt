@@ -11,3 +11,4 @@ pub mod Holders
 pub mod Agree
 pub mod Accepted
 pub mod Eleven
+pub mod Ids

@@ -4,13 +4,13 @@ use mathlib.Core.Bool.{Bool, true, false, cond, _&&_, and-eq-true-iff}
 use mathlib.Core.List.{List, [], _∷_}
 use Prim.Native.Nat.{ℕ, zero, suc, _-_, _≤_, _<_}
 use native.Mathlib.Omega.{arith}
-use lib.ListN.{length}
-use lib.Dec.{eqb}
-use borrow.Author.Tests.{lt-ltb, eq-eqb, ltb-true, eqb-true}
+use lib.ListN.{length, take, drop}
+use lib.Dec.{ltb, eqb}
+use borrow.Author.Tests.{lt-ltb, eq-eqb, ltb-true, ltb-false, eqb-true}
 use Rattle.schema.specs.Schema.{Group, superOf, under, allows, find, known}
 use Rattle.message.specs.Conforms.{Names, here, there, Below, itself, higher, Allowed}
 use Rattle.message.specs.Proper.{Proper}
-use Rattle.message.proofs.Tests.{or-right, or-cases}
+use Rattle.message.proofs.Tests.{true-false, or-right, or-cases}
 
 -- BELOW
 
@@ -70,3 +70,35 @@ names-find (there {g = g} {gs = gs} {id = id} x) = cond-less (g .hasId && eqb (g
 pub names-known : {gs : List Group} {g id : ℕ} → Names gs g id → known gs id ≡ true
 unfolding known
 names-known x = lt-ltb _ _ (names-find x)
+
+-- AN ID NAMES ONE GROUP
+
+record Stands (gs : List Group) (g id : ℕ) : Type 0 where
+  it : Group
+  rest : List Group
+  is : drop g gs ≡ it ∷ rest
+  has : it .hasId ≡ true
+  named : it .id ≡ id
+
+names-stands : {gs : List Group} {g id : ℕ} → Names gs g id → Stands gs g id
+names-stands (here {g = g} {gs = gs} h e) = record { it = g; rest = gs; is = refl; has = h; named = e }
+names-stands (there x) = let s = names-stands x in record { it = s .it; rest = s .rest; is = s .is; has = s .has; named = s .named }
+
+names-take : {gs : List Group} {g id : ℕ} (k : ℕ) → g < k → Names gs g id → Names (take k gs) g id
+names-take zero l x = absurd (omega arith)
+names-take (suc k) l (here h e) = here h e
+names-take (suc k) l (there x) = there (names-take k (omega arith) x)
+
+module _ (gs : List Group) (proper : Proper gs) where
+  not-before : (g k id : ℕ) → g < k → Names gs g id → Names gs k id → ⊥
+  not-before g k id l x y =
+      let s = names-stands y in
+      true-false (known (take k gs) id) (names-known (names-take k l x)) (rw (s .named) at (proper .fresh k (s .it) (s .rest) (s .is) (s .has)))
+
+  pub names-once : (g k id : ℕ) → Names gs g id → Names gs k id → g ≡ k
+  names-once g k id x y = go (ltb g k) (ltb k g) refl refl
+    where
+      go : (c d : Bool) → ltb g k ≡ c → ltb k g ≡ d → g ≡ k
+      go true d e f = absurd (not-before g k id (ltb-true _ _ e) x y)
+      go false true e f = absurd (not-before k g id (ltb-true _ _ f) y x)
+      go false false e f = omega (arith, ltb-false g k e, ltb-false k g f)

@@ -178,13 +178,13 @@ Number flag x = W11 x
 Number (below n) x = W12 n x
 Number (symbol vs) x = W10 vs x
 
-pub record Presence (I : Ignored) (b : List ℕ) (w at : ℕ) : Type 0 where
+pub record Presence (x : Ignored) (b : List ℕ) (w at : ℕ) : Type 0 where
   pub w11 : W11 (byte at b)
-  pub w4 : I .absent ≡ false → byte at b ≡ 0 → Zero b (at + 1) w
+  pub w4 : x .absent ≡ false → byte at b ≡ 0 → Zero b (at + 1) w
 
-pub record InlineText (I : Ignored) (b : List ℕ) (u : Bool) (c at : ℕ) : Type 0 where
+pub record InlineText (x : Ignored) (b : List ℕ) (u : Bool) (c at : ℕ) : Type 0 where
   pub w7 : byte at b ≤ c
-  pub w8 : I .unused ≡ false → Zero b (at + 1 + byte at b) (c - byte at b)
+  pub w8 : x .unused ≡ false → Zero b (at + 1 + byte at b) (c - byte at b)
   pub w9 : W9 u (part (byte at b) (at + 1) b)
 
 pub record Text (a : ℕ) (b : List ℕ) (u : Bool) (at : ℕ) : Type 0 where
@@ -219,14 +219,14 @@ pub record Extending (gs : List Group) (C : ℕ → List ℕ → Type 0) (a : �
   pub conforms : (g : ℕ) → Names gs g (le (part 8 (target b at + 4) b)) → C 0 (part (4 + countAt b at) (target b at) b)
 
 abbrev pub Good : Ignored → List Group → (ℕ → List ℕ → Type 0) → ℕ → List ℕ → Value → Type 0
-Good I gs C a b (number w t at) = Number t (le (part w at b))
-Good I gs C a b (presence w at) = Presence I b w at
-Good I gs C a b (inlineText u c at) = InlineText I b u c at
-Good I gs C a b (text u at) = Text a b u at
-Good I gs C a b (list w at) = Sequence a b w at
-Good I gs C a b (group g at) = Dynamic C a b g at
-Good I gs C a b (extension at) = Extension a b at
-Good I gs C a b (extending at) = Extending gs C a b at
+Good x gs C a b (number w t at) = Number t (le (part w at b))
+Good x gs C a b (presence w at) = Presence x b w at
+Good x gs C a b (inlineText u c at) = InlineText x b u c at
+Good x gs C a b (text u at) = Text a b u at
+Good x gs C a b (list w at) = Sequence a b w at
+Good x gs C a b (group g at) = Dynamic C a b g at
+Good x gs C a b (extension at) = Extension a b at
+Good x gs C a b (extending at) = Extending gs C a b at
 
 abbrev pub Each : (Value → Type 0) → List Value → Type 0
 Each P [] = Unit
@@ -245,23 +245,23 @@ Allowed gs zero g = Unit
 Allowed gs (suc a) g = Below gs a g
 
 -- The group of number `type` whose bytes are b, where the kind's number n names it.
-pub record GroupConforms (I : Ignored) (gs : List Group) (C : ℕ → List ℕ → Type 0) (n : ℕ) (b : List ℕ) : Type 0 where
+pub record GroupConforms (x : Ignored) (gs : List Group) (C : ℕ → List ℕ → Type 0) (n : ℕ) (b : List ℕ) : Type 0 where
   pub w1 : 12 ≤ size b
   pub type : ℕ
   pub w2 : Names gs type (typeId b)
   pub allowed : Allowed gs n type
   pub s1 : width gs 5 type ≤ size b - 12
-  pub each : Each (Good I gs C (areaOf gs type) b) (valuesOf gs type b)
+  pub each : Each (Good x gs C (areaOf gs type) b) (valuesOf gs type b)
   pub apart : Apart (extents b (valuesOf gs type b))
-  pub w6 : I .pads ≡ false → (i : ℕ) → areaOf gs type ≤ i → i < length b → Pad i (extents b (valuesOf gs type b)) → getD b i 0 ≡ 0
+  pub w6 : x .pads ≡ false → (i : ℕ) → areaOf gs type ≤ i → i < length b → Pad i (extents b (valuesOf gs type b)) → getD b i 0 ≡ 0
 
 -- "The message is level 1, a dynamic group in it one deeper; 8 is the last level." So many levels are left.
 abbrev pub ConformsAt : Ignored → List Group → ℕ → ℕ → List ℕ → Type 0
-ConformsAt I gs zero n b = ⊥
-ConformsAt I gs (suc l) n b = GroupConforms I gs (ConformsAt I gs l) n b
+ConformsAt x gs zero n b = ⊥
+ConformsAt x gs (suc l) n b = GroupConforms x gs (ConformsAt x gs l) n b
 
 -- "A message has at most 65,536 bytes and is exactly 4 + size long."
-pub record Conforms (I : Ignored) (gs : List Group) (b : List ℕ) : Type 0 where
+pub record Conforms (x : Ignored) (gs : List Group) (b : List ℕ) : Type 0 where
   pub limit : length b ≤ 65536
   pub exact : length b ≡ 4 + size b
-  pub level1 : ConformsAt I gs 8 0 b
+  pub level1 : ConformsAt x gs 8 0 b

@@ -1,9 +1,9 @@
 -- Which bytes of a dynamic group are taken by the values of its data area: a list as long as the group, 0 where a byte is free.
 -- It is what the check keeps in the caller's scratch.
-use mathlib.Core.Bool.{Bool, true, false, _&&_}
-use mathlib.Core.List.{List, [], _∷_, _++_}
+use mathlib.Core.Bool.{Bool, true, _&&_}
+use mathlib.Core.List.{List, [], _∷_}
 use Prim.Native.Nat.{ℕ, zero, suc}
-use lib.ListN.{take, drop, replicate}
+use lib.ListN.{replicate}
 use lib.Dec.{eqb}
 use Rattle.wire.specs.Bytes.{part, splice, allZero}
 

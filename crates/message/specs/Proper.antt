@@ -1,15 +1,15 @@
 -- What the table's check gives of every schema: the premises of the theorems on messages.
 use mathlib.Core.Path.{_≡_}
-use mathlib.Core.Bool.{true}
+use mathlib.Core.Bool.{true, false}
 use mathlib.Core.List.{List, [], _∷_}
 use Prim.Native.Nat.{ℕ, _≤_, _<_}
-use Rattle.schema.specs.Schema.{Kind, plain, inline, indirect, static, dynamic, Field, Group, fieldsOf, superOf, shallow}
-use Rattle.message.specs.Conforms.{Names}
+use lib.ListN.{take, drop}
+use Rattle.schema.specs.Schema.{Kind, plain, inline, indirect, static, dynamic, Field, Group, fieldsOf, superOf, shallow, known}
 
--- "A super number is lower than the group's own", and "the id of a group that has one" came once: that a message is accepted exactly when it conforms.
+-- "A super number is lower than the group's own", and no id of a group that has one "came before": that a message is accepted exactly when it conforms.
 pub record Proper (gs : List Group) : Type 0 where
   pub falls : (g : ℕ) → superOf gs g ≤ g
-  pub once : (g k id : ℕ) → Names gs g id → Names gs k id → g ≡ k
+  pub fresh : (g : ℕ) (x : Group) (rest : List Group) → drop g gs ≡ x ∷ rest → x .hasId ≡ true → known (take g gs) (x .id) ≡ false
 
 -- No value has width 0, and an inline count fits in its byte.
 abbrev pub SizedKind : Kind → Type 0

@@ -3,16 +3,16 @@
 -- Field: 11 on its flag, 4, then its value. Offset: 5, 26 for the count or size word, 26 or 13 for the rest, 27, then the contents. Inline text: 7, 8, 9."
 --
 -- It is made of readers (R), each of which reads what stands at a place of a dynamic group's bytes, and of a few ways to join them.
-use mathlib.Core.Bool.{Bool, true, false, cond, _&&_, _||_}
+use mathlib.Core.Bool.{Bool, false, cond, _&&_, _||_}
 use mathlib.Core.List.{List, [], _∷_, _++_}
 use Prim.Native.Nat.{ℕ, zero, suc, _+_, _-_, _*_}
-use lib.ListN.{length, take, drop, getD, replicate}
+use lib.ListN.{length, drop, getD, replicate}
 use lib.Dec.{leb, ltb, eqb}
 use Rattle.wire.specs.Bytes.{part, le, bytesOf, allZero, zeros}
 use Rattle.schema.specs.Faults.{need}
 use Rattle.schema.specs.Schema.{Test, passes, testFault, textOk, Kind, plain, inline, indirect, static, dynamic, Field, Group, kindWidth, valueWidth, fieldWidth, fieldsOf, width, find, known, allows}
 use Rattle.message.specs.Marks.{free, mark, padsZero, padsBefore}
-use Rattle.message.specs.Sheet.{Mark, VA, ST, SG, SQ, GB, XT, XU, markBytes, NO, GE, kindMark, fieldMark}
+use Rattle.message.specs.Sheet.{Mark, GB, XT, XU, markBytes, NO, GE, kindMark, fieldMark}
 
 -- READINGS
 

@@ -1,31 +1,31 @@
 -- The extension: a sequence of any groups, of which one of unknown type is kept as bytes; and what is walked last and stands first.
 use mathlib.Core.Path.{_≡_, refl, sym, ap, _∙_}
-use mathlib.Core.Bool.{Bool, true, false, not, cond, _||_, _&&_}
-use mathlib.Core.List.{List, [], _∷_, _++_, append-assoc, append-nil}
-use Prim.Native.Nat.{ℕ, zero, suc, _+_, _-_, _*_, _≤_, _<_}
+use mathlib.Core.Bool.{true, false, not}
+use mathlib.Core.List.{List, [], _++_, append-assoc, append-nil}
+use Prim.Native.Nat.{ℕ, zero, suc, _+_, _-_, _*_, _≤_}
 use native.Mathlib.Omega.{arith}
-use lib.ListN.{length, take, drop, replicate, length-append, length-take, length-drop, length-replicate}
+use lib.ListN.{length, take, drop, replicate, length-append, length-take, length-drop}
 use lib.Seq.{take-at, drop-drop, take-take, take-add, take-append-le, drop-append-le}
-use lib.Dec.{leb, ltb, eqb}
+use lib.Dec.{eqb}
 use borrow.Author.Tests.{ne-eqb, lt-ltb, le-leb, leb-true, eqb-false, not-true}
 use Rattle.wire.specs.Bytes.{part, le, bytesOf, same}
 use Rattle.wire.proofs.Laws.{length-bytes}
 use Rattle.schema.specs.Faults.{need}
 use Rattle.schema.specs.Schema.{Group, known, textOk}
 use Rattle.message.specs.Sheet.{GB, XT, XU, markBytes}
-use Rattle.message.specs.Walk.{Here, done, Reader, Inner, word, prefixed, next, markedR, inArea, indirectR, textR, innerR, listR, extendingR, groupsR, extensionR, extensionIn, behindR}
+use Rattle.message.specs.Walk.{Here, Reader, Inner, word, prefixed, next, markedR, inArea, indirectR, textR, listR, extendingR, groupsR, extensionR, extensionIn, behindR}
 use Rattle.message.proofs.Marking.{taken, taken-more}
-use Rattle.message.proofs.Sat.{Sat, said, sat-need, sat-cond, sat-prefixed, sat-next, sat-map, Lies, sat-indirect}
-use Rattle.sheet.specs.Written.{Writing, stopped, wrote, Writer, InnerW, Body, indirectW, listB, innerB, extendingB, extensionW, swapped, backW, behindW}
+use Rattle.message.proofs.Sat.{Sat, said, sat-need, sat-cond, sat-prefixed, sat-next, sat-map, sat-indirect}
+use Rattle.sheet.specs.Written.{Writing, Writer, InnerW, indirectW, listB, innerB, extendingB, extensionW, swapped, backW, behindW}
 use Rattle.sheet.proofs.Laws.{four, at-left, at-right, at-part, ones-join}
-use Rattle.sheet.proofs.Match.{SatW, saidW, unsaidW, satw-need, satw-cond, satw-placed, satw-map, Fit, Taken, Held, Again, Match}
+use Rattle.sheet.proofs.Match.{SatW, saidW, unsaidW, satw-need, satw-cond, satw-placed, satw-map, Fit, Taken, Held, split-front, held-first, held-rest, Again, Match}
 use Rattle.sheet.proofs.Layers.{counted-eats, satw-counted, due-eats, satw-due}
-use Rattle.sheet.proofs.Bodies.{Fits, BTaken, BAgain, BMatch, Reads, indirect-taken, indirect-again, match-indirect, text-again, list-forth, list-back, match-inner, inner-again, GReads, GAgain, GMatch}
+use Rattle.sheet.proofs.Bodies.{offset-leads, BodyTaken, BodyAgain, BodyMatch, indirect-taken, indirect-again, match-indirect, text-again, list-forth, list-back, match-inner, inner-again, GroupAgain, GroupMatch}
 
 -- A GROUP OF KNOWN TYPE, AND ONE THAT IS KEPT
 
-module _ (gs : List Group) (I : Inner) (W : InnerW) (A : GMatch gs I W) where
-  known-taken : (a n : ℕ) (m s m′ : List ℕ) → BTaken (innerB W 0) a n m s m′ → BTaken (extendingB gs W) a n m (markBytes GB ++ s) m′
+module _ (gs : List Group) (I : Inner) (W : InnerW) (A : GroupMatch gs I W) where
+  known-taken : (a n : ℕ) (m s m′ : List ℕ) → BodyTaken (innerB W 0) a n m s m′ → BodyTaken (extendingB gs W) a n m (markBytes GB ++ s) m′
   unfolding extendingB same markBytes innerB
   known-taken a n m s m′ t = record {
     same = t .same;
@@ -34,7 +34,7 @@ module _ (gs : List Group) (I : Inner) (W : InnerW) (A : GMatch gs I W) where
         record { own = x .own; values = x .values; small = x .small; is = due-eats (markBytes GB) (s ++ r) _ refl ∙ x .is };
   }
 
-  kept-taken : (a : ℕ) (m c v : List ℕ) → length c ≡ 4 → length v ≡ le c → 12 ≤ le c → known gs (le (take 8 v)) ≡ false → BTaken (extendingB gs W) a (4 + le c * 1) m (markBytes XU ++ (c ++ v)) m
+  kept-taken : (a : ℕ) (m c v : List ℕ) → length c ≡ 4 → length v ≡ le c → 12 ≤ le c → known gs (le (take 8 v)) ≡ false → BodyTaken (extendingB gs W) a (4 + le c * 1) m (markBytes XU ++ (c ++ v)) m
   unfolding extendingB same markBytes need not
   kept-taken a m c v l k h u = record {
     same = refl;
@@ -48,13 +48,13 @@ module _ (gs : List Group) (I : Inner) (W : InnerW) (A : GMatch gs I W) where
   }
 
   kept-again : (p : ℕ) (s s₁ c v r : List ℕ) → s ≡ markBytes XU ++ s₁ → s₁ ≡ (c ++ v) ++ r → length c ≡ 4 → length v ≡ le c
-      → 12 ≤ le c → known gs (le (take 8 v)) ≡ false → BAgain 1 (extendingR gs I) p s (c ++ v) [] r
+      → 12 ≤ le c → known gs (le (take 8 v)) ≡ false → BodyAgain 1 (extendingR gs I) p s (c ++ v) [] r
   unfolding extendingR need markedR prefixed textOk
   kept-again p s s₁ c v r e e₁ l k h u =
       let a = text-again false p s₁ c v r e₁ l k refl in
       record {
         used = markBytes XU ++ a .used;
-        split = e ∙ ap (λ (y : List ℕ). markBytes XU ++ y) (a .split) ∙ sym (append-assoc (markBytes XU) (a .used) r);
+        split = split-front (markBytes XU) s s₁ (a .used) r e (a .split);
         again = λ hh z q j n eq H.
             let x = a .again hh z q j n eq H in
             let t : le (take 4 (c ++ v)) ≡ le c = ap le (take-at c v 4 l) in
@@ -63,13 +63,13 @@ module _ (gs : List Group) (I : Inner) (W : InnerW) (A : GMatch gs I W) where
             record { four = x .four; size = x .size; reads = rw (w, u, le-leb 12 (le (take 4 (c ++ v))) (omega arith), x .reads) };
       }
 
-  known-again : (p : ℕ) (s s₁ X Y r : List ℕ) → s ≡ markBytes GB ++ s₁ → GAgain gs I 0 s₁ X Y r → BAgain 1 (extendingR gs I) p s X Y r
+  known-again : (p : ℕ) (s s₁ X Y r : List ℕ) → s ≡ markBytes GB ++ s₁ → GroupAgain gs I 0 s₁ X Y r → BodyAgain 1 (extendingR gs I) p s X Y r
   unfolding extendingR need markedR prefixed
   known-again p s s₁ X Y r e g =
       let a = inner-again gs I W A 0 p s₁ X Y r g in
       record {
         used = markBytes GB ++ a .used;
-        split = e ∙ ap (λ (y : List ℕ). markBytes GB ++ y) (a .split) ∙ sym (append-assoc (markBytes GB) (a .used) r);
+        split = split-front (markBytes GB) s s₁ (a .used) r e (a .split);
         again = λ h z q j n eq H.
             let x = a .again h z q j n eq H in
             let u = g .again (omega (arith, H .all, H .small)) in
@@ -79,7 +79,7 @@ module _ (gs : List Group) (I : Inner) (W : InnerW) (A : GMatch gs I W) where
       }
 
   kept-forth : (h : Here) (p : ℕ) (m : List ℕ) → p + (4 + word p (h .bytes) * 1) ≤ length (h .bytes) → 12 ≤ word p (h .bytes) → known gs (le (part 8 (p + 4) (h .bytes))) ≡ false
-      → Sat (λ s m′. BTaken (extendingB gs W) (h .area) (4 + word p (h .bytes) * 1) m (markBytes XU ++ s) m′) (textR false (word p (h .bytes)) h p m)
+      → Sat (λ s m′. BodyTaken (extendingB gs W) (h .area) (4 + word p (h .bytes) * 1) m (markBytes XU ++ s) m′) (textR false (word p (h .bytes)) h p m)
   unfolding textR
   kept-forth h p m f t₁ u =
       let b = h .bytes in
@@ -88,7 +88,7 @@ module _ (gs : List Group) (I : Inner) (W : InnerW) (A : GMatch gs I W) where
       (simp (length-take, length-drop) (omega arith)) (simp (length-take, length-drop) (omega arith)) t₁
       (rw (take-take 8 n (drop 4 (drop p b)) (omega arith), drop-drop 4 p b) u))))
 
-  match-extending : BMatch 1 (extendingR gs I) (extendingB gs W)
+  match-extending : BodyMatch 1 (extendingR gs I) (extendingB gs W)
   unfolding extendingR extendingB markedR
   match-extending = record {
     forth = λ h p m f e.
@@ -103,39 +103,40 @@ module _ (gs : List Group) (I : Inner) (W : InnerW) (A : GMatch gs I W) where
         (λ _. satw-due (markBytes GB) s _ (λ s₁ e. satw-map (λ X Y r g. known-again p s s₁ X Y r e g) (A .back 0 s₁)));
   }
 
--- WHAT STANDS LAST: its writer looks at what comes next, so the rest must not begin with XT
+-- WHAT STANDS LAST
+-- The extension's writer looks at what comes next: where the rest began with XT, that would be eaten too.
 
 abbrev pub Ends : List ℕ → Type 0
 Ends r = same (take 2 r) (markBytes XT) ≡ false
 
-pub record TTaken (W : Writer) (a : ℕ) (m s m′ : List ℕ) : Type 0 where
+pub record LastTaken (W : Writer) (a : ℕ) (m s m′ : List ℕ) : Type 0 where
   pub same : length m′ ≡ length m
   pub puts : (at fr : ℕ) (r : List ℕ) → Ends r → Fit (W at fr (s ++ r)) r (taken a m) (taken a m′)
 
-pub record TMatch (w : ℕ) (R : Reader) (W : Writer) : Type 0 where
+pub record LastMatch (w : ℕ) (R : Reader) (W : Writer) : Type 0 where
   pub forth : (h : Here) (at : ℕ) (m : List ℕ) → at + w ≤ length (h .bytes) → length m ≡ length (h .bytes)
-      → Sat (λ s m′. TTaken W (h .area) m s m′) (R h at m)
+      → Sat (λ s m′. LastTaken W (h .area) m s m′) (R h at m)
   pub back : (at fr : ℕ) (s : List ℕ) → SatW (λ F D r. Again R w at fr s F D r) (W at fr s)
 
--- the extension: besides, where it is held its location passes
-pub record XMatch (R : Reader) (W : Writer) : Type 0 where
+-- besides, where the extension is held its location passes 3, which is tested before the fields
+pub record ExtensionMatch (R : Reader) (W : Writer) : Type 0 where
   pub forth : (h : Here) (at : ℕ) (m : List ℕ) → at + 4 ≤ length (h .bytes) → length m ≡ length (h .bytes)
-      → Sat (λ s m′. TTaken W (h .area) m s m′) (R h at m)
+      → Sat (λ s m′. LastTaken W (h .area) m s m′) (R h at m)
   pub back : (at fr : ℕ) (s : List ℕ)
       → SatW (λ F D r. Again R 4 at fr s F D r × ((h : Here) (z : List ℕ) (j k : ℕ) → Held h at fr F D z j k → extensionIn h at ≡ true)) (W at fr s)
 
-module _ (gs : List Group) (I : Inner) (J : InnerW) (A : GMatch gs I J) where
+module _ (gs : List Group) (I : Inner) (J : InnerW) (A : GroupMatch gs I J) where
   abbrev match-item : Match 4 (indirectR 26 1 (extendingR gs I)) (indirectW (extendingB gs J))
   match-item = match-indirect 26 _ _ _ (match-extending gs I J A)
 
   abbrev W : Writer
   W = indirectW (listB 1 4 (indirectW (extendingB gs J)))
 
-  none-taken : (a : ℕ) (m m′ : List ℕ) → length m′ ≡ length m → taken a m ≤ taken a m′ → TTaken (extensionW gs J) a m [] m′
+  none-taken : (a : ℕ) (m m′ : List ℕ) → length m′ ≡ length m → taken a m ≤ taken a m′ → LastTaken (extensionW gs J) a m [] m′
   unfolding extensionW
   none-taken a m m′ l c = record { same = l; puts = λ at fr r ok. record { fixed = bytesOf 4 0; values = []; is = rw ok; small = omega arith } }
 
-  some-taken : (a : ℕ) (m s m′ : List ℕ) → Taken W a m s m′ → TTaken (extensionW gs J) a m (markBytes XT ++ s) m′
+  some-taken : (a : ℕ) (m s m′ : List ℕ) → Taken W a m s m′ → LastTaken (extensionW gs J) a m (markBytes XT ++ s) m′
   unfolding extensionW same markBytes
   some-taken a m s m′ t = record {
     same = t .same;
@@ -143,6 +144,9 @@ module _ (gs : List Group) (I : Inner) (J : InnerW) (A : GMatch gs I J) where
         let x = t .puts at fr r in
         record { fixed = x .fixed; values = x .values; is = due-eats (markBytes XT) (s ++ r) _ refl ∙ x .is; small = x .small };
   }
+
+  none-offset : {h : Here} {at fr : ℕ} {D z : List ℕ} {j k : ℕ} → Held h at fr (bytesOf 4 0) D z j k → word at (h .bytes) ≡ 0
+  none-offset {h} {at} H = ap le (at-part (h .bytes) at 4 (bytesOf 4 0) (length-bytes 4 0) (H .fix)) ∙ four 0 (omega arith)
 
   none-again : (at fr : ℕ) (s : List ℕ) → Again (extensionR gs I) 4 at fr s (bytesOf 4 0) [] s
   unfolding extensionR
@@ -152,36 +156,31 @@ module _ (gs : List Group) (I : Inner) (J : InnerW) (A : GMatch gs I J) where
     long = length-bytes 4 0;
     reads = λ h z j n H.
         let i : n ≡ j = omega (arith, H .zeros) in
-        let o : word at (h .bytes) ≡ 0 = ap le (at-part (h .bytes) at 4 (bytesOf 4 0) (length-bytes 4 0) (H .fix)) ∙ four 0 (omega arith) in
-        rw (o, i, append-nil z);
+        rw (none-offset H, i, append-nil z);
   }
 
   none-in : (h : Here) (at fr : ℕ) (D z : List ℕ) (j k : ℕ) → Held h at fr (bytesOf 4 0) D z j k → extensionIn h at ≡ true
   unfolding extensionIn
-  none-in h at fr D z j k H =
-      let o : word at (h .bytes) ≡ 0 = ap le (at-part (h .bytes) at 4 (bytesOf 4 0) (length-bytes 4 0) (H .fix)) ∙ four 0 (omega arith) in
-      rw o
+  none-in h at fr D z j k H = rw (none-offset H)
 
   some-in : (h : Here) (at fr : ℕ) (D z : List ℕ) (j k : ℕ) → 4 ≤ length D → Held h at fr (bytesOf 4 (fr - at)) D z j k → extensionIn h at ≡ true
   unfolding extensionIn inArea
   some-in h at fr D z j k l H =
-      let lF = length-bytes 4 (fr - at) in
-      let o : word at (h .bytes) ≡ fr - at = ap le (at-part (h .bytes) at 4 (bytesOf 4 (fr - at)) lF (H .fix)) ∙ four (fr - at) (omega (arith, H .all, H .small)) in
-      let p : at + (fr - at) ≡ fr = omega (arith, H .before) in
-      rw (o, p, ne-eqb (fr - at) 0 (omega (arith, H .before)), le-leb (h .area) fr (H .area), lt-ltb fr (length (h .bytes)) (omega (arith, H .all)))
+      let o = offset-leads H in
+      rw (ne-eqb (word at (h .bytes)) 0 (omega (arith, o, H .before, length-bytes 4 (fr - at))), o, le-leb (h .area) fr (H .area), lt-ltb fr (length (h .bytes)) (omega (arith, H .all)))
 
-  list-again : (fr : ℕ) (s s₁ X Y r : List ℕ) → s ≡ markBytes XT ++ s₁ → BAgain 4 (listR 4 (indirectR 26 1 (extendingR gs I))) fr s₁ X Y r → 1 ≤ le (take 4 X)
-      → BAgain 4 (groupsR gs I) fr s X Y r
+  list-again : (fr : ℕ) (s s₁ X Y r : List ℕ) → s ≡ markBytes XT ++ s₁ → BodyAgain 4 (listR 4 (indirectR 26 1 (extendingR gs I))) fr s₁ X Y r → 1 ≤ le (take 4 X)
+      → BodyAgain 4 (groupsR gs I) fr s X Y r
   unfolding groupsR markedR prefixed
   list-again fr s s₁ X Y r e a l = record {
     used = markBytes XT ++ a .used;
-    split = e ∙ ap (λ (y : List ℕ). markBytes XT ++ y) (a .split) ∙ sym (append-assoc (markBytes XT) (a .used) r);
+    split = split-front (markBytes XT) s s₁ (a .used) r e (a .split);
     again = λ h z q j n eq H.
         let x = a .again h z q j n eq H in
         record { four = x .four; size = x .size; reads = rw (ne-eqb (le (take 4 X)) 0 (omega arith), x .reads) };
   }
 
-  some-again : (at fr : ℕ) (s X Y r : List ℕ) → BAgain 4 (groupsR gs I) fr s X Y r → Again (extensionR gs I) 4 at fr s (bytesOf 4 (fr - at)) (X ++ Y) r
+  some-again : (at fr : ℕ) (s X Y r : List ℕ) → BodyAgain 4 (groupsR gs I) fr s X Y r → Again (extensionR gs I) 4 at fr s (bytesOf 4 (fr - at)) (X ++ Y) r
   unfolding extensionR
   some-again at fr s X Y r a =
       let u = indirect-again 13 4 (groupsR gs I) at fr s X Y r a in
@@ -190,12 +189,10 @@ module _ (gs : List Group) (I : Inner) (J : InnerW) (A : GMatch gs I J) where
         split = u .split;
         long = u .long;
         reads = λ h z j n H.
-            let lF = length-bytes 4 (fr - at) in
-            let o : word at (h .bytes) ≡ fr - at = ap le (at-part (h .bytes) at 4 (bytesOf 4 (fr - at)) lF (H .fix)) ∙ four (fr - at) (omega (arith, H .all, H .small)) in
-            rw (ne-eqb (word at (h .bytes)) 0 (omega (arith, H .before))) (u .reads h z j n H);
+            rw (ne-eqb (word at (h .bytes)) 0 (omega (arith, offset-leads H, H .before, length-bytes 4 (fr - at)))) (u .reads h z j n H);
       }
 
-  pub match-extension : XMatch (extensionR gs I) (extensionW gs J)
+  pub match-extension : ExtensionMatch (extensionR gs I) (extensionW gs J)
   unfolding extensionR extensionW groupsR markedR indirectW
   match-extension = record {
     forth = λ h at m f e. sat-cond (eqb (word at (h .bytes)) 0)
@@ -226,8 +223,8 @@ module _ {Q : List ℕ → List ℕ → List ℕ → Type 0} where
   satw-back unsaidW = unsaidW
   satw-back (saidW {F = F} {D = D} q) = satw-swapped F D q
 
-module _ (w : ℕ) (R S : Reader) (U W : Writer) (A : Match w R U) (B : XMatch S W) where
-  behind-taken : (a : ℕ) (m s m′ t m″ : List ℕ) → Taken U a m s m′ → TTaken W a m′ t m″ → TTaken (behindW U W) a m (s ++ t) m″
+module _ (w : ℕ) (R S : Reader) (U W : Writer) (A : Match w R U) (B : ExtensionMatch S W) where
+  behind-taken : (a : ℕ) (m s m′ t m″ : List ℕ) → Taken U a m s m′ → LastTaken W a m′ t m″ → LastTaken (behindW U W) a m (s ++ t) m″
   unfolding behindW backW swapped
   behind-taken a m s m′ t m″ p q = record {
     same = q .same ∙ p .same;
@@ -248,36 +245,17 @@ module _ (w : ℕ) (R S : Reader) (U W : Writer) (A : Match w R U) (B : XMatch S
   unfolding behindR next prefixed need
   behind-again at fr s F D r E D′ r′ p q x = record {
     used = p .used ++ q .used;
-    split = p .split ∙ ap (λ (l : List ℕ). p .used ++ l) (q .split) ∙ sym (append-assoc (p .used) (q .used) r′);
+    split = split-front (p .used) s r (q .used) r′ (p .split) (q .split);
     long = rw (length-append E F, p .long, q .long);
     reads = λ h z j k H.
         let lF = length-append E F in
-        let lD = length-append D D′ in
         let lE = q .long in
-        let H₁ : Held h (at + 4) fr F D z (length D′ + j) k = record {
-          fix = at-right (h .bytes) at (at + 4) E F (omega arith) (H .fix);
-          dat = at-left (h .bytes) fr D D′ (H .dat);
-          run = H .run;
-          all = omega (arith, H .all);
-          zeros = omega (arith, H .zeros);
-          before = omega (arith, H .before);
-          area = H .area;
-          small = H .small;
-        } in
-        let H₂ : Held h at (fr + length D) E D′ (z ++ replicate (length D) 1) j (length D′ + j) = record {
-          fix = at-left (h .bytes) at E F (H .fix);
-          dat = at-right (h .bytes) fr (fr + length D) D D′ refl (H .dat);
-          run = omega (arith, H .run, length-append z (replicate (length D) 1), length-replicate {A = ℕ} (length D) 1);
-          all = omega (arith, H .all);
-          zeros = refl;
-          before = omega (arith, H .before);
-          area = omega (arith, H .area);
-          small = H .small;
-        } in
-        rw (x h _ _ _ H₂, p .reads h z (length D′ + j) k H₁, q .reads h (z ++ replicate (length D) 1) j (length D′ + j) H₂, ones-join z (length D) (length D′) (length (D ++ D′)) lD);
+        let first = held-first D D′ H (at + 4) F (at-right (h .bytes) at (at + 4) E F (omega arith) (H .fix)) (omega (arith, H .before)) in
+        let rest = held-rest D D′ H at E (at-left (h .bytes) at E F (H .fix)) (omega (arith, H .before)) in
+        rw (x h _ _ _ rest, p .reads h z (length D′ + j) k first, q .reads h (z ++ replicate (length D) 1) j (length D′ + j) rest, ones-join z (length D) (length D′) (length (D ++ D′)) (length-append D D′));
   }
 
-  pub match-behind : TMatch (4 + w) (behindR R S) (behindW U W)
+  pub match-behind : LastMatch (4 + w) (behindR R S) (behindW U W)
   unfolding behindR behindW
   match-behind = record {
     forth = λ h at m f e. sat-need _ 3 _ (λ _. sat-next (sat-map (λ s m′ p. sat-map (λ t m″ q. behind-taken (h .area) m s m′ t m″ p q)

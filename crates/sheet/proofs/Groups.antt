@@ -1,28 +1,27 @@
 -- Fields, static groups and dynamic groups: the knot is tied on the levels that are left.
 use mathlib.Core.Path.{_≡_, refl, sym, ap, _∙_}
-use mathlib.Core.Bool.{Bool, true, false, cond, _||_, or-true}
+use mathlib.Core.Bool.{Bool, true, false, cond, or-true}
 use mathlib.Core.List.{List, [], _∷_, _++_, append-assoc, append-nil}
 use Prim.Native.Nat.{ℕ, zero, suc, _+_, _≤_, _<_, _^_}
 use native.Mathlib.Omega.{arith}
 use lib.ListN.{length, take, drop, replicate, length-append, length-take, length-drop, length-replicate, replicate-append-replicate}
 use lib.Seq.{take-at, drop-at, drop-drop}
-use lib.Dec.{leb}
 use borrow.Author.Tests.{le-leb, leb-true}
 use Rattle.wire.specs.Bytes.{part, le, bytesOf, same}
 use Rattle.wire.proofs.Laws.{length-bytes}
 use Rattle.schema.specs.Faults.{need}
 use Rattle.schema.specs.Schema.{Kind, plain, inline, indirect, static, dynamic, Field, Group, kindWidth, valueWidth, fieldWidth, fieldsWidth, fieldsOf, width, find, known, allows}
-use Rattle.message.specs.Sheet.{GE, XT, markBytes, kindMark, fieldMark}
+use Rattle.message.specs.Sheet.{GE, markBytes, kindMark, fieldMark}
 use Rattle.message.specs.Walk.{Ignored, Here, here, done, Reader, Inner, prefixed, next, kindR, valueR, fieldR, fieldsR, staticR, extensionR, behindR, padded, bodyR, headR, groupR}
 use Rattle.message.specs.Proper.{SizedKind, SizedFields, Sized}
 use Rattle.message.proofs.Marking.{taken-le}
 use Rattle.message.proofs.Sat.{Sat, unsaid, said, sat-need, sat-prefixed, sat-next, sat-map, sat-padded}
 use Rattle.sheet.specs.Written.{Writing, Writer, InnerW, kindW, valueW, fieldW, fieldsW, staticW, extensionW, behindW, closed, bodyW, headW, groupW}
 use Rattle.sheet.proofs.Laws.{four, pads-ones}
-use Rattle.sheet.proofs.Match.{SatW, saidW, unsaidW, satw-is, satw-need, satw-map, Fit, Held, Again, Match, match-none, match-then}
+use Rattle.sheet.proofs.Match.{SatW, saidW, unsaidW, satw-is, satw-need, satw-map, Again, Match, match-none, match-then}
 use Rattle.sheet.proofs.Layers.{grab-eats, due-eats, satw-grab, satw-due, match-marked, match-optional, match-plain, match-inline}
-use Rattle.sheet.proofs.Bodies.{match-indirect, match-text, match-list, match-inner, GFit, GReads, GAgain, GMatch}
-use Rattle.sheet.proofs.Extension.{Ends, TTaken, TMatch, match-extension, match-behind}
+use Rattle.sheet.proofs.Bodies.{match-indirect, match-text, match-list, match-inner, GroupFit, GroupAgain, GroupMatch}
+use Rattle.sheet.proofs.Extension.{Ends, LastTaken, LastMatch, match-extension, match-behind}
 
 -- FIELDS
 
@@ -30,7 +29,7 @@ match-cond : (c : Bool) {w v : ℕ} {R S : Reader} {U W : Writer} → Match w R 
 match-cond true A B = A
 match-cond false A B = B
 
-module _ (gs : List Group) (I : Inner) (J : InnerW) (G : GMatch gs I J) (sw : ℕ → ℕ) (S : ℕ → Reader) (T : ℕ → Writer) (A : (g : ℕ) → Match (sw g) (S g) (T g)) where
+module _ (gs : List Group) (I : Inner) (J : InnerW) (G : GroupMatch gs I J) (sw : ℕ → ℕ) (S : ℕ → Reader) (T : ℕ → Writer) (A : (g : ℕ) → Match (sw g) (S g) (T g)) where
   match-kind : (k : Kind) → SizedKind k → Match (kindWidth sw k) (kindR I S k) (kindW J T k)
   unfolding kindWidth kindR kindW
   match-kind (plain w t) e = match-plain w t
@@ -54,14 +53,14 @@ module _ (gs : List Group) (I : Inner) (J : InnerW) (G : GMatch gs I J) (sw : �
   match-fields [] e = match-none
   match-fields (f ∷ fs) e = match-then _ _ _ _ _ _ (match-field f (e .0)) (match-fields fs (e .1))
 
-module _ (gs : List Group) (ok : Sized gs) (I : Inner) (J : InnerW) (G : GMatch gs I J) where
+module _ (gs : List Group) (ok : Sized gs) (I : Inner) (J : InnerW) (G : GroupMatch gs I J) where
   match-static : (d g : ℕ) → Match (width gs d g) (staticR gs I d g) (staticW gs J d g)
   unfolding width staticR staticW
   match-static zero g = match-none
   match-static (suc d) g = match-fields gs I J G (width gs d) (staticR gs I d) (staticW gs J d) (match-static d) (fieldsOf gs g) (ok .kinds g)
 
   -- the extension's offset and the fields
-  match-body : (g : ℕ) → TMatch (4 + width gs 5 g) (behindR (staticR gs I 5 g) (extensionR gs I)) (behindW (staticW gs J 5 g) (extensionW gs J))
+  match-body : (g : ℕ) → LastMatch (4 + width gs 5 g) (behindR (staticR gs I 5 g) (extensionR gs I)) (behindW (staticW gs J 5 g) (extensionW gs J))
   match-body g = match-behind _ _ _ _ _ (match-static 5 g) (match-extension gs I J G)
 
 -- A DYNAMIC GROUP
@@ -70,11 +69,15 @@ ge-ends : (r : List ℕ) → Ends (GE ++ r)
 unfolding same markBytes
 ge-ends r = refl
 
+-- a group's bytes: its size word, its type id i, the bytes in place F and the data area D
 abbrev framed : List ℕ → List ℕ → List ℕ → List ℕ
 framed i F D = bytesOf 4 (8 + length F + length D) ++ (i ++ (F ++ D))
 
 framed-length : (i F D : List ℕ) → length i ≡ 8 → length (framed i F D) ≡ 12 + length F + length D
 framed-length i F D li = simp (length-append, length-bytes 4 (8 + length F + length D)) (omega arith)
+
+framed-id : (i F D : List ℕ) → length i ≡ 8 → part 8 4 (framed i F D) ≡ i
+framed-id i F D li = let n = 8 + length F + length D in rw (drop-at (bytesOf 4 n) (i ++ (F ++ D)) 4 (length-bytes 4 n)) (take-at i (F ++ D) 8 li)
 
 satw-closed : {Q : List ℕ → List ℕ → List ℕ → Type 0} (i : List ℕ) {x : Writing}
     → SatW (λ F D r. (r′ : List ℕ) → r ≡ GE ++ r′ → Q (bytesOf 4 (8 + length F + length D) ++ (i ++ (F ++ D))) [] r′) x → SatW Q (closed i x)
@@ -82,7 +85,7 @@ unfolding closed
 satw-closed i unsaidW = unsaidW
 satw-closed i (saidW {r = r} q) = satw-due GE r _ (λ r′ e. saidW (q r′ e))
 
-module _ (gs : List Group) (ok : Sized gs) (y : Ignored) (l : ℕ) (G : GMatch gs (groupR y gs l) (groupW gs l)) where
+module _ (gs : List Group) (ok : Sized gs) (y : Ignored) (l : ℕ) (G : GroupMatch gs (groupR y gs l) (groupW gs l)) where
   -- the width of the fields with the extension's offset, and where the data area starts
   abbrev W : ℕ → ℕ
   W g = 4 + width gs 5 g
@@ -96,17 +99,17 @@ module _ (gs : List Group) (ok : Sized gs) (y : Ignored) (l : ℕ) (G : GMatch g
   abbrev U : ℕ → Writer
   U g = behindW (staticW gs (groupW gs l) 5 g) (extensionW gs (groupW gs l))
 
-  M : (g : ℕ) → TMatch (W g) (R g) (U g)
+  M : (g : ℕ) → LastMatch (W g) (R g) (U g)
   M g = match-body gs ok (groupR y gs l) (groupW gs l) G g
 
   body-fit : (c g : ℕ) (i s m m′ r : List ℕ) (n : ℕ) → length i ≡ 8 → find gs (le i) ≡ g → known gs (le i) ≡ true → allows gs c g ≡ true
-      → TTaken (U g) (A g) m s m′ → length m ≡ n → A g ≤ n
-      → GFit (groupW gs (suc l) c ((i ++ (s ++ GE)) ++ r)) r n
+      → LastTaken (U g) (A g) m s m′ → length m ≡ n → A g ≤ n
+      → GroupFit (groupW gs (suc l) c ((i ++ (s ++ GE)) ++ r)) r n
   unfolding groupW headW need bodyW closed
   body-fit c g i s m m′ r n li eg t₂ t₃ t lm la =
       let x = t .puts 12 (A g) (GE ++ r) (ge-ends r) in
       let k = satw-is (rw (x .is) at (M g .back 12 (A g) (s ++ (GE ++ r)))) .long in
-      let c = taken-le (A g) m′ in
+      let few = taken-le (A g) m′ in
       let lb = length-bytes 4 (8 + length (x .fixed) + length (x .values)) in
       record {
         own = bytesOf 4 (8 + length (x .fixed) + length (x .values)) ++ (i ++ (x .fixed ++ x .values));
@@ -114,7 +117,7 @@ module _ (gs : List Group) (ok : Sized gs) (y : Ignored) (l : ℕ) (G : GMatch g
         small = simp (length-append, lb) (omega (arith, x .small, t .same));
       }
 
-  group-forth : (c base : ℕ) (b : List ℕ) → Sat (λ s m. (r : List ℕ) → GFit (groupW gs (suc l) c (s ++ r)) r (length b)) (groupR y gs (suc l) c base b)
+  group-forth : (c base : ℕ) (b : List ℕ) → Sat (λ s m. (r : List ℕ) → GroupFit (groupW gs (suc l) c (s ++ r)) r (length b)) (groupR y gs (suc l) c base b)
   unfolding groupR headR bodyR
   group-forth c base b =
       let g : ℕ = find gs (le (part 8 4 b)) in
@@ -134,7 +137,7 @@ module _ (gs : List Group) (ok : Sized gs) (y : Ignored) (l : ℕ) (G : GMatch g
         let n : ℕ = 8 + length F + length D in
         let h : Here = here y (framed i F D) base (A g) in
         let lX = framed-length i F D li in
-        let pi : part 8 4 (framed i F D) ≡ i = rw (drop-at (bytesOf 4 n) (i ++ (F ++ D)) 4 (length-bytes 4 n)) (take-at i (F ++ D) 8 li) in
+        let pi = framed-id i F D li in
         let lF = a .long in
         let d8 : drop 12 (framed i F D) ≡ F ++ D = rw (← append-assoc (bytesOf 4 n) i (F ++ D)) (drop-at (bytesOf 4 n ++ i) (F ++ D) 12 (rw (length-append (bytesOf 4 n) i, length-bytes 4 n, li))) in
         let dW : drop (A g) (framed i F D) ≡ D = rw (let q : A g ≡ 12 + W g = omega arith in q) (rw (← drop-drop (W g) 12 (framed i F D), d8) (drop-at F D (W g) lF)) in
@@ -156,7 +159,7 @@ module _ (gs : List Group) (ok : Sized gs) (y : Ignored) (l : ℕ) (G : GMatch g
         rw append-nil (drop-at {A = ℕ} (replicate (A g) 0) (replicate (length D) 1) (A g) (length-replicate {A = ℕ} (A g) 0)) in
         rw (pi, t₂, eg, le-leb _ _ l₁, t₃, le-leb _ _ l₄, m, u) (rw (d, pads-ones (length D) (drop (A g) (framed i F D)), or-true))
 
-    body-again : (s₀ r′ : List ℕ) → s₀ ≡ i ++ s → r ≡ GE ++ r′ → GAgain gs (groupR y gs (suc l)) c s₀ (framed i F D) [] r′
+    body-again : (s₀ r′ : List ℕ) → s₀ ≡ i ++ s → r ≡ GE ++ r′ → GroupAgain gs (groupR y gs (suc l)) c s₀ (framed i F D) [] r′
     body-again s₀ r′ e er = record {
       used = i ++ (a .used ++ GE);
       split = e ∙ ap (λ (x : List ℕ). i ++ x) (a .split ∙ ap (λ (x : List ℕ). a .used ++ x) er) ∙ simp append-assoc;
@@ -164,20 +167,20 @@ module _ (gs : List Group) (ok : Sized gs) (y : Ignored) (l : ℕ) (G : GMatch g
       again = λ small.
           let n : ℕ = 8 + length F + length D in
           let lX = framed-length i F D li in
-          let pi : part 8 4 (framed i F D) ≡ i = rw (drop-at (bytesOf 4 n) (i ++ (F ++ D)) 4 (length-bytes 4 n)) (take-at i (F ++ D) 8 li) in
+          let pi = framed-id i F D li in
           let knows : known gs (le (part 8 4 (framed i F D))) ≡ true = rw pi t₂ in
           let t : take 4 (framed i F D) ≡ bytesOf 4 n = take-at (bytesOf 4 n) (i ++ (F ++ D)) 4 (length-bytes 4 n) in
           record { sixteen = omega (arith, lX, a .long); knows = knows; size = rw (t, four n (omega (arith, lX))) (omega (arith, lX)); reads = λ base. body-reads base small };
     }
 
-  group-back : (c : ℕ) (s : List ℕ) → SatW (λ X Y r. GAgain gs (groupR y gs (suc l)) c s X Y r) (groupW gs (suc l) c s)
+  group-back : (c : ℕ) (s : List ℕ) → SatW (λ X Y r. GroupAgain gs (groupR y gs (suc l)) c s X Y r) (groupW gs (suc l) c s)
   unfolding groupW headW bodyW
   group-back c s = satw-grab _ 8 s _ (λ i s′ e li.
       let g : ℕ = find gs (le i) in
       satw-need _ 2 _ (λ t₂. satw-need _ 25 _ (λ t₃. satw-closed i (satw-map (λ F D r a r′ er. body-again c g i s′ F D r li refl t₂ t₃ a s r′ e er)
       (M g .back 12 (A g) s′)))))
 
-pub match-group : (gs : List Group) → Sized gs → (y : Ignored) (l : ℕ) → GMatch gs (groupR y gs l) (groupW gs l)
+pub match-group : (gs : List Group) → Sized gs → (y : Ignored) (l : ℕ) → GroupMatch gs (groupR y gs l) (groupW gs l)
 unfolding groupR groupW headR headW
 match-group gs ok y zero = record {
   forth = λ c base b. sat-need _ 1 _ (λ _. sat-need _ 2 _ (λ _. sat-need _ 25 _ (λ _. unsaid)));

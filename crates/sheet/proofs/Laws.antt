@@ -1,14 +1,12 @@
 -- Laws of lists held at a place, of counts, and of runs of marks.
 use mathlib.Core.Path.{_≡_, refl, sym, ap, _∙_}
-use mathlib.Core.Bool.{Bool, true, and-eq-true-iff}
+use mathlib.Core.Bool.{Bool, true}
 use mathlib.Core.List.{List, [], _∷_, _++_, append-assoc}
-use Prim.Native.Nat.{ℕ, zero, suc, _+_, _-_, _*_, _/_, _%_, _≤_, _<_, _^_}
+use Prim.Native.Nat.{ℕ, zero, suc, _+_, _*_, _/_, _%_, _<_, _^_}
 use native.Mathlib.Omega.{arith}
-use lib.ListN.{length, take, drop, getD, replicate, length-append, length-drop, length-replicate, replicate-append-replicate}
+use lib.ListN.{length, drop, getD, replicate, length-replicate, replicate-append-replicate}
 use lib.Seq.{take-at, drop-at, drop-drop, drop-append-seam, getD-drop}
-use lib.Dec.{eqb}
-use borrow.Author.Tests.{eq-eqb, eqb-true}
-use Rattle.wire.specs.Bytes.{part, le, bytesOf, same, allZero}
+use Rattle.wire.specs.Bytes.{part, le, bytesOf, allZero}
 use Rattle.wire.proofs.Laws.{le-bytes}
 use Rattle.schema.specs.Faults.{need}
 use Rattle.message.specs.Marks.{free, mark, padsZero}
@@ -45,24 +43,6 @@ bytes-small n (b ∷ bs) l h =
     let q : (b + 256 * le bs) / 256 ≡ 0 = omega arith in
     let k : length bs ≡ n = omega arith in
     rw (p, q, bytes-zero n, ← k) (sym (ap (λ (l : List ℕ). b ∷ l) (le-zero bs z)))
-
--- MARKS OF RECORDS
-
-pub same-eq : (x y : List ℕ) → same x y ≡ true → x ≡ y
-unfolding same
-same-eq [] [] e = refl
-same-eq [] (y ∷ ys) e = cc
-same-eq (x ∷ xs) [] e = cc
-same-eq (x ∷ xs) (y ∷ ys) e =
-    let h = and-eq-true-iff (eqb x y) (same xs ys) .0 e in
-    let p : x ≡ y = eqb-true x y (h .0) in
-    let q : xs ≡ ys = same-eq xs ys (h .1) in
-    cc
-
-pub same-refl : (x : List ℕ) → same x x ≡ true
-unfolding same
-same-refl [] = refl
-same-refl (x ∷ xs) = rw (eq-eqb x x refl) (same-refl xs)
 
 -- A LIST HELD AT A PLACE
 

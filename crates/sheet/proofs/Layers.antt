@@ -1,25 +1,25 @@
 -- The layers above a value, and the values in place: each way to make a reader and a writer out of others keeps them matched.
 use mathlib.Core.Path.{_≡_, refl, sym, ap, _∙_}
-use mathlib.Core.Bool.{Bool, true, false, cond, _||_, or-true}
+use mathlib.Core.Bool.{Bool, true, false, or-true}
 use mathlib.Core.List.{List, [], _∷_, _++_, append-assoc, append-nil}
-use Prim.Native.Nat.{ℕ, suc, _+_, _-_, _≤_, _<_, _^_}
+use Prim.Native.Nat.{ℕ, _+_, _-_, _≤_, _<_}
 use native.Mathlib.Omega.{arith}
-use lib.ListN.{length, take, drop, getD, replicate, length-append, length-take, length-drop, length-replicate, take-append-drop}
+use lib.ListN.{length, take, drop, replicate, length-append, length-take, length-drop, length-replicate, take-append-drop}
 use lib.Seq.{take-at, drop-at, length-take-le}
 use lib.Dec.{leb, eqb}
 use borrow.Author.Tests.{le-leb, leb-true}
-use Rattle.wire.specs.Bytes.{part, le, bytesOf, same, allZero}
+use Rattle.wire.specs.Bytes.{part, le, bytesOf, same}
 use Rattle.wire.proofs.Laws.{length-bytes}
 use Rattle.schema.specs.Faults.{need}
 use Rattle.schema.specs.Schema.{Test, passes, textOk}
 use Rattle.message.specs.Sheet.{Mark, VA, ST, SG, SQ, GB, XT, XU, markBytes, NO}
-use Rattle.message.specs.Walk.{Here, Reading, done, Reader, byte, prefixed, markedR, optionalR, plainR, inlineR}
+use Rattle.message.specs.Walk.{Reader, byte, prefixed, markedR, optionalR, plainR, inlineR}
+use Rattle.message.proofs.Tests.{same-eq, same-refl}
 use Rattle.message.proofs.Count.{length-mark}
-use Rattle.message.proofs.Marking.{taken}
-use Rattle.message.proofs.Sat.{Sat, said, sat-need, sat-cond, sat-prefixed, sat-map}
-use Rattle.sheet.specs.Written.{Writing, stopped, wrote, Writer, headed, grab, due, markedW, optionalW, plainW, counted, inlineW}
-use Rattle.sheet.proofs.Laws.{need-true, four, bytes-small, same-eq, same-refl, at-left, at-right, at-part, at-byte, zeros-zero}
-use Rattle.sheet.proofs.Match.{SatW, saidW, satw-need, satw-cond, satw-headed, satw-map, Fit, Taken, Held, Again, Match}
+use Rattle.message.proofs.Sat.{said, sat-need, sat-cond, sat-prefixed, sat-map}
+use Rattle.sheet.specs.Written.{Writing, Writer, headed, grab, due, markedW, optionalW, plainW, counted, inlineW}
+use Rattle.sheet.proofs.Laws.{need-true, four, bytes-small, at-left, at-right, at-part, at-byte, zeros-zero}
+use Rattle.sheet.proofs.Match.{SatW, saidW, satw-need, satw-cond, satw-headed, satw-map, Taken, split-front, Again, Match}
 
 -- EATING THE SHEET
 
@@ -82,7 +82,7 @@ module _ (k : Mark) (w : ℕ) (R : Reader) (W : Writer) (A : Match w R W) where
   unfolding markedR prefixed
   marked-again at fr s s′ F D r e p = record {
     used = markBytes k ++ p .used;
-    split = e ∙ ap (λ (l : List ℕ). markBytes k ++ l) (p .split) ∙ sym (append-assoc (markBytes k) (p .used) r);
+    split = split-front (markBytes k) s s′ (p .used) r e (p .split);
     long = p .long;
     reads = λ h z j n H. rw (p .reads h z j n H);
   }

@@ -1,7 +1,7 @@
 -- A reader and a writer that belong together: what one gives, the other takes back.
 use mathlib.Core.Path.{_≡_, refl, sym, ap, _∙_}
 use mathlib.Core.Bool.{Bool, true, false, cond}
-use mathlib.Core.List.{List, [], _∷_, _++_, append-assoc, append-nil}
+use mathlib.Core.List.{List, [], _++_, append-assoc, append-nil}
 use Prim.Native.Nat.{ℕ, _+_, _≤_, _<_, _^_}
 use native.Mathlib.Omega.{arith}
 use lib.ListN.{length, replicate, length-append, length-replicate}
@@ -58,18 +58,19 @@ module _ {Q : List ℕ → List ℕ → List ℕ → Type 0} where
 
 -- MATCHING
 
--- x writes something and leaves r; its data is not longer than hi - lo
+-- What is read is written: x writes something and leaves r, and its data is not longer than hi - lo.
 pub record Fit (x : Writing) (r : List ℕ) (lo hi : ℕ) : Type 0 where
   pub fixed : List ℕ
   pub values : List ℕ
   pub is : x ≡ wrote fixed values r
   pub small : lo + length values ≤ hi
 
+-- The reader went from the marks m to m′ and gave the sheet s. Its writer eats s wherever it writes, and its data needs no more bytes than were taken from a on.
 pub record Taken (W : Writer) (a : ℕ) (m s m′ : List ℕ) : Type 0 where
   pub same : length m′ ≡ length m
   pub puts : (at fr : ℕ) (r : List ℕ) → Fit (W at fr (s ++ r)) r (taken a m) (taken a m′)
 
--- a group's bytes hold F at `at` and D at `fr`, and the marks are z up to `fr` and k zeros from there
+-- What is written is read: a group's bytes hold F at `at` and D at `fr`, the first free place, and j bytes behind it; the marks are z up to `fr` and k zeros from there.
 pub record Held (h : Here) (at fr : ℕ) (F D z : List ℕ) (j k : ℕ) : Type 0 where
   pub fix : At (h .bytes) at F
   pub dat : At (h .bytes) fr D
@@ -80,6 +81,7 @@ pub record Held (h : Here) (at fr : ℕ) (F D z : List ℕ) (j k : ℕ) : Type 0
   pub area : h .area ≤ fr
   pub small : length (h .bytes) < 2 ^ 32
 
+-- The writer ate `used` of the sheet s and left r. Wherever a group holds F and D, the reader gives `used` back and takes D's bytes, no others.
 pub record Again (R : Reader) (w at fr : ℕ) (s F D r : List ℕ) : Type 0 where
   pub used : List ℕ
   pub split : s ≡ used ++ r
@@ -87,10 +89,47 @@ pub record Again (R : Reader) (w at fr : ℕ) (s F D r : List ℕ) : Type 0 wher
   pub reads : (h : Here) (z : List ℕ) (j k : ℕ) → Held h at fr F D z j k
       → R h at (z ++ replicate k 0) ≡ done used ((z ++ replicate (length D) 1) ++ replicate j 0)
 
+-- w: how many bytes in place they read and write.
 pub record Match (w : ℕ) (R : Reader) (W : Writer) : Type 0 where
   pub forth : (h : Here) (at : ℕ) (m : List ℕ) → at + w ≤ length (h .bytes) → length m ≡ length (h .bytes)
       → Sat (λ s m′. Taken W (h .area) m s m′) (R h at m)
   pub back : (at fr : ℕ) (s : List ℕ) → SatW (λ F D r. Again R w at fr s F D r) (W at fr s)
+
+-- TWO PARTS
+
+-- c, and then what a writer ate
+pub split-front : (c s s₁ used r : List ℕ) → s ≡ c ++ s₁ → s₁ ≡ used ++ r → s ≡ (c ++ used) ++ r
+split-front c s s₁ used r e e₁ = e ∙ ap (λ (l : List ℕ). c ++ l) e₁ ∙ sym (append-assoc c used r)
+
+-- the first part of the data, and the second with the first part taken; each with bytes F in place that stand before it
+module _ {h : Here} {at fr : ℕ} {E z : List ℕ} {j k : ℕ} (D D′ : List ℕ) (H : Held h at fr E (D ++ D′) z j k) (p : ℕ) (F : List ℕ) (a : At (h .bytes) p F) where
+  pub held-first : p + length F ≤ fr → Held h p fr F D z (length D′ + j) k
+  held-first l =
+      let lD = length-append D D′ in
+      record {
+        fix = a;
+        dat = at-left (h .bytes) fr D D′ (H .dat);
+        run = H .run;
+        all = omega (arith, H .all);
+        zeros = omega (arith, H .zeros);
+        before = l;
+        area = H .area;
+        small = H .small;
+      }
+
+  pub held-rest : p + length F ≤ fr + length D → Held h p (fr + length D) F D′ (z ++ replicate (length D) 1) j (length D′ + j)
+  held-rest l =
+      let lD = length-append D D′ in
+      record {
+        fix = a;
+        dat = at-right (h .bytes) fr (fr + length D) D D′ refl (H .dat);
+        run = omega (arith, H .run, length-append z (replicate (length D) 1), length-replicate {A = ℕ} (length D) 1);
+        all = omega (arith, H .all);
+        zeros = refl;
+        before = l;
+        area = omega (arith, H .area);
+        small = H .small;
+      }
 
 -- NOTHING
 
@@ -129,32 +168,14 @@ module _ (w v : ℕ) (R S : Reader) (U W : Writer) (A : Match w R U) (B : Match 
   unfolding thenR next prefixed
   then-again at fr s F D r F′ D′ r′ p q = record {
     used = p .used ++ q .used;
-    split = p .split ∙ ap (λ (l : List ℕ). p .used ++ l) (q .split) ∙ sym (append-assoc (p .used) (q .used) r′);
+    split = split-front (p .used) s r (q .used) r′ (p .split) (q .split);
     long = rw (length-append F F′, p .long, q .long);
     reads = λ h z j k H.
         let lF = length-append F F′ in
-        let lD = length-append D D′ in
-        let e = p .reads h z (length D′ + j) k (record {
-          fix = at-left (h .bytes) at F F′ (H .fix);
-          dat = at-left (h .bytes) fr D D′ (H .dat);
-          run = H .run;
-          all = omega (arith, H .all);
-          zeros = omega (arith, H .zeros);
-          before = omega (arith, H .before);
-          area = H .area;
-          small = H .small;
-        }) in
-        let e′ = q .reads h (z ++ replicate (length D) 1) j (length D′ + j) (record {
-          fix = at-right (h .bytes) at (at + w) F F′ (omega (arith, p .long)) (H .fix);
-          dat = at-right (h .bytes) fr (fr + length D) D D′ refl (H .dat);
-          run = omega (arith, H .run, length-append z (replicate (length D) 1), length-replicate {A = ℕ} (length D) 1);
-          all = omega (arith, H .all);
-          zeros = refl;
-          before = omega (arith, H .before, p .long);
-          area = omega (arith, H .area);
-          small = H .small;
-        }) in
-        rw (e, e′, ones-join z (length D) (length D′) (length (D ++ D′)) lD);
+        let e = p .reads h z (length D′ + j) k (held-first D D′ H at F (at-left (h .bytes) at F F′ (H .fix)) (omega (arith, H .before))) in
+        let e′ = q .reads h (z ++ replicate (length D) 1) j (length D′ + j)
+        (held-rest D D′ H (at + w) F′ (at-right (h .bytes) at (at + w) F F′ (omega (arith, p .long)) (H .fix)) (omega (arith, H .before, p .long))) in
+        rw (e, e′, ones-join z (length D) (length D′) (length (D ++ D′)) (length-append D D′));
   }
 
   pub match-then : Match (w + v) (thenR w R S) (thenW w U W)

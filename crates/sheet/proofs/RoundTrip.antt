@@ -5,25 +5,24 @@ use mathlib.Core.Bool.{Bool, true, false, _&&_, and-eq-true-iff}
 use mathlib.Core.List.{List, [], _∷_, _++_, append-nil}
 use Prim.Native.Nat.{ℕ, zero, suc, _+_, _*_, _≤_, _<_, _^_}
 use native.Mathlib.Omega.{arith}
-use lib.ListN.{length, take, drop, replicate}
-use lib.Dec.{leb, eqb}
+use lib.ListN.{length}
+use lib.Dec.{leb}
 use borrow.Author.Tests.{eq-eqb, le-leb, leb-true, eqb-true}
 use Rattle.wire.specs.Bytes.{part, le}
 use Rattle.schema.specs.Faults.{need}
 use Rattle.schema.specs.Schema.{Group, width, find}
-use Rattle.message.specs.Sheet.{GB, GE, markBytes}
-use Rattle.message.specs.Walk.{Ignored, strict, here, Reading, refused, done, word, prefixed, next, bodyR, headR, groupR, walk, messageR}
+use Rattle.message.specs.Sheet.{GB, markBytes}
+use Rattle.message.specs.Walk.{Ignored, strict, here, Reading, refused, done, prefixed, bodyR, headR, groupR, walk, messageR}
 use Rattle.message.specs.Proper.{Sized}
 use Rattle.message.proofs.Count.{length-mark}
 use Rattle.message.proofs.Sat.{Sat, unsaid, said, sat-is, sat-need, sat-prefixed, sat-map, sat-padded}
 use Rattle.message.proofs.Eleven.{eleven}
-use Rattle.sheet.specs.Written.{Writing, stopped, wrote, due, groupW, ended, sheetW, fitted, written}
+use Rattle.sheet.specs.Written.{Writing, stopped, wrote, groupW, ended, sheetW, fitted, written}
 use Rattle.sheet.specs.Rewritten.{Rooms, onward, rewritten, Enough}
 use Rattle.sheet.specs.Canonical.{Means, Canonical}
-use Rattle.sheet.proofs.Laws.{need-true}
 use Rattle.sheet.proofs.Match.{SatW, saidW, unsaidW, satw-is, satw-need, satw-map}
 use Rattle.sheet.proofs.Layers.{due-eats, satw-due}
-use Rattle.sheet.proofs.Bodies.{GFit, GReads, GAgain, GMatch}
+use Rattle.sheet.proofs.Bodies.{GroupFit, GroupAgain}
 use Rattle.sheet.proofs.Groups.{match-group}
 
 -- ACCEPTED MESSAGES
@@ -83,7 +82,7 @@ unfolding ended
 satw-ended n unsaidW = unsaidW
 satw-ended n (saidW {r = r} q) = satw-need _ 43 _ (λ t. saidW (q (no-more r (eqb-true _ _ t))))
 
-good : (x : Ignored) (gs : List Group) (s s′ X Y r : List ℕ) → s ≡ markBytes GB ++ s′ → r ≡ [] → GAgain gs (groupR x gs 8) 0 s′ X Y r → Good x gs s X Y r
+good : (x : Ignored) (gs : List Group) (s s′ X Y r : List ℕ) → s ≡ markBytes GB ++ s′ → r ≡ [] → GroupAgain gs (groupR x gs 8) 0 s′ X Y r → Good x gs s X Y r
 unfolding walk need prefixed
 good x gs s s′ X Y r e er a =
     let es : s ≡ markBytes GB ++ a .used = e ∙ ap (λ (y : List ℕ). markBytes GB ++ y) (a .split ∙ ap (λ (y : List ℕ). a .used ++ y) er ∙ append-nil (a .used)) in
@@ -111,7 +110,7 @@ module _ (gs : List Group) (ok : Sized gs) where
 
   -- WHAT IS READ IS WRITTEN, IN NO MORE BYTES
 
-  fit : (b s : List ℕ) → GFit (groupW gs 8 0 (s ++ [])) [] (length b) → length b ≤ 65536 → length (markBytes GB ++ s) ≤ 11 * length b
+  fit : (b s : List ℕ) → GroupFit (groupW gs 8 0 (s ++ [])) [] (length b) → length b ≤ 65536 → length (markBytes GB ++ s) ≤ 11 * length b
       → (X : List ℕ) × (sheetW gs (markBytes GB ++ s) ≡ wrote X [] []) × (length X ≤ length b)
   unfolding sheetW ended need
   fit b s x l sl =

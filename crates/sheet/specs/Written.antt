@@ -3,7 +3,7 @@
 --
 -- It is made of writers (W), one for each of the walk's readers, with the same names: what a reader reads, its writer writes.
 -- A body (B) is what stands behind an offset.
-use mathlib.Core.Bool.{Bool, true, false, not, cond, _&&_}
+use mathlib.Core.Bool.{Bool, not, cond, _&&_}
 use mathlib.Core.List.{List, [], _∷_, _++_}
 use Prim.Native.Nat.{ℕ, zero, suc, _+_, _-_, _*_}
 use lib.ListN.{length, take, drop, replicate}
@@ -11,7 +11,7 @@ use lib.Dec.{leb, eqb}
 use Rattle.wire.specs.Bytes.{le, bytesOf, same}
 use Rattle.schema.specs.Faults.{need}
 use Rattle.schema.specs.Schema.{Test, passes, testFault, textOk, Kind, plain, inline, indirect, static, dynamic, Field, Group, kindWidth, valueWidth, fieldWidth, fieldsOf, width, find, known, allows}
-use Rattle.message.specs.Sheet.{Mark, VA, ST, SG, SQ, GB, XT, XU, markBytes, NO, GE, kindMark, fieldMark}
+use Rattle.message.specs.Sheet.{Mark, GB, XT, XU, markBytes, NO, GE, kindMark, fieldMark}
 
 -- WRITINGS
 

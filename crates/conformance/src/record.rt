@@ -1,0 +1,36 @@
+// The records of a file of questions: a header of 40 bytes, then what is stored of the input.
+
+pub struct Record {
+    pub last: bool,
+    pub kind: usize,
+    pub length: usize,
+    pub stored: usize,
+}
+
+// The next record's header, or `last` at the end of the file.
+pub fn next(fd: i32) -> Record {
+    let mut header = [0u8; 40];
+    let got = io::read_full(fd, &mut header);
+    parse(got < 40, &header)
+}
+
+fn parse(last: bool, header: &[u8; 40]) -> Record {
+    Record {
+        last: last,
+        kind: wire::read_u32(header, 0),
+        length: wire::read_u32(header, 4),
+        stored: wire::read_u32(header, 8),
+    }
+}
+
+// Puts the input at the start of `room`: the stored bytes, then zeros.
+pub fn load(fd: i32, room: &mut [u8], stored: usize, length: usize) {
+    if room.len() < length {
+        return;
+    }
+    if length < stored {
+        return;
+    }
+    wire::fill(room, 0, length, 0);
+    io::read_full(fd, &mut room[0..stored]);
+}

@@ -1,0 +1,6 @@
+pub mod Laws
+pub mod Fields
+pub mod Records
+pub mod Widths
+pub mod Formed
+pub mod Accepted

@@ -1,0 +1,57 @@
+use mathlib.Core.Path.{sym, _∙_}
+use borrow.Author.Needs.{needs}
+use borrow.Author.Tests.{not-true, not-false}
+use Rattle.table.proofs.Formed.{whole-of, after-30, after-31, after-34, after-ids, after-35, schema-sound, supers-low, layout-of}
+use Rattle.table.proofs.Widths.{known-none}
+use Rattle.table.proofs.Laws.{never}
+use Rattle.table.proofs.index_table.Statement.{statement}
+use Rattle.table.proofs.index_table.Tie as tie
+
+returns : tie.Need-returns
+returns c = record { verdict = after-30 (c .before .before .before .args .table .now) (not-true _ (c .if1 .taken)); layout = λ q. absurd (never q) }
+
+check-shape-requires : tie.Need-check-shape-requires
+check-shape-requires c κs = (whole-of (c .before .before .before .before .args .table .now) (not-false _ (c .before .if1 .left)), c .before .before .before .before .pre)
+
+returns-2 : tie.Need-returns-2
+returns-2 c = record { verdict = after-31 (c .before .before .before .before .before .before .before .before .before .before .args .table .now) (not-false _ (c .before .before .before .before .before .before .before .if1 .left)) _ _ (sym (c .before .before .before .before .before .check-shape .ensures .verdict) ∙ c .before .shape .given .1); layout = λ q. absurd (never q) }
+
+check-records-requires : tie.Need-check-records-requires
+check-records-requires c κs = (whole-of (c .before .before .before .before .before .before .before .before .before .before .args .table .now) (not-false _ (c .before .before .before .before .before .before .before .if1 .left)), (c .before .before .before .before .before .check-shape .ensures .placing (c .before .enum-told .given .1)))
+
+returns-3 : tie.Need-returns-3
+returns-3 c = record { verdict = after-34 (c .before .before .before .before .before .before .before .before .before .before .before .before .before .before .args .table .now) (not-false _ (c .before .before .before .before .before .before .before .before .before .before .before .if1 .left)) (sym (c .before .before .before .before .before .before .before .before .before .check-shape .ensures .verdict) ∙ c .before .before .before .before .before .enum-told .given .1) _ _ (sym (c .before .before .before .check-records .ensures) ∙ c .before .records .given .1); layout = λ q. absurd (never q) }
+
+any-id-requires : tie.Need-any-id-requires
+any-id-requires c κs = (c .before .before .before .before .before .before .before .before .before .check-shape .ensures .placing (c .before .before .before .before .before .enum-told .given .1))
+
+returns-4 : tie.Need-returns-4
+returns-4 c = record { verdict = after-ids (c .before .before .before .before .before .before .before .before .before .before .before .before .before .before .before .before .args .table .now) (not-false _ (c .before .before .before .before .before .before .before .before .before .before .before .before .before .if1 .left)) (sym (c .before .before .before .before .before .before .before .before .before .before .before .check-shape .ensures .verdict) ∙ c .before .before .before .before .before .before .before .enum-told .given .1) (sym (c .before .before .before .before .before .check-records .ensures) ∙ c .before .before .before .enum-told2 .given .1) (sym (c .before .any-id .ensures) ∙ not-true _ (c .if2 .taken)); layout = λ q. absurd (never q) }
+
+check-widths-requires : tie.Need-check-widths-requires
+check-widths-requires c κs = ((c .before .before .before .before .before .before .before .before .before .before .before .before .check-shape .ensures .placing (c .before .before .before .before .before .before .before .before .enum-told .given .1)), known-none (c .before .before .before .before .before .before .before .before .before .before .before .before .before .before .before .before .before .args .table .now) _ (c .before .before .before .before .before .before .before .before .before .before .before .before .check-shape .ensures .blank (c .before .before .before .before .before .before .before .before .enum-told .given .1)), schema-sound (c .before .before .before .before .before .before .before .before .before .before .before .before .before .before .before .before .before .args .table .now) (sym (c .before .before .before .before .before .before .before .before .before .before .before .before .check-shape .ensures .verdict) ∙ c .before .before .before .before .before .before .before .before .enum-told .given .1) (sym (c .before .before .before .before .before .before .check-records .ensures) ∙ c .before .before .before .before .enum-told2 .given .1))
+
+returns-5 : tie.Need-returns-5
+returns-5 c = record { verdict = c .before .before .check-widths .ensures .verdict ∙ after-35 (c .before .before .before .before .before .before .before .before .before .before .before .before .before .before .before .before .before .before .before .before .args .table .now) (not-false _ (c .before .before .before .before .before .before .before .before .before .before .before .before .before .before .before .before .before .if1 .left)) (sym (c .before .before .before .before .before .before .before .before .before .before .before .before .before .before .before .check-shape .ensures .verdict) ∙ c .before .before .before .before .before .before .before .before .before .before .before .enum-told .given .1) (sym (c .before .before .before .before .before .before .before .before .before .check-records .ensures) ∙ c .before .before .before .before .before .before .before .enum-told2 .given .1) (sym (c .before .before .before .before .before .any-id .ensures) ∙ not-false _ (c .before .before .before .before .if2 .left)); layout = λ q. layout-of (c .before .before .before .before .before .before .before .before .before .before .before .before .before .before .before .before .before .before .before .before .args .table .now) _ (c .before .before .check-widths .ensures .placing q) (c .before .before .check-widths .ensures .known q) (whole-of (c .before .before .before .before .before .before .before .before .before .before .before .before .before .before .before .before .before .before .before .before .args .table .now) (not-false _ (c .before .before .before .before .before .before .before .before .before .before .before .before .before .before .before .before .before .if1 .left))) (supers-low (c .before .before .before .before .before .before .before .before .before .before .before .before .before .before .before .before .before .before .before .before .args .table .now) (sym (c .before .before .before .before .before .before .before .before .before .before .before .before .before .before .before .check-shape .ensures .verdict) ∙ c .before .before .before .before .before .before .before .before .before .before .before .enum-told .given .1) (sym (c .before .before .before .before .before .before .before .before .before .check-records .ensures) ∙ c .before .before .before .before .before .before .before .enum-told2 .given .1)) }
+
+pub index-table-spec : {M : Type 1} → statement M
+index-table-spec =
+    tie.close
+    (tie.spec
+    returns
+    check-shape-requires
+    (λ c. search needs)
+    (λ c. search needs)
+    (λ c. search needs)
+    returns-2
+    check-records-requires
+    (λ c. search needs)
+    (λ c. search needs)
+    (λ c. search needs)
+    returns-3
+    any-id-requires
+    (λ c. search needs)
+    returns-4
+    check-widths-requires
+    (λ c. search needs)
+    returns-5)

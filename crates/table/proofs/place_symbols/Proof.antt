@@ -1,0 +1,23 @@
+use native.Mathlib.Omega.{arith}
+use lib.ListN.{length-set}
+use borrow.Author.Needs.{needs}
+use Rattle.table.proofs.place_symbols.Statement.{statement}
+use Rattle.table.proofs.place_symbols.Tie as tie
+
+slice-write-index-2 : tie.Need-slice-write-index-2
+slice-write-index-2 c = simp length-set (omega arith)
+
+pub place-symbols-spec : {M : Type 1} → statement M
+place-symbols-spec =
+    tie.close
+    (tie.spec
+    (λ c. search needs)
+    (λ c. search needs)
+    (λ c. search needs)
+    (λ c. search needs)
+    (λ c. search needs)
+    (λ c. search needs)
+    (λ c. search needs)
+    slice-write-index-2
+    (λ c. search needs)
+    (λ c. search needs))

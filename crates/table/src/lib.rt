@@ -1,0 +1,647 @@
+// The schema table's check. A table that passes leaves its index behind, so that no walk reads its
+// records in order again.
+ghost use mathlib.Core.Path.{_≡_};
+ghost use mathlib.Core.Bool.{true, _&&_, _||_, cond};
+ghost use mathlib.Core.List.{List};
+ghost use Prim.Native.Nat.{ℕ, _+_, _-_, _*_, _%_, _<_, _≤_, _^_, max};
+ghost use lib.ListN.{length, getD, drop, take, set, replicate};
+ghost use lib.Dec.{ltb, leb, eqb};
+ghost use Rattle.wire.specs.Bytes.{part, le, allZero};
+ghost use Rattle.schema.specs.declared.Verdict.the-variants.{Accepted};
+ghost use Rattle.schema.specs.Schema.{known, kindWidth, valueWidth, fieldWidth};
+ghost use Rattle.schema.specs.Table.{SY, GR, marked, symbolCount, symbolValue, typeId, idFlag, superNumber, fieldCount, fieldType, optionalFlag, sequenceFlag, fieldSize, reference, Due, isDue, isEnum, shapeVerdict, rank, enumVerdict, symbolVerdict, groupVerdict, sizeOk, referenceOk, fieldVerdict, recordVerdict, recordsVerdict, anyId, widthsVerdict, enums, schema, scalarWidth, fieldAt, tableVerdict};
+ghost use Rattle.schema.specs.Layout.{Placed, Layout};
+ghost use Rattle.table.specs.Index.{dueOf, Whole, Begun, Placing, Shaped, Taken, Checked};
+ghost use Rattle.table.specs.Measure.{Sound, Known, Answer, Judged};
+
+const EN: [u8; 2] = *b"EN";
+
+const SY: [u8; 2] = *b"SY";
+
+const GR: [u8; 2] = *b"GR";
+
+const FD: [u8; 2] = *b"FD";
+
+// THE RECORDS' CONTENTS
+
+fn symbol_count(table: &[u8], p: usize) -> usize
+    requires { ⌜ p + 16 ≤ length (now table) ⌝ }
+    ensures { λ r. ⌜ (r ≡ symbolCount (drop p (now (table .entry)))) × (r < 2 ^ 16) ⌝ }
+{
+    wire::read_u16(table, p + 2)
+}
+
+fn type_id(table: &[u8], p: usize) -> u64
+    requires { ⌜ p + 16 ≤ length (now table) ⌝ }
+    ensures { λ r. ⌜ r ≡ typeId (drop p (now (table .entry))) ⌝ }
+{
+    wire::read_u64(table, p + 2)
+}
+
+fn has_id(table: &[u8], p: usize) -> bool
+    requires { ⌜ p + 16 ≤ length (now table) ⌝ }
+    ensures { λ r. ⌜ r ≡ eqb (idFlag (drop p (now (table .entry)))) 1 ⌝ }
+{
+    table[p + 10] == 1
+}
+
+fn super_number(table: &[u8], p: usize) -> usize
+    requires { ⌜ p + 16 ≤ length (now table) ⌝ }
+    ensures { λ r. ⌜ r ≡ superNumber (drop p (now (table .entry))) ⌝ }
+{
+    wire::read_u16(table, p + 11)
+}
+
+fn field_count(table: &[u8], p: usize) -> usize
+    requires { ⌜ p + 16 ≤ length (now table) ⌝ }
+    ensures { λ r. ⌜ (r ≡ fieldCount (drop p (now (table .entry)))) × (r < 256) ⌝ }
+{
+    table[p + 13] as usize
+}
+
+fn field_type(table: &[u8], p: usize) -> u8
+    requires { ⌜ p + 16 ≤ length (now table) ⌝ }
+    ensures { λ r. ⌜ r ≡ fieldType (drop p (now (table .entry))) ⌝ }
+{
+    table[p + 2]
+}
+
+fn reference(table: &[u8], p: usize) -> usize
+    requires { ⌜ p + 16 ≤ length (now table) ⌝ }
+    ensures { λ r. ⌜ r ≡ reference (drop p (now (table .entry))) ⌝ }
+{
+    wire::read_u16(table, p + 6)
+}
+
+fn all_zero(table: &[u8], p: usize, at: usize, n: usize) -> bool
+    requires { ⌜ (p + 16 ≤ length (now table)) × (at + n ≤ 16) ⌝ }
+    ensures { λ r. ⌜ r ≡ allZero (part n at (drop p (now (table .entry)))) ⌝ }
+{
+    wire::all_zero(table, p + at, n)
+}
+
+// 31
+
+// How many enumerations and groups there were, and how many records the last of them still has to
+// come.
+struct Shape {
+    enumerations: usize,
+    groups: usize,
+    owed: usize,
+}
+
+// "First the enumerations, then the groups"
+fn is_enum(table: &[u8], p: usize, shape: Shape) -> bool
+    requires { ⌜ p + 16 ≤ length (now table) ⌝ }
+    ensures { λ r. ⌜ r ≡ isEnum (dueOf shape) (drop p (now (table .entry))) ⌝ }
+{
+    (shape.groups == 0) & wire::has_mark(table, p, EN)
+}
+
+// Whether the record at p is one that may stand there.
+fn is_due(table: &[u8], p: usize, shape: Shape) -> bool
+    requires { ⌜ p + 16 ≤ length (now table) ⌝ }
+    ensures { λ r. ⌜ r ≡ isDue (dueOf shape) (drop p (now (table .entry))) ⌝ }
+{
+    if 0 < shape.owed {
+        if shape.groups == 0 {
+            return wire::has_mark(table, p, SY);
+        }
+        return wire::has_mark(table, p, FD);
+    }
+    if is_enum(table, p, shape) {
+        let count = symbol_count(table, p);
+        return (shape.enumerations < 64) & ((1 <= count) & (count <= 256));
+    }
+    wire::has_mark(table, p, GR) & ((shape.groups < 64) & (field_count(table, p) <= 64))
+}
+
+fn place_group(index: &mut [u16], g: usize, p: usize)
+    requires { ⌜ (g < length (now index)) × (p < 65536) ⌝ }
+    ensures { λ _. ⌜ now (index .exit) ≡ set (now (index .entry)) g p ⌝ }
+{
+    index[g] = p as u16;
+}
+
+// The symbols stand from p on. Where p does not fit, no symbol does, and the table is refused.
+fn place_symbols(index: &mut [u16], e: usize, p: usize, count: usize)
+    requires { ⌜ (e < 64) × (length (now index) ≡ 322) × (count < 65536) ⌝ }
+    ensures { λ _. ⌜ now (index .exit) ≡ set (set (now (index .entry)) (128 + e) (p % 65536)) (192 + e) count ⌝ }
+{
+    index[128 + e] = (p % 65536) as u16;
+    index[192 + e] = count as u16;
+}
+
+// What the record of number i, which is due, announces; its place goes into the index.
+fn take_record(table: &[u8], index: &mut [u16], i: usize, shape: Shape) -> Shape
+    requires { ⌜ (Whole (now table)) × (16 * i + 16 ≤ length (now table)) × (Begun (now table) (now index) i (shape .enumerations) (shape .groups) (shape .owed)) × (isDue (dueOf shape) (drop (16 * i) (now table)) ≡ true) ⌝ }
+    ensures { λ r. ⌜ Taken (now (table .entry)) (now (index .exit)) i shape r ⌝ }
+{
+    let p = 16 * i;
+    if 0 < shape.owed {
+        return Shape {
+            enumerations: shape.enumerations,
+            groups: shape.groups,
+            owed: shape.owed - 1,
+        };
+    }
+    if is_enum(table, p, shape) {
+        let count = symbol_count(table, p);
+        place_symbols(index, shape.enumerations, p + 16, count);
+        return Shape {
+            enumerations: shape.enumerations + 1,
+            groups: shape.groups,
+            owed: count,
+        };
+    }
+    place_group(index, shape.groups, p);
+    Shape {
+        enumerations: shape.enumerations,
+        groups: shape.groups + 1,
+        owed: field_count(table, p),
+    }
+}
+
+fn check_shape(table: &[u8], index: &mut [u16]) -> schema::Verdict
+    requires { ⌜ (Whole (now table)) × (now index ≡ replicate 322 0) ⌝ }
+    ensures { λ r. ⌜ Shaped (shapeVerdict (now (table .entry))) r (now (table .entry)) (now (index .exit)) ⌝ }
+{
+    let records = table.len() / 16;
+    let mut shape = Shape {
+        enumerations: 0,
+        groups: 0,
+        owed: 0,
+    };
+    let mut i = 0;
+    while i < records {
+        if !is_due(table, 16 * i, shape) {
+            return schema::Verdict::Refused {
+                number: 31,
+                place: 16 * i,
+            };
+        }
+        shape = take_record(table, index, i, shape);
+        i += 1;
+    }
+    if shape.owed != 0 {
+        return schema::Verdict::Refused {
+            number: 31,
+            place: 16 * i,
+        };
+    }
+    place_group(index, 320, shape.groups);
+    place_group(index, 321, shape.enumerations);
+    schema::Verdict::Accepted
+}
+
+// 32, 33, 34
+
+fn check_enum(table: &[u8], p: usize) -> schema::Verdict
+    requires { ⌜ p + 16 ≤ length (now table) ⌝ }
+    ensures { λ r. ⌜ r ≡ enumVerdict p (drop p (now (table .entry))) ⌝ }
+{
+    if !all_zero(table, p, 4, 12) {
+        return schema::Verdict::Refused {
+            number: 32,
+            place: p,
+        };
+    }
+    schema::Verdict::Accepted
+}
+
+// A symbol's place among the i32, which rise from -2^31.
+fn symbol_rank(table: &[u8], p: usize) -> usize
+    requires { ⌜ p + 16 ≤ length (now table) ⌝ }
+    ensures { λ r. ⌜ (r ≡ rank (drop p (now (table .entry)))) × (r < 2 ^ 32) ⌝ }
+{
+    let value = wire::read_u32(table, p + 2);
+    if value < 0x8000_0000 {
+        return value + 0x8000_0000;
+    }
+    value - 0x8000_0000
+}
+
+fn check_symbol(table: &[u8], p: usize, low: usize) -> schema::Verdict
+    requires { ⌜ p + 16 ≤ length (now table) ⌝ }
+    ensures { λ r. ⌜ r ≡ symbolVerdict low p (drop p (now (table .entry))) ⌝ }
+{
+    if !all_zero(table, p, 6, 10) {
+        return schema::Verdict::Refused {
+            number: 32,
+            place: p,
+        };
+    }
+    if symbol_rank(table, p) < low {
+        return schema::Verdict::Refused {
+            number: 34,
+            place: p,
+        };
+    }
+    schema::Verdict::Accepted
+}
+
+// Whether one of the first n groups has this id.
+fn is_known(table: &[u8], index: &[u16], n: usize, id: u64) -> bool
+    requires { ⌜ (Placed (now table) (now index) n) × (n ≤ length (schema (now table))) × (n ≤ 64) × (length (now index) ≡ 322) ⌝ }
+    ensures { λ r. ⌜ r ≡ known (take n (schema (now (table .entry)))) id ⌝ }
+{
+    let mut g = 0;
+    while g < n {
+        let p = index[g] as usize;
+        if has_id(table, p) & (type_id(table, p) == id) {
+            return true;
+        }
+        g += 1;
+    }
+    false
+}
+
+// "a must-be-zero byte isn't, or a flag is not 0 or 1"
+fn group_zeros(table: &[u8], p: usize) -> bool
+    requires { ⌜ p + 16 ≤ length (now table) ⌝ }
+    ensures { λ r. ⌜ r ≡ ltb (idFlag (drop p (now (table .entry)))) 2 && ((eqb (idFlag (drop p (now (table .entry)))) 1 || allZero (part 8 2 (drop p (now (table .entry))))) && allZero (part 2 14 (drop p (now (table .entry))))) ⌝ }
+{
+    (table[p + 10] < 2)
+        & ((has_id(table, p) | all_zero(table, p, 2, 8)) & all_zero(table, p, 14, 2))
+}
+
+fn check_group(table: &[u8], index: &[u16], p: usize, own: usize) -> schema::Verdict
+    requires { ⌜ (p + 16 ≤ length (now table)) × (Placed (now table) (now index) own) × (own ≤ length (schema (now table))) × (own ≤ 64) × (length (now index) ≡ 322) ⌝ }
+    ensures { λ r. ⌜ r ≡ groupVerdict (schema (now (table .entry))) own p (drop p (now (table .entry))) ⌝ }
+{
+    if !group_zeros(table, p) {
+        return schema::Verdict::Refused {
+            number: 32,
+            place: p,
+        };
+    }
+    if own < super_number(table, p) {
+        return schema::Verdict::Refused {
+            number: 33,
+            place: p,
+        };
+    }
+    if has_id(table, p) & is_known(table, index, own, type_id(table, p)) {
+        return schema::Verdict::Refused {
+            number: 34,
+            place: p,
+        };
+    }
+    schema::Verdict::Accepted
+}
+
+fn field_zeros(table: &[u8], p: usize) -> bool
+    requires { ⌜ p + 16 ≤ length (now table) ⌝ }
+    ensures { λ r. ⌜ r ≡ ltb (optionalFlag (drop p (now (table .entry)))) 2 && (ltb (sequenceFlag (drop p (now (table .entry)))) 2 && allZero (part 8 8 (drop p (now (table .entry))))) ⌝ }
+{
+    (table[p + 3] < 2) & ((table[p + 4] < 2) & all_zero(table, p, 8, 8))
+}
+
+// "String and binary: size 1..255 is inline, size 0 is indirect. Fixed: size 1..255. Other types
+// have size 0."
+fn size_ok(ty: u8, size: u8) -> bool
+    ensures { λ r. ⌜ r ≡ sizeOk ty size ⌝ }
+{
+    match ty {
+        17 => true,
+        18 => true,
+        19 => 1 <= size,
+        _ => size == 0,
+    }
+}
+
+// "an enumeration for 20; a group for 21 (lower than the group's own number) and 22 (any); else 0"
+fn reference_ok(ty: u8, to: usize, enumerations: usize, groups: usize, own: usize) -> bool
+    ensures { λ r. ⌜ r ≡ referenceOk enumerations groups own ty to ⌝ }
+{
+    match ty {
+        20 => to < enumerations,
+        21 => to < own,
+        22 => to < groups,
+        _ => to == 0,
+    }
+}
+
+fn check_field(
+    table: &[u8],
+    p: usize,
+    enumerations: usize,
+    groups: usize,
+    own: usize,
+) -> schema::Verdict
+    requires { ⌜ p + 16 ≤ length (now table) ⌝ }
+    ensures { λ r. ⌜ r ≡ fieldVerdict enumerations groups own p (drop p (now (table .entry))) ⌝ }
+{
+    if !field_zeros(table, p) {
+        return schema::Verdict::Refused {
+            number: 32,
+            place: p,
+        };
+    }
+    let ty = field_type(table, p);
+    let fits = size_ok(ty, table[p + 5])
+        & reference_ok(ty, reference(table, p), enumerations, groups, own);
+    if !((1 <= ty) & ((ty <= 23) & fits)) {
+        return schema::Verdict::Refused {
+            number: 33,
+            place: p,
+        };
+    }
+    schema::Verdict::Accepted
+}
+
+// The number of the last of n groups.
+fn last(n: usize) -> usize
+    ensures { λ r. ⌜ r ≡ n - 1 ⌝ }
+{
+    if n == 0 {
+        return 0;
+    }
+    n - 1
+}
+
+// next: how many groups came before; low: the least rank that rises.
+fn check_record(table: &[u8], index: &[u16], p: usize, next: usize, low: usize) -> schema::Verdict
+    requires { ⌜ (p + 16 ≤ length (now table)) × (Placing (now table) (now index)) × (next ≤ length (schema (now table))) ⌝ }
+    ensures { λ r. ⌜ r ≡ recordVerdict (length (enums (now (table .entry)))) (schema (now (table .entry))) next low p (drop p (now (table .entry))) ⌝ }
+{
+    if wire::has_mark(table, p, FD) {
+        return check_field(
+            table,
+            p,
+            index[321] as usize,
+            index[320] as usize,
+            last(next),
+        );
+    }
+    if wire::has_mark(table, p, SY) {
+        return check_symbol(table, p, low);
+    }
+    if wire::has_mark(table, p, GR) {
+        return check_group(table, index, p, next);
+    }
+    check_enum(table, p)
+}
+
+// The least rank that rises after the record at p.
+fn rising(table: &[u8], p: usize) -> usize
+    requires { ⌜ p + 16 ≤ length (now table) ⌝ }
+    ensures { λ r. ⌜ r ≡ cond (marked SY (drop p (now (table .entry)))) (rank (drop p (now (table .entry))) + 1) 0 ⌝ }
+{
+    if wire::has_mark(table, p, SY) {
+        return symbol_rank(table, p) + 1;
+    }
+    0
+}
+
+// How many groups there were after the record at p.
+fn groups_after(table: &[u8], p: usize, next: usize) -> usize
+    requires { ⌜ (p + 16 ≤ length (now table)) × (next ≤ 64) ⌝ }
+    ensures { λ r. ⌜ r ≡ cond (marked GR (drop p (now (table .entry)))) (next + 1) next ⌝ }
+{
+    if wire::has_mark(table, p, GR) {
+        return next + 1;
+    }
+    next
+}
+
+fn check_records(table: &[u8], index: &[u16]) -> schema::Verdict
+    requires { ⌜ (Whole (now table)) × (Placing (now table) (now index)) ⌝ }
+    ensures { λ r. ⌜ r ≡ recordsVerdict (now (table .entry)) ⌝ }
+{
+    let records = table.len() / 16;
+    let mut next = 0;
+    let mut low = 0;
+    let mut i = 0;
+    while i < records {
+        let p = 16 * i;
+        let v = check_record(table, index, p, next, low);
+        match v {
+            schema::Verdict::Accepted => {}
+            schema::Verdict::Refused { number, place } => {
+                return schema::Verdict::Refused { number, place };
+            }
+        }
+        next = groups_after(table, p, next);
+        low = rising(table, p);
+        i += 1;
+    }
+    schema::Verdict::Accepted
+}
+
+fn any_id(table: &[u8], index: &[u16]) -> bool
+    requires { ⌜ Placing (now table) (now index) ⌝ }
+    ensures { λ r. ⌜ r ≡ anyId (schema (now (table .entry))) ⌝ }
+{
+    let groups = index[320] as usize;
+    let mut g = 0;
+    while g < groups {
+        if has_id(table, index[g] as usize) {
+            return true;
+        }
+        g += 1;
+    }
+    false
+}
+
+// 35
+
+// A group's width and static depth, and whether all static groups that it names have a width.
+struct Extent {
+    width: usize,
+    depth: usize,
+    filled: bool,
+}
+
+fn scalar_width(ty: u8) -> usize
+    ensures { λ r. ⌜ (r ≡ scalarWidth ty) × (r ≤ 9) ⌝ }
+{
+    match ty {
+        0 => 1,
+        1 => 1,
+        2 => 1,
+        3 => 2,
+        4 => 2,
+        5 => 4,
+        6 => 4,
+        7 => 8,
+        8 => 8,
+        9 => 8,
+        10 => 9,
+        11 => 1,
+        12 => 4,
+        13 => 8,
+        14 => 8,
+        15 => 4,
+        16 => 8,
+        _ => 4,
+    }
+}
+
+// The width of the value of the field at p; inner: that of the static group, if it is one.
+fn kind_width(table: &[u8], p: usize, inner: usize) -> usize
+    requires { ⌜ (p + 16 ≤ length (now table)) × (inner ≤ 4096) ⌝ }
+    ensures { λ r. ⌜ ((es : List (List ℕ)) → r ≡ kindWidth (λ _. inner) (fieldAt es (drop p (now (table .entry))) .kind)) × (r ≤ 4096) ⌝ }
+{
+    let ty = field_type(table, p);
+    let size = table[p + 5] as usize;
+    match ty {
+        17 => text_width(size),
+        18 => text_width(size),
+        19 => size,
+        21 => inner,
+        _ => scalar_width(ty),
+    }
+}
+
+fn text_width(size: usize) -> usize
+    requires { ⌜ size < 256 ⌝ }
+    ensures { λ r. ⌜ (r ≡ cond (eqb size 0) 4 (size + 1)) × (r ≤ 256) ⌝ }
+{
+    if size == 0 {
+        return 4;
+    }
+    size + 1
+}
+
+// "A sequence has width 4"
+fn value_width(table: &[u8], p: usize, inner: usize) -> usize
+    requires { ⌜ (p + 16 ≤ length (now table)) × (inner ≤ 4096) ⌝ }
+    ensures { λ r. ⌜ ((es : List (List ℕ)) → r ≡ valueWidth (λ _. inner) (fieldAt es (drop p (now (table .entry))))) × (r ≤ 4096) ⌝ }
+{
+    if table[p + 4] == 1 {
+        return 4;
+    }
+    kind_width(table, p, inner)
+}
+
+// "an optional field has one flag byte more"
+fn field_width(table: &[u8], p: usize, inner: usize) -> usize
+    requires { ⌜ (p + 16 ≤ length (now table)) × (inner ≤ 4096) ⌝ }
+    ensures { λ r. ⌜ ((es : List (List ℕ)) → r ≡ fieldWidth (λ _. inner) (fieldAt es (drop p (now (table .entry))))) × (r ≤ 4097) ⌝ }
+{
+    let width = value_width(table, p, inner);
+    if table[p + 3] == 1 {
+        return width + 1;
+    }
+    width
+}
+
+fn higher(a: usize, b: usize) -> usize
+    ensures { λ r. ⌜ r ≡ max a b ⌝ }
+{
+    if a < b {
+        return b;
+    }
+    a
+}
+
+// "a static subgroup's width is that of its own group": the groups below `known` were looked at, and
+// the index has what they measure.
+fn group_width(table: &[u8], index: &[u16], known: usize, g: usize) -> Extent
+    requires { ⌜ (Placing (now table) (now index)) × (Known (now table) (now index) known) × (Sound (schema (now table))) × (g ≤ known) × (g < length (schema (now table))) ⌝ }
+    ensures { λ r. ⌜ Answer (now (table .entry)) known g r ⌝ }
+{
+    if g < known {
+        return Extent {
+            width: index[64 + g] as usize,
+            depth: index[256 + g] as usize,
+            filled: true,
+        };
+    }
+    let first = index[g] as usize + 16;
+    let count = field_count(table, index[g] as usize);
+    let mut width = 0;
+    let mut depth = 0;
+    let mut filled = true;
+    let mut i = 0;
+    while i < count {
+        let p = first + 16 * i;
+        i += 1;
+        if field_type(table, p) != 21 {
+            width += field_width(table, p, 0);
+            continue;
+        }
+        let inner = group_width(table, index, known, reference(table, p));
+        width += field_width(table, p, inner.width);
+        depth = higher(depth, inner.depth + 1);
+        filled = filled & (inner.filled & (1 <= inner.width));
+    }
+    Extent {
+        width,
+        depth,
+        filled,
+    }
+}
+
+fn place_extent(index: &mut [u16], g: usize, extent: Extent)
+    requires { ⌜ (length (now index) ≡ 322) × (g < 64) × (extent .width ≤ 4096) × (extent .depth ≤ 4) ⌝ }
+    ensures { λ _. ⌜ now (index .exit) ≡ set (set (now (index .entry)) (64 + g) (extent .width)) (256 + g) (extent .depth) ⌝ }
+{
+    index[64 + g] = extent.width as u16;
+    index[256 + g] = extent.depth as u16;
+}
+
+// Each group is looked at once, from the lowest number on, so that no table makes this slow.
+fn check_widths(table: &[u8], index: &mut [u16]) -> schema::Verdict
+    requires { ⌜ (Placing (now table) (now index)) × (Known (now table) (now index) 0) × (Sound (schema (now table))) ⌝ }
+    ensures { λ r. ⌜ Judged (now (table .entry)) (now (index .exit)) r ⌝ }
+{
+    let groups = index[320] as usize;
+    let mut g = 0;
+    while g < groups {
+        let extent = group_width(table, index, g, g);
+        if !((extent.width <= 4096) & ((extent.depth <= 4) & extent.filled)) {
+            return schema::Verdict::Refused {
+                number: 35,
+                place: index[g] as usize,
+            };
+        }
+        place_extent(index, g, extent);
+        g += 1;
+    }
+    schema::Verdict::Accepted
+}
+
+// Whether a table is accepted, or its first fault.
+pub fn check_table(table: &[u8]) -> schema::Verdict
+    ensures { λ r. ⌜ r ≡ tableVerdict (now (table .entry)) ⌝ }
+{
+    let mut index = [0u16; 322];
+    index_table(table, &mut index)
+}
+
+// The same, and an accepted table's index.
+pub fn index_table(table: &[u8], index: &mut [u16]) -> schema::Verdict
+    requires { ⌜ now index ≡ replicate 322 0 ⌝ }
+    ensures { λ r. ⌜ Checked (now (table .entry)) (now (index .exit)) r ⌝ }
+{
+    let bytes = table.len();
+    if !((0 < bytes) & ((bytes <= 65536) & (bytes % 16 == 0))) {
+        return schema::Verdict::Refused {
+            number: 30,
+            place: 0,
+        };
+    }
+    let shape = check_shape(table, index);
+    match shape {
+        schema::Verdict::Accepted => {}
+        schema::Verdict::Refused { number, place } => {
+            return schema::Verdict::Refused { number, place };
+        }
+    }
+    let records = check_records(table, index);
+    match records {
+        schema::Verdict::Accepted => {}
+        schema::Verdict::Refused { number, place } => {
+            return schema::Verdict::Refused { number, place };
+        }
+    }
+    if !any_id(table, index) {
+        return schema::Verdict::Refused {
+            number: 34,
+            place: bytes,
+        };
+    }
+    check_widths(table, index)
+}

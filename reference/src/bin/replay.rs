@@ -1,0 +1,44 @@
+//! Asks the stored questions again and compares with the stored answers.
+//!
+//! `replay DIRECTORY`, with the directory that holds data/ and expected/
+//! (crates/conformance). Exit code 1 and the first difference if there is
+//! one.
+
+use std::path::Path;
+use std::process::ExitCode;
+
+use blink_reference::vectors::{answer_lines, decode, FILES};
+
+fn main() -> ExitCode {
+    let Some(directory) = std::env::args_os().nth(1) else {
+        eprintln!("usage: replay DIRECTORY");
+        return ExitCode::from(2);
+    };
+    for (name, _) in FILES {
+        if let Err(why) = replay(Path::new(&directory), name) {
+            println!("{name}: {why}");
+            return ExitCode::from(1);
+        }
+    }
+    ExitCode::SUCCESS
+}
+
+fn replay(directory: &Path, name: &str) -> Result<(), String> {
+    let data = directory.join("data").join(name).with_extension("vec");
+    let data = std::fs::read(data).map_err(|error| error.to_string())?;
+    let expected = directory.join("expected").join(name).with_extension("txt");
+    let expected = std::fs::read_to_string(expected).map_err(|error| error.to_string())?;
+    let entries = decode(&data).ok_or("not a file of records")?;
+    let lines = answer_lines(&entries);
+    let expected: Vec<&str> = expected.lines().collect();
+    for (index, ((line, _), expected)) in lines.iter().zip(&expected).enumerate() {
+        if line != expected {
+            return Err(format!("question {} gives `{line}`, stored is `{expected}`", index + 1));
+        }
+    }
+    if lines.len() != expected.len() {
+        let (asked, stored) = (lines.len(), expected.len());
+        return Err(format!("{asked} questions, {stored} answers"));
+    }
+    Ok(())
+}

@@ -1,0 +1,14 @@
+//! Cases: written by hand, and made at random from a seed.
+
+mod batch;
+pub mod damage;
+pub mod edges;
+pub mod message;
+mod random;
+pub mod stored;
+pub mod table;
+pub mod text;
+
+pub use batch::{batch, Batch};
+pub use edges::{edges, Edge};
+pub use random::Random;

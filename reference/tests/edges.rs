@@ -1,0 +1,23 @@
+//! Every hand-written case gives the number and place that the papers give.
+
+use blink_reference::generate::edges;
+use blink_reference::question::ask;
+
+#[test]
+fn edges_answer_as_the_papers_say() {
+    let wrong: Vec<String> = edges()
+        .iter()
+        .filter_map(|edge| {
+            let reply = ask(&edge.table, &edge.question);
+            let given = match reply.answer {
+                Ok(_) => (0, 0),
+                Err(fault) => (fault.number as u8, fault.place),
+            };
+            (given != edge.fault).then(|| {
+                let (kind, due) = (edge.question.kind, edge.fault);
+                format!("{kind:?} {}: {given:?}, due {due:?}", edge.name)
+            })
+        })
+        .collect();
+    assert!(wrong.is_empty(), "{}", wrong.join("\n"));
+}

@@ -10,7 +10,7 @@ use borrow.Author.Tests.{ne-eqb, le-leb, lt-leb}
 use Rattle.schema.specs.Schema.{Test, flag, below, symbol, plain, passes, testFault, member, Field, kindWidth, valueWidth, fieldWidth}
 use Rattle.wire.specs.Bytes.{part, le}
 use Rattle.wire.proofs.Laws.{drop-more}
-use Rattle.schema.specs.Table.{kindOf, fieldAt, scalarWidth}
+use Rattle.schema.specs.Table.{kindOf, fieldAt, fieldType, scalarWidth}
 use Rattle.schema.proofs.Records.{byte-at}
 use Rattle.schema.specs.FieldKinds.{kindFrom, textKind, testedKind, kindFault, plainField}
 use Rattle.schema.specs.declared.FieldKind.the-variants.{Plain, Number, Static, Dynamic}
@@ -92,7 +92,7 @@ module _ (sw : ℕ → ℕ) (f : Field) where
 
 -- a required field of a type without a test
 pub plain-field : (es : List (List ℕ)) (t : List ℕ) (p w : ℕ) → w ≡ scalarWidth (getD t (p + 2) 0)
-    → (getD t (p + 3) 0 ≡ 1 → ⊥) → (getD t (p + 4) 0 ≡ 1 → ⊥) → (getD t (p + 2) 0 ≡ 11 → ⊥) → getD t (p + 2) 0 < 15 → fieldAt es (drop p t) ≡ plainField w
+    → (getD t (p + 3) 0 ≡ 1 → ⊥) → (getD t (p + 4) 0 ≡ 1 → ⊥) → (getD t (p + 2) 0 ≡ 11 → ⊥) → getD t (p + 2) 0 < 15 → fieldAt es (drop p t) ≡ plainField (fieldType (drop p t)) w
 unfolding fieldAt kindOf
 plain-field es t p w e o s a l =
     let type = getD t (p + 2) 0 in

@@ -39,9 +39,9 @@ kindFault (indirect u) s = 0
 kindFault (static g) s = 0
 kindFault (dynamic g) s = 0
 
--- A required value of w bytes without a test.
-abbrev pub plainField : ℕ → Field
-plainField w = record { kind = plain w any; optional = false; sequence = false }
+-- A required value of this type and of w bytes, without a test.
+abbrev pub plainField : ℕ → ℕ → Field
+plainField n w = record { type = n; kind = plain w any; optional = false; sequence = false }
 
 -- The index k has a width of every static group, each within the table check's bound.
 pub record Widths (k : List ℕ) : Type 0 where

@@ -25,6 +25,7 @@ pub data Kind : Type 0 where
   dynamic : ℕ → Kind  -- a group in the data area: below number n - 1, or any where n is 0
 
 pub record Field : Type 0 where
+  pub type : ℕ  -- document 01's number
   pub kind : Kind
   pub optional : Bool
   pub sequence : Bool

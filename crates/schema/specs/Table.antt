@@ -92,7 +92,7 @@ kindOf es type size ref =
     (cond (eqb type 22) (dynamic (ref + 1)) (dynamic 0)))))))))
 
 unfoldable pub fieldAt : List (List ℕ) → List ℕ → Field
-fieldAt es t = record { kind = kindOf es (fieldType t) (fieldSize t) (reference t); optional = eqb (optionalFlag t) 1; sequence = eqb (sequenceFlag t) 1 }
+fieldAt es t = record { type = fieldType t; kind = kindOf es (fieldType t) (fieldSize t) (reference t); optional = eqb (optionalFlag t) 1; sequence = eqb (sequenceFlag t) 1 }
 
 -- The fields of the next n records.
 unfoldable pub fieldsAt : List (List ℕ) → ℕ → List ℕ → List Field

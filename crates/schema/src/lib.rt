@@ -9,7 +9,7 @@ ghost use Prim.Native.Nat.{ℕ, _+_, _*_, _<_, _≤_, _^_};
 ghost use lib.ListN.{length, take, drop, getD};
 ghost use lib.Dec.{eqb};
 ghost use Rattle.schema.specs.Schema.{member, find, allows, superOf, kindWidth, valueWidth, fieldWidth};
-ghost use Rattle.schema.specs.Table.{scalarWidth, fieldAt, fieldCount, idFlag, typeId, superNumber, valuesAt, enums, schema};
+ghost use Rattle.schema.specs.Table.{scalarWidth, fieldAt, fieldType, fieldCount, idFlag, typeId, superNumber, valuesAt, enums, schema};
 ghost use Rattle.schema.specs.Layout.{groupPlace, groupTotal, symbolPlace, symbolTotal, widthIn, Placed, Layout};
 ghost use Rattle.schema.specs.FieldKinds.{kindFrom, textKind, testedKind, kindFault, plainField, Widths};
 
@@ -248,7 +248,7 @@ pub fn is_sequence(table: &[u8], at: usize) -> bool
 // The width of a required value of a type without a test; 0 for every other field.
 pub fn plain_width(table: &[u8], at: usize) -> usize
     requires { ⌜ at + 16 ≤ length (now table) ⌝ }
-    ensures { λ r. ⌜ ((r ≡ 0 → ⊥) → (es : List (List ℕ)) → fieldAt es (drop at (now (table .entry))) ≡ plainField r) × (r < 256) ⌝ }
+    ensures { λ r. ⌜ ((r ≡ 0 → ⊥) → (es : List (List ℕ)) → fieldAt es (drop at (now (table .entry))) ≡ plainField (fieldType (drop at (now (table .entry)))) r) × (r < 256) ⌝ }
 {
     let number = table[at + 2];
     if table[at + 3] == 1 {

@@ -2,17 +2,16 @@
 use mathlib.Core.Path.{_≡_, refl, sym, ap, _∙_}
 use mathlib.Core.Bool.{Bool, true, false, not, cond, _&&_}
 use mathlib.Core.List.{List, [], _∷_}
-use Prim.Native.Nat.{ℕ, zero, suc, _+_, _-_, _*_, _<_, _≤_}
+use Prim.Native.Nat.{ℕ, zero, suc, _+_, _<_, _≤_}
 use native.Mathlib.Omega.{arith}
 use lib.ListN.{length, take, drop}
 use lib.Dec.{leb, ltb, eqb}
 use borrow.Author.Tests.{eqb-true, eqb-false, ltb-true, ltb-false, eq-eqb, lt-ltb, not-true}
-use Rattle.schema.specs.declared.Verdict.{Verdict}
-use Rattle.schema.specs.declared.Verdict.the-variants.{Accepted, Refused}
+use Rattle.schema.specs.declared.Verdict.the-variants.{Accepted}
 use Rattle.schema.specs.Schema.{Group, find, known, superOf, width, shallow}
-use Rattle.schema.specs.Table.{GR, EN, SY, rank, recordVerdict, marked, idFlag, typeId, groupAt, groupsFrom, enumsFrom, placesFrom, valuesAt, symbolCount, recordCount, enums, schema, places, shapeVerdict, groupVerdict, recordsFrom, recordsVerdict, idVerdict, widthsFrom, widthsVerdict, tableVerdict}
+use Rattle.schema.specs.Table.{GR, SY, rank, recordVerdict, marked, idFlag, typeId, groupAt, groupsFrom, enumsFrom, placesFrom, recordCount, enums, schema, places, shapeVerdict, groupVerdict, recordsFrom, recordsVerdict, widthsFrom, widthsVerdict, tableVerdict}
 use Rattle.table.specs.Measure.{Sound}
-use Rattle.table.proofs.Laws.{record-group, known-skip}
+use Rattle.table.proofs.Laws.{record-group}
 use Rattle.table.proofs.Records.{drop-next, symbol-no-group, symbol-no-enum, field-no-group, field-no-enum, enum-no-group, group-no-enum, group-no-field, group-no-symbol}
 use Rattle.table.proofs.Widths.{and-both}
 use Rattle.table.proofs.Formed.{need-accepted, also-accepted, Formed, end, symbol, field, enum, group, formed, shallow-out, schema-sound, supers-low}

@@ -1,22 +1,22 @@
 -- The shape of a table that passed 31, what 32 to 34 leave of its schema, its index, and the phases in a row.
-use mathlib.Core.Path.{_≡_, refl, sym, ap, _∙_}
+use mathlib.Core.Path.{_≡_, refl, sym, _∙_}
 use mathlib.Core.Bool.{Bool, true, false, cond, _&&_, _||_}
 use mathlib.Core.List.{List, [], _∷_}
-use Prim.Native.Nat.{ℕ, zero, suc, _+_, _-_, _*_, _/_, _%_, _<_, _≤_}
+use Prim.Native.Nat.{ℕ, zero, suc, _+_, _-_, _%_, _<_, _≤_}
 use native.Mathlib.Omega.{arith}
-use lib.ListN.{length, take, drop, getD}
+use lib.ListN.{length, drop, getD}
 use lib.Dec.{leb, ltb, eqb}
-use borrow.Author.Tests.{eqb-true, eqb-false, ltb-true, ltb-false, leb-true, leb-false, le-leb, lt-ltb, le-ltb, ne-eqb}
+use borrow.Author.Tests.{eqb-true, eqb-false, ltb-true, ltb-false, leb-true, le-leb, lt-ltb}
 use Rattle.schema.specs.declared.Verdict.{Verdict}
 use Rattle.schema.specs.declared.Verdict.the-variants.{Accepted, Refused}
 use Rattle.schema.specs.Faults.{need, also}
-use Rattle.schema.specs.Schema.{Kind, plain, inline, indirect, static, dynamic, Field, Group, fieldsWidth, fieldsOf, superOf, width, shallowFields, shallow}
-use Rattle.schema.specs.Table.{EN, SY, GR, FD, marked, symbolCount, superNumber, fieldCount, fieldType, fieldSize, reference, scalarWidths, scalarWidth, kindOf, fieldAt, fieldsAt, groupAt, groupsFrom, recordCount, enums, schema, Due, isEnum, isDue, dueAfter, shapeFrom, shapeVerdict, sizeOk, referenceOk, fieldVerdict, groupVerdict, recordVerdict, recordsFrom, recordsVerdict, anyId, idVerdict, widthsVerdict, tableVerdict}
+use Rattle.schema.specs.Schema.{Kind, Group, fieldsWidth, fieldsOf, superOf, width, shallowFields, shallow}
+use Rattle.schema.specs.Table.{EN, SY, GR, FD, marked, symbolCount, superNumber, fieldCount, fieldType, fieldSize, reference, scalarWidths, scalarWidth, kindOf, fieldAt, fieldsAt, groupAt, groupsFrom, recordCount, enums, schema, Due, isEnum, isDue, dueAfter, shapeFrom, shapeVerdict, sizeOk, referenceOk, fieldVerdict, groupVerdict, recordsFrom, recordsVerdict, anyId, idVerdict, widthsVerdict, tableVerdict}
 use Rattle.schema.specs.Layout.{widthIn, Layout}
 use Rattle.table.specs.Index.{Whole, Placing}
 use Rattle.table.specs.Measure.{soundKind, soundFields, Sound, Known}
 use Rattle.table.proofs.Laws.{need-yes, need-no, also-pass, also-stop, record-field, record-group}
-use Rattle.table.proofs.Records.{due-symbol, due-field, due-enum, due-group, after-owed, after-enum, after-group, enum-is, enum-due, group-due, symbol-no-group, field-no-group, enum-no-group, group-no-field, group-no-symbol}
+use Rattle.table.proofs.Records.{due-symbol, due-field, after-owed, after-enum, after-group, enum-is, enum-due, group-due, symbol-no-group, field-no-group, enum-no-group, group-no-field, group-no-symbol}
 use Rattle.table.proofs.Widths.{and-both}
 
 pub need-accepted : (c : Bool) (n p : ℕ) (k : Verdict) → need c (Refused n p) k ≡ Accepted → (c ≡ true) × (k ≡ Accepted)

@@ -1,12 +1,12 @@
 -- Tests in a row, and what stands in a record.
-use mathlib.Core.Path.{_≡_, refl, sym, ap, _∙_}
-use mathlib.Core.Bool.{Bool, true, false, not, cond, _&&_, _||_}
-use mathlib.Core.List.{List, [], _∷_}
-use Prim.Native.Nat.{ℕ, zero, suc, _+_, _-_, _*_, _<_, _≤_}
+use mathlib.Core.Path.{_≡_}
+use mathlib.Core.Bool.{Bool, true, false, cond, _&&_}
+use mathlib.Core.List.{List, _∷_}
+use Prim.Native.Nat.{ℕ, _+_, _-_, _<_, _≤_}
 use native.Mathlib.Omega.{arith}
-use lib.ListN.{length, take, drop, getD, drop-of-length-le}
-use lib.Seq.{drop-drop, getD-drop}
-use lib.Dec.{leb, ltb, eqb, leb·suc-suc}
+use lib.ListN.{length, take, drop, drop-of-length-le}
+use lib.Seq.{length-take-le, drop-drop}
+use lib.Dec.{leb, ltb}
 use borrow.Author.Tests.{lt-ltb, le-ltb}
 use Rattle.schema.specs.Schema.{Group, find, known}
 use Rattle.schema.specs.Layout.{Placed}
@@ -86,24 +86,14 @@ module _ (gs : List Group) (g : ℕ) (x : Group) (r : List Group) (e : drop g gs
   unfolding anyId
   any-skip h = rw (e, h)
 
-  pub known-yes : (n id : ℕ) → g < n → (x .hasId && eqb (x .id) id) ≡ true → known (take (n - g) (drop g gs)) id ≡ true
-  unfolding known find
-  known-yes n id l h = let m : n - g ≡ suc (n - (g + 1)) = omega arith in rw (e, m, h) (lt-ltb 0 (suc (length (take (n - (g + 1)) r))) (omega arith))
-
-  pub known-skip : (n id : ℕ) → g < n → (x .hasId && eqb (x .id) id) ≡ false → known (take (n - g) (drop g gs)) id ≡ known (take (n - (g + 1)) r) id
-  unfolding known find
-  known-skip n id l h = let m : n - g ≡ suc (n - (g + 1)) = omega arith in rw (e, m, h) (leb·suc-suc (suc (find (take (n - (g + 1)) r) id)) (length (take (n - (g + 1)) r)))
-
 pub any-end : (gs : List Group) (g : ℕ) → length gs ≤ g → anyId (drop g gs) ≡ false
 unfolding anyId
 any-end gs g h = rw (drop-of-length-le gs h)
 
-pub known-end : (gs : List Group) (n id g : ℕ) → n ≤ g → known (take (n - g) (drop g gs)) id ≡ false
-unfolding known find
-known-end gs n id g h = let m : n - g ≡ 0 = omega arith in rw m
-
-pub hit : (a a′ : Bool) (i i′ id : ℕ) (b : Bool) → a ≡ a′ → i ≡ i′ → (a && eqb i id) ≡ b → (a′ && eqb i′ id) ≡ b
-hit a a′ i i′ id b p q e = rw (← p, ← q) e
+-- the first n groups' ids, by the number that is found
+pub known-less : (gs : List Group) (n id f : ℕ) → n ≤ length gs → f ≡ find (take n gs) id → ltb f n ≡ known (take n gs) id
+unfolding known
+known-less gs n id f l e = rw (e, length-take-le n gs l)
 
 pub never : {n p : ℕ} → Refused n p ≡ Accepted → ⊥
 never e = let z : _≡_ {A = ℕ} 0 1 = cc in omega arith

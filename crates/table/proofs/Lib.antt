@@ -1,5 +1,4 @@
 pub mod Laws
-pub mod Fields
 pub mod Records
 pub mod Widths
 pub mod Formed

@@ -2,9 +2,8 @@
 use mathlib.Core.Path.{_≡_, refl, sym, ap, _∙_}
 use mathlib.Core.Bool.{Bool, true, false, cond, _&&_}
 use mathlib.Core.List.{List, [], _∷_}
-use Prim.Native.Nat.{ℕ, zero, suc, _+_, _-_, _*_, _/_, _%_, _<_, _≤_}
+use Prim.Native.Nat.{ℕ, suc, _+_, _-_, _*_, _%_, _<_, _≤_}
 use native.Mathlib.Omega.{arith}
-use native.Mathlib.Numerals.{add-one}
 use native.Mathlib.Nat.{mod-eq-of-lt}
 use lib.ListN.{length, take, drop, getD, set, replicate, length-set, length-drop, getD-replicate, List·getD-eq-default}
 use lib.Seq.{drop-drop, getD-set-same, getD-set-other, drop-cons}
@@ -16,7 +15,7 @@ use Rattle.schema.specs.Table.{EN, SY, GR, FD, marked, symbolCount, fieldCount,
 use Rattle.schema.specs.declared.Verdict.{Verdict}
 use Rattle.schema.specs.declared.Verdict.the-variants.{Accepted, Refused}
 use Rattle.schema.specs.Faults.{need, also}
-use Rattle.schema.specs.Layout.{groupPlace, symbolPlace, symbolTotal, groupTotal, enumTotal, Placed}
+use Rattle.schema.specs.Layout.{groupPlace, symbolPlace, symbolTotal}
 use Rattle.table.specs.Index.{Whole, Begun, Placing, Shaped}
 
 -- MARKS

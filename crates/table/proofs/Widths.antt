@@ -4,16 +4,16 @@ use mathlib.Core.Bool.{Bool, true, false, cond, _&&_, _||_, and-true}
 use mathlib.Core.List.{List, [], _∷_}
 use Prim.Native.Nat.{ℕ, zero, suc, _+_, _-_, _*_, _<_, _≤_, max}
 use native.Mathlib.Omega.{arith}
-use lib.ListN.{length, take, drop, getD, set, length-set}
+use lib.ListN.{length, drop, getD, set, length-set}
 use lib.Seq.{drop-drop, drop-nil, getD-set-same, getD-set-other}
 use lib.Dec.{leb, ltb, eqb, leb·zero, leb·suc-zero, leb·suc-suc}
-use borrow.Author.Tests.{eq-eqb, ne-eqb, eqb-true, eqb-false, leb-true, leb-false, le-leb, lt-leb, ltb-true}
-use Rattle.schema.specs.declared.Verdict.{Verdict}
+use borrow.Author.Tests.{eqb-true, eqb-false, leb-true, leb-false, le-leb, lt-leb, ltb-true, ltb-false}
 use Rattle.schema.specs.declared.Verdict.the-variants.{Accepted, Refused}
 use Rattle.schema.specs.Faults.{need}
 use Rattle.schema.specs.Schema.{Kind, plain, inline, indirect, static, dynamic, Field, Group, kindWidth, valueWidth, fieldWidth, fieldsWidth, fieldsOf, width, shallowKind, shallowFields, shallow}
-use Rattle.schema.specs.Table.{fieldCount, fieldType, fieldSize, reference, kindOf, fieldAt, fieldsAt, groupAt, enums, schema, places, widthsFrom}
-use Rattle.schema.specs.Layout.{groupPlace, Placed}
+use Rattle.schema.specs.Table.{fieldCount, fieldType, fieldSize, reference, kindOf, fieldAt, fieldsAt, groupAt, schema, widthsFrom}
+use Rattle.schema.specs.Layout.{widthIn}
+use Rattle.schema.specs.FieldKinds.{Widths}
 use Rattle.table.specs.declared.Extent.{Extent}
 use Rattle.table.specs.Index.{Placing}
 use Rattle.table.specs.Measure.{soundKind, soundFields, Measured, stored, Known, Summed}
@@ -88,18 +88,22 @@ module _ (es : List (List ℕ)) (type size ref : ℕ) where
   unfolding kindOf
   is-static e = rw e
 
+  pub static-is : (sw : ℕ → ℕ) → type ≡ 21 → kindWidth sw (kindOf es type size ref) ≡ sw ref
+  unfolding kindWidth
+  static-is sw e = rw (is-static e)
+
 -- FIELDS IN A ROW
 
 module _ (gs : List Group) (fs : List Field) where
   pub summed-none : Summed gs fs fs 0 0 true
   summed-none = record { deep = λ d. rw (leb·zero d); wide = λ d e. omega arith }
 
-  summed-other : (x : Field) (rest : List Field) (w v depth : ℕ) (f : Bool) → isStatic (x .kind) ≡ false → v ≡ fieldWidth (λ _. 0) x
+  summed-other : (x : Field) (rest : List Field) (w v depth : ℕ) (f : Bool) → isStatic (x .kind) ≡ false → (sw : ℕ → ℕ) → v ≡ fieldWidth sw x
       → Summed gs fs (x ∷ rest) w depth f → Summed gs fs rest (w + v) depth f
   unfolding shallowFields fieldsWidth
-  summed-other x rest w v depth f n is s = record {
+  summed-other x rest w v depth f n sw is s = record {
     deep = λ d. s .deep d ∙ rw (flat (shallow gs d) (width gs d) (x .kind) n);
-    wide = λ d e. let a = s .wide d e in let b = field-as (width gs d) (λ _. 0) x (free _ _ (x .kind) n) in omega (arith, a, b, is);
+    wide = λ d e. let a = s .wide d e in let b = field-as (width gs d) sw x (free _ _ (x .kind) n) in omega (arith, a, b, is);
   }
 
   one-static : (d h : ℕ) (e : Extent) → Measured gs h e → (leb 1 (width gs d h) && shallow gs d h) ≡ ((e .filled && leb 1 (e .width)) && leb (e .depth + 1) d)
@@ -176,11 +180,11 @@ module _ (t : List ℕ) (es : List (List ℕ)) (c first i : ℕ) (l : i < c) whe
       let q : first + 16 * i + 16 ≡ first + 16 * (i + 1) = omega arith in
       rw (n, drop-drop 16 (first + 16 * i) t, q)
 
-  pub other-turn : (gs : List Group) (fs : List Field) (w v depth : ℕ) (f : Bool) (type : ℕ) → type ≡ fieldType at → (type ≡ 21 → ⊥) → v ≡ fieldWidth (λ _. 0) (fieldAt es at)
+  pub other-turn : (gs : List Group) (fs : List Field) (w v depth : ℕ) (f : Bool) (type : ℕ) → type ≡ fieldType at → (type ≡ 21 → ⊥) → (sw : ℕ → ℕ) → v ≡ fieldWidth sw (fieldAt es at)
       → Summed gs fs (fieldsAt es (c - i) at) w depth f → Summed gs fs (fieldsAt es (c - (i + 1)) (drop (first + 16 * (i + 1)) t)) (w + v) depth f
   unfolding fieldAt
-  other-turn gs fs w v depth f type ty n is s =
-      summed-other gs fs (fieldAt es at) _ w v depth f (not-static es (fieldType at) (fieldSize at) (reference at) (λ e. n (ty ∙ e))) is (rw fields-more at s)
+  other-turn gs fs w v depth f type ty n sw is s =
+      summed-other gs fs (fieldAt es at) _ w v depth f (not-static es (fieldType at) (fieldSize at) (reference at) (λ e. n (ty ∙ e))) sw is (rw fields-more at s)
 
   pub static-turn : (gs : List Group) (fs : List Field) (h w v depth depth′ : ℕ) (f : Bool) (e : Extent) (type : ℕ) → type ≡ fieldType at → type ≡ 21 → h ≡ reference at → Measured gs h e
       → v ≡ fieldWidth (λ _. e .width) (fieldAt es at) → depth′ ≡ max depth (e .depth + 1)
@@ -300,3 +304,15 @@ within w d f e = let a = and-both (leb w 4096) (leb d 4 && f) e in let b = and-b
 -- before any group is looked at
 pub known-none : (t k : List ℕ) → ((h : ℕ) → h < 64 → getD k (64 + h) 0 ≡ 0) → Known t k 0
 known-none t k z = record { measured = λ h q. absurd (omega arith); narrow = λ h q. absurd (omega arith); low = λ h q. absurd (omega arith); clear = λ h q l. z h l }
+
+-- the index serves for every field's width, whatever groups were looked at
+pub widths-known : (t k : List ℕ) (n : ℕ) → length k ≡ 322 → Known t k n → Widths k
+widths-known t k n l kn = record { long = l; narrow = λ g. narrow g (ltb g n) refl }
+  where
+    narrow : (g : ℕ) (c : Bool) → ltb g n ≡ c → widthIn k g ≤ 4096
+    narrow g c e = unfold widthIn in go (ltb g 64) c refl e
+      where
+        go : (b c : Bool) → ltb g 64 ≡ b → ltb g n ≡ c → cond b (getD k (64 + g) 0) 0 ≤ 4096
+        go false c p q = omega arith
+        go true true p q = kn .narrow g (ltb-true g n q)
+        go true false p q = omega (arith, kn .clear g (ltb-false g n q) (ltb-true g 64 p))

@@ -1,15 +1,12 @@
 -- What the check of a table has put into the index, phase by phase.
 use mathlib.Core.Path.{_≡_}
-use mathlib.Core.Bool.{true, _&&_}
 use mathlib.Core.List.{List, [], _∷_}
-use Prim.Native.Nat.{ℕ, _+_, _-_, _*_, _/_, _<_, _≤_}
+use Prim.Native.Nat.{ℕ, _+_, _-_, _*_, _<_, _≤_}
 use lib.ListN.{length, drop, getD}
-use lib.Dec.{ltb}
 use Rattle.schema.specs.declared.Verdict.{Verdict}
 use Rattle.schema.specs.declared.Verdict.the-variants.{Accepted}
 use Rattle.table.specs.declared.Shape.{Shape}
-use Rattle.schema.specs.Schema.{Group, width, shallow}
-use Rattle.schema.specs.Table.{Due, isDue, dueAfter, fieldCount, valuesAt, groupAt, groupsFrom, enumsFrom, placesFrom, recordCount, enums, schema, places, tableVerdict}
+use Rattle.schema.specs.Table.{Due, dueAfter, fieldCount, valuesAt, groupAt, groupsFrom, enumsFrom, placesFrom, recordCount, enums, schema, places, tableVerdict}
 use Rattle.schema.specs.Layout.{groupPlace, symbolPlace, symbolTotal, groupTotal, enumTotal, Placed, Layout}
 
 -- The state of 31 in the definition's terms.

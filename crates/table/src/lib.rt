@@ -8,8 +8,8 @@ ghost use lib.ListN.{length, getD, drop, take, set, replicate};
 ghost use lib.Dec.{ltb, leb, eqb};
 ghost use Rattle.wire.specs.Bytes.{part, le, allZero};
 ghost use Rattle.schema.specs.declared.Verdict.the-variants.{Accepted};
-ghost use Rattle.schema.specs.Schema.{known, kindWidth, valueWidth, fieldWidth};
-ghost use Rattle.schema.specs.Table.{SY, GR, marked, symbolCount, symbolValue, typeId, idFlag, superNumber, fieldCount, fieldType, optionalFlag, sequenceFlag, fieldSize, reference, Due, isDue, isEnum, shapeVerdict, rank, enumVerdict, symbolVerdict, groupVerdict, sizeOk, referenceOk, fieldVerdict, recordVerdict, recordsVerdict, anyId, widthsVerdict, enums, schema, scalarWidth, fieldAt, tableVerdict};
+ghost use Rattle.schema.specs.Schema.{valueWidth, fieldWidth};
+ghost use Rattle.schema.specs.Table.{SY, GR, marked, symbolCount, symbolValue, typeId, idFlag, superNumber, fieldCount, fieldType, optionalFlag, sequenceFlag, fieldSize, reference, Due, isDue, isEnum, shapeVerdict, rank, enumVerdict, symbolVerdict, groupVerdict, sizeOk, referenceOk, fieldVerdict, recordVerdict, recordsVerdict, anyId, widthsVerdict, enums, schema, fieldAt, tableVerdict};
 ghost use Rattle.schema.specs.Layout.{Placed, Layout};
 ghost use Rattle.table.specs.Index.{dueOf, Whole, Begun, Placing, Shaped, Taken, Checked};
 ghost use Rattle.table.specs.Measure.{Sound, Known, Answer, Judged};
@@ -50,13 +50,6 @@ fn super_number(table: &[u8], p: usize) -> usize
     ensures { λ r. ⌜ r ≡ superNumber (drop p (now (table .entry))) ⌝ }
 {
     wire::read_u16(table, p + 11)
-}
-
-fn field_count(table: &[u8], p: usize) -> usize
-    requires { ⌜ p + 16 ≤ length (now table) ⌝ }
-    ensures { λ r. ⌜ (r ≡ fieldCount (drop p (now (table .entry)))) × (r < 256) ⌝ }
-{
-    table[p + 13] as usize
 }
 
 fn field_type(table: &[u8], p: usize) -> u8
@@ -113,7 +106,7 @@ fn is_due(table: &[u8], p: usize, shape: Shape) -> bool
         let count = symbol_count(table, p);
         return (shape.enumerations < 64) & ((1 <= count) & (count <= 256));
     }
-    wire::has_mark(table, p, GR) & ((shape.groups < 64) & (field_count(table, p) <= 64))
+    wire::has_mark(table, p, GR) & ((shape.groups < 64) & (schema::field_count(table, p) <= 64))
 }
 
 fn place_group(index: &mut [u16], g: usize, p: usize)
@@ -158,7 +151,7 @@ fn take_record(table: &[u8], index: &mut [u16], i: usize, shape: Shape) -> Shape
     Shape {
         enumerations: shape.enumerations,
         groups: shape.groups + 1,
-        owed: field_count(table, p),
+        owed: schema::field_count(table, p),
     }
 }
 
@@ -240,22 +233,6 @@ fn check_symbol(table: &[u8], p: usize, low: usize) -> schema::Verdict
     schema::Verdict::Accepted
 }
 
-// Whether one of the first n groups has this id.
-fn is_known(table: &[u8], index: &[u16], n: usize, id: u64) -> bool
-    requires { ⌜ (Placed (now table) (now index) n) × (n ≤ length (schema (now table))) × (n ≤ 64) × (length (now index) ≡ 322) ⌝ }
-    ensures { λ r. ⌜ r ≡ known (take n (schema (now (table .entry)))) id ⌝ }
-{
-    let mut g = 0;
-    while g < n {
-        let p = index[g] as usize;
-        if has_id(table, p) & (type_id(table, p) == id) {
-            return true;
-        }
-        g += 1;
-    }
-    false
-}
-
 // "a must-be-zero byte isn't, or a flag is not 0 or 1"
 fn group_zeros(table: &[u8], p: usize) -> bool
     requires { ⌜ p + 16 ≤ length (now table) ⌝ }
@@ -266,7 +243,7 @@ fn group_zeros(table: &[u8], p: usize) -> bool
 }
 
 fn check_group(table: &[u8], index: &[u16], p: usize, own: usize) -> schema::Verdict
-    requires { ⌜ (p + 16 ≤ length (now table)) × (Placed (now table) (now index) own) × (own ≤ length (schema (now table))) × (own ≤ 64) × (length (now index) ≡ 322) ⌝ }
+    requires { ⌜ (p + 16 ≤ length (now table)) × (Placed (now table) (now index) own) × (own ≤ length (schema (now table))) × (own ≤ 64) × (length (now index) ≡ 322) × (length (now table) ≤ 65536) ⌝ }
     ensures { λ r. ⌜ r ≡ groupVerdict (schema (now (table .entry))) own p (drop p (now (table .entry))) ⌝ }
 {
     if !group_zeros(table, p) {
@@ -281,7 +258,7 @@ fn check_group(table: &[u8], index: &[u16], p: usize, own: usize) -> schema::Ver
             place: p,
         };
     }
-    if has_id(table, p) & is_known(table, index, own, type_id(table, p)) {
+    if has_id(table, p) & (schema::find(table, index, own, type_id(table, p)) < own) {
         return schema::Verdict::Refused {
             number: 34,
             place: p,
@@ -362,7 +339,7 @@ fn last(n: usize) -> usize
 
 // next: how many groups came before; low: the least rank that rises.
 fn check_record(table: &[u8], index: &[u16], p: usize, next: usize, low: usize) -> schema::Verdict
-    requires { ⌜ (p + 16 ≤ length (now table)) × (Placing (now table) (now index)) × (next ≤ length (schema (now table))) ⌝ }
+    requires { ⌜ (p + 16 ≤ length (now table)) × (Placing (now table) (now index)) × (next ≤ length (schema (now table))) × (length (now table) ≤ 65536) ⌝ }
     ensures { λ r. ⌜ r ≡ recordVerdict (length (enums (now (table .entry)))) (schema (now (table .entry))) next low p (drop p (now (table .entry))) ⌝ }
 {
     if wire::has_mark(table, p, FD) {
@@ -453,71 +430,20 @@ struct Extent {
     filled: bool,
 }
 
-fn scalar_width(ty: u8) -> usize
-    ensures { λ r. ⌜ (r ≡ scalarWidth ty) × (r ≤ 9) ⌝ }
-{
-    match ty {
-        0 => 1,
-        1 => 1,
-        2 => 1,
-        3 => 2,
-        4 => 2,
-        5 => 4,
-        6 => 4,
-        7 => 8,
-        8 => 8,
-        9 => 8,
-        10 => 9,
-        11 => 1,
-        12 => 4,
-        13 => 8,
-        14 => 8,
-        15 => 4,
-        16 => 8,
-        _ => 4,
-    }
-}
-
-// The width of the value of the field at p; inner: that of the static group, if it is one.
-fn kind_width(table: &[u8], p: usize, inner: usize) -> usize
-    requires { ⌜ (p + 16 ≤ length (now table)) × (inner ≤ 4096) ⌝ }
-    ensures { λ r. ⌜ ((es : List (List ℕ)) → r ≡ kindWidth (λ _. inner) (fieldAt es (drop p (now (table .entry))) .kind)) × (r ≤ 4096) ⌝ }
-{
-    let ty = field_type(table, p);
-    let size = table[p + 5] as usize;
-    match ty {
-        17 => text_width(size),
-        18 => text_width(size),
-        19 => size,
-        21 => inner,
-        _ => scalar_width(ty),
-    }
-}
-
-fn text_width(size: usize) -> usize
-    requires { ⌜ size < 256 ⌝ }
-    ensures { λ r. ⌜ (r ≡ cond (eqb size 0) 4 (size + 1)) × (r ≤ 256) ⌝ }
-{
-    if size == 0 {
-        return 4;
-    }
-    size + 1
-}
-
-// "A sequence has width 4"
+// "A sequence has width 4", and else a static group's is `inner`.
 fn value_width(table: &[u8], p: usize, inner: usize) -> usize
-    requires { ⌜ (p + 16 ≤ length (now table)) × (inner ≤ 4096) ⌝ }
+    requires { ⌜ (p + 16 ≤ length (now table)) × (fieldType (drop p (now table)) ≡ 21) × (inner ≤ 4096) ⌝ }
     ensures { λ r. ⌜ ((es : List (List ℕ)) → r ≡ valueWidth (λ _. inner) (fieldAt es (drop p (now (table .entry))))) × (r ≤ 4096) ⌝ }
 {
     if table[p + 4] == 1 {
         return 4;
     }
-    kind_width(table, p, inner)
+    inner
 }
 
 // "an optional field has one flag byte more"
-fn field_width(table: &[u8], p: usize, inner: usize) -> usize
-    requires { ⌜ (p + 16 ≤ length (now table)) × (inner ≤ 4096) ⌝ }
+fn static_width(table: &[u8], p: usize, inner: usize) -> usize
+    requires { ⌜ (p + 16 ≤ length (now table)) × (fieldType (drop p (now table)) ≡ 21) × (inner ≤ 4096) ⌝ }
     ensures { λ r. ⌜ ((es : List (List ℕ)) → r ≡ fieldWidth (λ _. inner) (fieldAt es (drop p (now (table .entry))))) × (r ≤ 4097) ⌝ }
 {
     let width = value_width(table, p, inner);
@@ -550,7 +476,7 @@ fn group_width(table: &[u8], index: &[u16], known: usize, g: usize) -> Extent
         };
     }
     let first = index[g] as usize + 16;
-    let count = field_count(table, index[g] as usize);
+    let count = schema::field_count(table, index[g] as usize);
     let mut width = 0;
     let mut depth = 0;
     let mut filled = true;
@@ -559,11 +485,11 @@ fn group_width(table: &[u8], index: &[u16], known: usize, g: usize) -> Extent
         let p = first + 16 * i;
         i += 1;
         if field_type(table, p) != 21 {
-            width += field_width(table, p, 0);
+            width += schema::field_width(table, index, p);
             continue;
         }
         let inner = group_width(table, index, known, reference(table, p));
-        width += field_width(table, p, inner.width);
+        width += static_width(table, p, inner.width);
         depth = higher(depth, inner.depth + 1);
         filled = filled & (inner.filled & (1 <= inner.width));
     }

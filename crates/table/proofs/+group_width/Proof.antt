@@ -1,5 +1,6 @@
-use Rattle.table.proofs.Widths.{summed-none, summed-all, fields-start, fields-none, other-turn, static-turn, sound-turn, sound-here}
+use Rattle.table.proofs.Widths.{summed-none, summed-all, fields-start, fields-none, other-turn, static-turn, sound-turn, sound-here, widths-known}
 use Rattle.table.specs.Measure.{Summed, soundFields}
+use Rattle.schema.specs.Layout.{widthIn}
 use Rattle.schema.specs.Table.{schema, enums, fieldsAt}
 use Rattle.schema.specs.Schema.{fieldsOf}
 use mathlib.Core.Path.{_≡_, refl, sym, ap, _∙_}
@@ -19,11 +20,12 @@ use borrow.Fn.PlainCycle.{Measures, is, falls, and}
 use Rattle.table.proofs.group_width.Reads as group-width
 use Rattle.table.proofs.group_width.Kinds as group-width-kinds
 use Rattle.table.proofs.+group_width.Lts-group_width as group-width-lts
-use Rattle.table.proofs.field_count.Reads as field-count-reads
+use Rattle.schema.proofs.field_count.Reads as field-count-reads
+use Rattle.schema.proofs.field_width.Reads as field-width-reads
 use Rattle.table.proofs.field_type.Reads as field-type-reads
-use Rattle.table.proofs.field_width.Reads as field-width-reads
 use Rattle.table.proofs.higher.Reads as higher-reads
 use Rattle.table.proofs.reference.Reads as reference-reads
+use Rattle.table.proofs.static_width.Reads as static-width-reads
 use Rattle.table.proofs.+group_width.{statement}
 use Rattle.table.proofs.+group_width.Tie.{close}
 
@@ -47,7 +49,7 @@ abbrev group-width-μ-loop : group-width-lts.MeasureT-loop
 group-width-μ-loop table index known g first count width₀ depth₀ filled₀ i₀ width depth filled i = count - i
 
 abbrev group-width-claims : ℕ → group-width-lts.Claims
-group-width-claims t = (field-count-reads.Asked, field-count-reads.Learnt, field-type-reads.Asked, field-type-reads.Learnt, field-width-reads.Asked, field-width-reads.Learnt, reference-reads.Asked, reference-reads.Learnt, group-width-below t, group-width.Post, higher-reads.Asked, higher-reads.Learnt)
+group-width-claims t = (field-count-reads.Asked, field-count-reads.Learnt, field-type-reads.Asked, field-type-reads.Learnt, field-width-reads.Asked, field-width-reads.Learnt, reference-reads.Asked, reference-reads.Learnt, group-width-below t, group-width.Post, static-width-reads.Asked, static-width-reads.Learnt, higher-reads.Asked, higher-reads.Learnt)
 
 group-width-add-t14 : (t : ℕ) → group-width-lts.Need-add-t14 (group-width-claims t) (group-width-at t) group-width.Post group-width-Inv-loop group-width-μ-loop
 group-width-add-t14 t c = omega (arith, c .before .before .before .pre .1 .0 .long, c .before .before .before .pre .1 .0 .few, c .before .before .before .pre .1 .4)
@@ -103,6 +105,8 @@ group-width-shared-slice-read-field-count :
       reference-reads.Learnt,
       group-width-below t,
       group-width.Post,
+      static-width-reads.Asked,
+      static-width-reads.Learnt,
       higher-reads.Asked,
       higher-reads.Learnt,
     ) (group-width-at t) group-width.Post group-width-Inv-loop group-width-μ-loop
@@ -127,13 +131,13 @@ group-width-field-type-requires : (t : ℕ) → group-width-lts.Need-field-type-
 group-width-field-type-requires t c κs = omega (arith, (c .before .before .before .before .before .before .before .before .pre .1 .0 .placed .inside (c .before .before .before .before .before .before .before .before .args .g) (c .before .before .before .before .before .before .before .before .pre .1 .4)), c .before .before .field-count .ensures .0, c .loop-test .taken)
 
 group-width-field-width-requires : (t : ℕ) → group-width-lts.Need-field-width-requires (group-width-claims t) (group-width-at t) group-width.Post group-width-Inv-loop group-width-μ-loop
-group-width-field-width-requires t c κs = (omega (arith, (c .before .before .before .before .before .before .before .before .before .before .pre .1 .0 .placed .inside (c .before .before .before .before .before .before .before .before .before .before .args .g) (c .before .before .before .before .before .before .before .before .before .before .pre .1 .4)), c .before .before .before .before .field-count .ensures .0, c .before .before .loop-test .taken), omega arith)
+group-width-field-width-requires t c κs = (widths-known (c .before .before .before .before .before .before .before .before .before .before .args .table .now) _ _ (c .before .before .before .before .before .before .before .before .before .before .pre .1 .0 .long) (c .before .before .before .before .before .before .before .before .before .before .pre .1 .1), omega (arith, (c .before .before .before .before .before .before .before .before .before .before .pre .1 .0 .placed .inside (c .before .before .before .before .before .before .before .before .before .before .args .g) (c .before .before .before .before .before .before .before .before .before .before .pre .1 .4)), c .before .before .before .before .field-count .ensures .0, c .before .before .loop-test .taken))
 
 group-width-add-width : (t : ℕ) → group-width-lts.Need-add-width (group-width-claims t) (group-width-at t) group-width.Post group-width-Inv-loop group-width-μ-loop
 group-width-add-width t c = omega (arith, c .field-width .ensures .1, c .before .before .before .before .loop .inv .1, c .before .before .before .before .before .field-count .ensures .1, c .before .before .before .loop-test .taken)
 
 group-width-loop-again : (t : ℕ) → group-width-lts.Need-loop-again (group-width-claims t) (group-width-at t) group-width.Post group-width-Inv-loop group-width-μ-loop
-group-width-loop-again t c = (search needs, omega (arith, c .field-width .ensures .1, c .before .before .before .before .loop .inv .1), c .before .before .before .before .loop .inv .2, other-turn (c .before .before .before .before .before .before .before .before .before .before .before .args .table .now) (enums (c .before .before .before .before .before .before .before .before .before .before .before .args .table .now)) (c .before .before .before .before .before .field-count .result) (getD (c .before .before .before .before .before .before .before .before .before .before .before .args .index .now) (c .before .before .before .before .before .before .before .before .before .before .before .args .g) 0 + 16) (c .before .before .before .before .loop .i) (c .before .before .before .loop-test .taken) (schema (c .before .before .before .before .before .before .before .before .before .before .before .args .table .now)) (fieldsOf (schema (c .before .before .before .before .before .before .before .before .before .before .before .args .table .now)) (c .before .before .before .before .before .before .before .before .before .before .before .args .g)) _ _ _ _ _ (c .before .before .field-type .ensures) (c .before .if2 .taken) (c .field-width .ensures .0 (enums (c .before .before .before .before .before .before .before .before .before .before .before .args .table .now))) (c .before .before .before .before .loop .inv .3), sound-turn (c .before .before .before .before .before .before .before .before .before .before .before .args .table .now) (enums (c .before .before .before .before .before .before .before .before .before .before .before .args .table .now)) (c .before .before .before .before .before .field-count .result) (getD (c .before .before .before .before .before .before .before .before .before .before .before .args .index .now) (c .before .before .before .before .before .before .before .before .before .before .before .args .g) 0 + 16) (c .before .before .before .before .loop .i) (c .before .before .before .loop-test .taken) (length (schema (c .before .before .before .before .before .before .before .before .before .before .before .args .table .now))) (c .before .before .before .before .before .before .before .before .before .before .before .args .g) (c .before .before .before .before .loop .inv .4))
+group-width-loop-again t c = (search needs, omega (arith, c .field-width .ensures .1, c .before .before .before .before .loop .inv .1), c .before .before .before .before .loop .inv .2, other-turn (c .before .before .before .before .before .before .before .before .before .before .before .args .table .now) (enums (c .before .before .before .before .before .before .before .before .before .before .before .args .table .now)) (c .before .before .before .before .before .field-count .result) (getD (c .before .before .before .before .before .before .before .before .before .before .before .args .index .now) (c .before .before .before .before .before .before .before .before .before .before .before .args .g) 0 + 16) (c .before .before .before .before .loop .i) (c .before .before .before .loop-test .taken) (schema (c .before .before .before .before .before .before .before .before .before .before .before .args .table .now)) (fieldsOf (schema (c .before .before .before .before .before .before .before .before .before .before .before .args .table .now)) (c .before .before .before .before .before .before .before .before .before .before .before .args .g)) _ _ _ _ _ (c .before .before .field-type .ensures) (c .before .if2 .taken) (widthIn (c .before .before .before .before .before .before .before .before .before .before .before .args .index .now)) (c .field-width .ensures .0 (enums (c .before .before .before .before .before .before .before .before .before .before .before .args .table .now))) (c .before .before .before .before .loop .inv .3), sound-turn (c .before .before .before .before .before .before .before .before .before .before .before .args .table .now) (enums (c .before .before .before .before .before .before .before .before .before .before .before .args .table .now)) (c .before .before .before .before .before .field-count .result) (getD (c .before .before .before .before .before .before .before .before .before .before .before .args .index .now) (c .before .before .before .before .before .before .before .before .before .before .before .args .g) 0 + 16) (c .before .before .before .before .loop .i) (c .before .before .before .loop-test .taken) (length (schema (c .before .before .before .before .before .before .before .before .before .before .before .args .table .now))) (c .before .before .before .before .before .before .before .before .before .before .before .args .g) (c .before .before .before .before .loop .inv .4))
 
 group-width-reference-requires : (t : ℕ) → group-width-lts.Need-reference-requires (group-width-claims t) (group-width-at t) group-width.Post group-width-Inv-loop group-width-μ-loop
 group-width-reference-requires t c κs = omega (arith, (c .before .before .before .before .before .before .before .before .before .before .pre .1 .0 .placed .inside (c .before .before .before .before .before .before .before .before .before .before .args .g) (c .before .before .before .before .before .before .before .before .before .before .pre .1 .4)), c .before .before .before .before .field-count .ensures .0, c .before .before .loop-test .taken)
@@ -141,17 +145,17 @@ group-width-reference-requires t c κs = omega (arith, (c .before .before .befor
 group-width-group-width-requires : (t : ℕ) → group-width-lts.Need-group-width-requires (group-width-claims t) (group-width-at t) group-width.Post group-width-Inv-loop group-width-μ-loop
 group-width-group-width-requires t c κs = let l = (sound-here (c .before .before .before .before .before .before .before .before .before .before .before .args .table .now) (enums (c .before .before .before .before .before .before .before .before .before .before .before .args .table .now)) (c .before .before .before .before .before .field-count .result) (getD (c .before .before .before .before .before .before .before .before .before .before .before .args .index .now) (c .before .before .before .before .before .before .before .before .before .before .before .args .g) 0 + 16) (c .before .before .before .before .loop .i) (c .before .before .before .loop-test .taken) (length (schema (c .before .before .before .before .before .before .before .before .before .before .before .args .table .now))) (c .before .before .before .before .before .before .before .before .before .before .before .args .g) (c .before .before .before .before .loop .inv .4) _ _ (c .before .before .field-type .ensures) (c .before .if2 .left) (c .reference .ensures)) in (omega (arith, l, c .before .before .before .before .before .before .before .before .before .before .before .pre .0), (c .before .before .before .before .before .before .before .before .before .before .before .pre .1 .0, c .before .before .before .before .before .before .before .before .before .before .before .pre .1 .1, c .before .before .before .before .before .before .before .before .before .before .before .pre .1 .2, omega (arith, l, c .before .before .before .before .before .before .before .before .before .before .before .pre .1 .3), omega (arith, l, c .before .before .before .before .before .before .before .before .before .before .before .pre .1 .4)))
 
-group-width-field-width-requires-2 : (t : ℕ) → group-width-lts.Need-field-width-requires-2 (group-width-claims t) (group-width-at t) group-width.Post group-width-Inv-loop group-width-μ-loop
-group-width-field-width-requires-2 t c κs = let l = (sound-here (c .before .before .before .before .before .before .before .before .before .before .before .before .args .table .now) (enums (c .before .before .before .before .before .before .before .before .before .before .before .before .args .table .now)) (c .before .before .before .before .before .before .field-count .result) (getD (c .before .before .before .before .before .before .before .before .before .before .before .before .args .index .now) (c .before .before .before .before .before .before .before .before .before .before .before .before .args .g) 0 + 16) (c .before .before .before .before .before .loop .i) (c .before .before .before .before .loop-test .taken) (length (schema (c .before .before .before .before .before .before .before .before .before .before .before .before .args .table .now))) (c .before .before .before .before .before .before .before .before .before .before .before .before .args .g) (c .before .before .before .before .before .loop .inv .4) _ _ (c .before .before .before .field-type .ensures) (c .before .before .if2 .left) (c .before .reference .ensures)) in (omega (arith, (c .before .before .before .before .before .before .before .before .before .before .before .before .pre .1 .0 .placed .inside (c .before .before .before .before .before .before .before .before .before .before .before .before .args .g) (c .before .before .before .before .before .before .before .before .before .before .before .before .pre .1 .4)), c .before .before .before .before .before .before .field-count .ensures .0, c .before .before .before .before .loop-test .taken), c .group-width .ensures .narrow (omega (arith, l, c .before .before .before .before .before .before .before .before .before .before .before .before .pre .1 .3)))
+group-width-static-width-requires : (t : ℕ) → group-width-lts.Need-static-width-requires (group-width-claims t) (group-width-at t) group-width.Post group-width-Inv-loop group-width-μ-loop
+group-width-static-width-requires t c κs = let l = (sound-here (c .before .before .before .before .before .before .before .before .before .before .before .before .args .table .now) (enums (c .before .before .before .before .before .before .before .before .before .before .before .before .args .table .now)) (c .before .before .before .before .before .before .field-count .result) (getD (c .before .before .before .before .before .before .before .before .before .before .before .before .args .index .now) (c .before .before .before .before .before .before .before .before .before .before .before .before .args .g) 0 + 16) (c .before .before .before .before .before .loop .i) (c .before .before .before .before .loop-test .taken) (length (schema (c .before .before .before .before .before .before .before .before .before .before .before .before .args .table .now))) (c .before .before .before .before .before .before .before .before .before .before .before .before .args .g) (c .before .before .before .before .before .loop .inv .4) _ _ (c .before .before .before .field-type .ensures) (c .before .before .if2 .left) (c .before .reference .ensures)) in (omega (arith, (c .before .before .before .before .before .before .before .before .before .before .before .before .pre .1 .0 .placed .inside (c .before .before .before .before .before .before .before .before .before .before .before .before .args .g) (c .before .before .before .before .before .before .before .before .before .before .before .before .pre .1 .4)), c .before .before .before .before .before .before .field-count .ensures .0, c .before .before .before .before .loop-test .taken), sym (c .before .before .before .field-type .ensures) ∙ c .before .before .if2 .left, c .group-width .ensures .narrow (omega (arith, l, c .before .before .before .before .before .before .before .before .before .before .before .before .pre .1 .3)))
 
 group-width-add-width-2 : (t : ℕ) → group-width-lts.Need-add-width-2 (group-width-claims t) (group-width-at t) group-width.Post group-width-Inv-loop group-width-μ-loop
-group-width-add-width-2 t c = omega (arith, c .field-width2 .ensures .1, c .before .before .before .before .before .before .loop .inv .1, c .before .before .before .before .before .before .before .field-count .ensures .1, c .before .before .before .before .before .loop-test .taken)
+group-width-add-width-2 t c = omega (arith, c .static-width .ensures .1, c .before .before .before .before .before .before .loop .inv .1, c .before .before .before .before .before .before .before .field-count .ensures .1, c .before .before .before .before .before .loop-test .taken)
 
 group-width-add-higher : (t : ℕ) → group-width-lts.Need-add-higher (group-width-claims t) (group-width-at t) group-width.Post group-width-Inv-loop group-width-μ-loop
 group-width-add-higher t c = omega (arith, c .before .before .group-width .ensures .depth)
 
 group-width-loop-again-2 : (t : ℕ) → group-width-lts.Need-loop-again-2 (group-width-claims t) (group-width-at t) group-width.Post group-width-Inv-loop group-width-μ-loop
-group-width-loop-again-2 t c = let l = (sound-here (c .before .before .before .before .before .before .before .before .before .before .before .before .before .before .before .before .before .args .table .now) (enums (c .before .before .before .before .before .before .before .before .before .before .before .before .before .before .before .before .before .args .table .now)) (c .before .before .before .before .before .before .before .before .before .before .before .field-count .result) (getD (c .before .before .before .before .before .before .before .before .before .before .before .before .before .before .before .before .before .args .index .now) (c .before .before .before .before .before .before .before .before .before .before .before .before .before .before .before .before .before .args .g) 0 + 16) (c .before .before .before .before .before .before .before .before .before .before .loop .i) (c .before .before .before .before .before .before .before .before .before .loop-test .taken) (length (schema (c .before .before .before .before .before .before .before .before .before .before .before .before .before .before .before .before .before .args .table .now))) (c .before .before .before .before .before .before .before .before .before .before .before .before .before .before .before .before .before .args .g) (c .before .before .before .before .before .before .before .before .before .before .loop .inv .4) _ _ (c .before .before .before .before .before .before .before .before .field-type .ensures) (c .before .before .before .before .before .before .before .if2 .left) (c .before .before .before .before .before .before .reference .ensures)) in (search needs, omega (arith, c .before .before .before .before .field-width2 .ensures .1, c .before .before .before .before .before .before .before .before .before .before .loop .inv .1), omega (arith, c .before .before .higher .ensures, c .before .before .before .before .before .before .before .before .before .before .loop .inv .2, c .before .before .before .before .before .group-width .ensures .low (omega (arith, l, c .before .before .before .before .before .before .before .before .before .before .before .before .before .before .before .before .before .pre .1 .3))), static-turn (c .before .before .before .before .before .before .before .before .before .before .before .before .before .before .before .before .before .args .table .now) (enums (c .before .before .before .before .before .before .before .before .before .before .before .before .before .before .before .before .before .args .table .now)) (c .before .before .before .before .before .before .before .before .before .before .before .field-count .result) (getD (c .before .before .before .before .before .before .before .before .before .before .before .before .before .before .before .before .before .args .index .now) (c .before .before .before .before .before .before .before .before .before .before .before .before .before .before .before .before .before .args .g) 0 + 16) (c .before .before .before .before .before .before .before .before .before .before .loop .i) (c .before .before .before .before .before .before .before .before .before .loop-test .taken) (schema (c .before .before .before .before .before .before .before .before .before .before .before .before .before .before .before .before .before .args .table .now)) (fieldsOf (schema (c .before .before .before .before .before .before .before .before .before .before .before .before .before .before .before .before .before .args .table .now)) (c .before .before .before .before .before .before .before .before .before .before .before .before .before .before .before .before .before .args .g)) _ _ _ _ _ _ _ _ (c .before .before .before .before .before .before .before .before .field-type .ensures) (c .before .before .before .before .before .before .before .if2 .left) (c .before .before .before .before .before .before .reference .ensures) (c .before .before .before .before .before .group-width .ensures .measured) (c .before .before .before .before .field-width2 .ensures .0 (enums (c .before .before .before .before .before .before .before .before .before .before .before .before .before .before .before .before .before .args .table .now))) (c .before .before .higher .ensures) (c .before .before .before .before .before .before .before .before .before .before .loop .inv .3), sound-turn (c .before .before .before .before .before .before .before .before .before .before .before .before .before .before .before .before .before .args .table .now) (enums (c .before .before .before .before .before .before .before .before .before .before .before .before .before .before .before .before .before .args .table .now)) (c .before .before .before .before .before .before .before .before .before .before .before .field-count .result) (getD (c .before .before .before .before .before .before .before .before .before .before .before .before .before .before .before .before .before .args .index .now) (c .before .before .before .before .before .before .before .before .before .before .before .before .before .before .before .before .before .args .g) 0 + 16) (c .before .before .before .before .before .before .before .before .before .before .loop .i) (c .before .before .before .before .before .before .before .before .before .loop-test .taken) (length (schema (c .before .before .before .before .before .before .before .before .before .before .before .before .before .before .before .before .before .args .table .now))) (c .before .before .before .before .before .before .before .before .before .before .before .before .before .before .before .before .before .args .g) (c .before .before .before .before .before .before .before .before .before .before .loop .inv .4))
+group-width-loop-again-2 t c = let l = (sound-here (c .before .before .before .before .before .before .before .before .before .before .before .before .before .before .before .before .before .args .table .now) (enums (c .before .before .before .before .before .before .before .before .before .before .before .before .before .before .before .before .before .args .table .now)) (c .before .before .before .before .before .before .before .before .before .before .before .field-count .result) (getD (c .before .before .before .before .before .before .before .before .before .before .before .before .before .before .before .before .before .args .index .now) (c .before .before .before .before .before .before .before .before .before .before .before .before .before .before .before .before .before .args .g) 0 + 16) (c .before .before .before .before .before .before .before .before .before .before .loop .i) (c .before .before .before .before .before .before .before .before .before .loop-test .taken) (length (schema (c .before .before .before .before .before .before .before .before .before .before .before .before .before .before .before .before .before .args .table .now))) (c .before .before .before .before .before .before .before .before .before .before .before .before .before .before .before .before .before .args .g) (c .before .before .before .before .before .before .before .before .before .before .loop .inv .4) _ _ (c .before .before .before .before .before .before .before .before .field-type .ensures) (c .before .before .before .before .before .before .before .if2 .left) (c .before .before .before .before .before .before .reference .ensures)) in (search needs, omega (arith, c .before .before .before .before .static-width .ensures .1, c .before .before .before .before .before .before .before .before .before .before .loop .inv .1), omega (arith, c .before .before .higher .ensures, c .before .before .before .before .before .before .before .before .before .before .loop .inv .2, c .before .before .before .before .before .group-width .ensures .low (omega (arith, l, c .before .before .before .before .before .before .before .before .before .before .before .before .before .before .before .before .before .pre .1 .3))), static-turn (c .before .before .before .before .before .before .before .before .before .before .before .before .before .before .before .before .before .args .table .now) (enums (c .before .before .before .before .before .before .before .before .before .before .before .before .before .before .before .before .before .args .table .now)) (c .before .before .before .before .before .before .before .before .before .before .before .field-count .result) (getD (c .before .before .before .before .before .before .before .before .before .before .before .before .before .before .before .before .before .args .index .now) (c .before .before .before .before .before .before .before .before .before .before .before .before .before .before .before .before .before .args .g) 0 + 16) (c .before .before .before .before .before .before .before .before .before .before .loop .i) (c .before .before .before .before .before .before .before .before .before .loop-test .taken) (schema (c .before .before .before .before .before .before .before .before .before .before .before .before .before .before .before .before .before .args .table .now)) (fieldsOf (schema (c .before .before .before .before .before .before .before .before .before .before .before .before .before .before .before .before .before .args .table .now)) (c .before .before .before .before .before .before .before .before .before .before .before .before .before .before .before .before .before .args .g)) _ _ _ _ _ _ _ _ (c .before .before .before .before .before .before .before .before .field-type .ensures) (c .before .before .before .before .before .before .before .if2 .left) (c .before .before .before .before .before .before .reference .ensures) (c .before .before .before .before .before .group-width .ensures .measured) (c .before .before .before .before .static-width .ensures .0 (enums (c .before .before .before .before .before .before .before .before .before .before .before .before .before .before .before .before .before .args .table .now))) (c .before .before .higher .ensures) (c .before .before .before .before .before .before .before .before .before .before .loop .inv .3), sound-turn (c .before .before .before .before .before .before .before .before .before .before .before .before .before .before .before .before .before .args .table .now) (enums (c .before .before .before .before .before .before .before .before .before .before .before .before .before .before .before .before .before .args .table .now)) (c .before .before .before .before .before .before .before .before .before .before .before .field-count .result) (getD (c .before .before .before .before .before .before .before .before .before .before .before .before .before .before .before .before .before .args .index .now) (c .before .before .before .before .before .before .before .before .before .before .before .before .before .before .before .before .before .args .g) 0 + 16) (c .before .before .before .before .before .before .before .before .before .before .loop .i) (c .before .before .before .before .before .before .before .before .before .loop-test .taken) (length (schema (c .before .before .before .before .before .before .before .before .before .before .before .before .before .before .before .before .before .args .table .now))) (c .before .before .before .before .before .before .before .before .before .before .before .before .before .before .before .before .before .args .g) (c .before .before .before .before .before .before .before .before .before .before .loop .inv .4))
 
 group-width-returns-2 : (t : ℕ) → group-width-lts.Need-returns-2 (group-width-claims t) (group-width-at t) group-width.Post group-width-Inv-loop group-width-μ-loop
 group-width-returns-2 t c = record { measured = summed-all (schema (c .before .before .before .before .before .before .before .before .args .table .now)) (c .before .before .before .before .before .before .before .before .args .g) _ _ _ (rw (fields-none (enums (c .before .before .before .before .before .before .before .before .args .table .now)) (c .before .before .field-count .result) (c .before .loop .i) (drop ((getD (c .before .before .before .before .before .before .before .before .args .index .now) (c .before .before .before .before .before .before .before .before .args .g) 0 + 16) + 16 * c .before .loop .i) (c .before .before .before .before .before .before .before .before .args .table .now)) (c .loop-test .left)) at (c .before .loop .inv .3)); narrow = λ q. absurd (omega (arith, q, c .before .before .before .before .before .if1 .left)); low = λ q. absurd (omega (arith, q, c .before .before .before .before .before .if1 .left)); width = omega (arith, c .before .loop .inv .1, c .before .loop .inv .0, c .before .before .field-count .ensures .1); depth = c .before .loop .inv .2 }
@@ -160,4 +164,4 @@ pub +group-width-spec : {M : Type 1} → statement M
 +group-width-spec = close μ-group-width λ t. group-width-lts.spec (group-width-claims t) (group-width-at t)
     group-width.Post
     group-width-Inv-loop
-    group-width-μ-loop (group-width-add-t14 t) (group-width-mul-t15 t) (group-width-shared-slice-read-t17 t) (group-width-cast-t18 t) (group-width-add-t19 t) (group-width-mul-t20 t) (group-width-shared-slice-read-t22 t) (group-width-cast-t23 t) (group-width-returns t) (group-width-mul-first t) (group-width-shared-slice-read-first t) (group-width-cast-first t) (group-width-add-first t) (group-width-mul-field-count t) (group-width-shared-slice-read-field-count t) (group-width-cast-field-count t) (group-width-field-count-requires t) (group-width-loop-holds t) (group-width-mul-p t) (group-width-add-p t) (λ c. search needs) (group-width-field-type-requires t) (group-width-field-width-requires t) (group-width-add-width t) (λ c. search needs) (group-width-loop-again t) (group-width-reference-requires t) (group-width-group-width-requires t) (group-width-field-width-requires-2 t) (group-width-add-width-2 t) (group-width-add-higher t) (λ c κs. search needs) (λ c. search needs) (group-width-loop-again-2 t) (group-width-returns-2 t)
+    group-width-μ-loop (group-width-add-t14 t) (group-width-mul-t15 t) (group-width-shared-slice-read-t17 t) (group-width-cast-t18 t) (group-width-add-t19 t) (group-width-mul-t20 t) (group-width-shared-slice-read-t22 t) (group-width-cast-t23 t) (group-width-returns t) (group-width-mul-first t) (group-width-shared-slice-read-first t) (group-width-cast-first t) (group-width-add-first t) (group-width-mul-field-count t) (group-width-shared-slice-read-field-count t) (group-width-cast-field-count t) (group-width-field-count-requires t) (group-width-loop-holds t) (group-width-mul-p t) (group-width-add-p t) (λ c. search needs) (group-width-field-type-requires t) (group-width-field-width-requires t) (group-width-add-width t) (λ c. search needs) (group-width-loop-again t) (group-width-reference-requires t) (group-width-group-width-requires t) (group-width-static-width-requires t) (group-width-add-width-2 t) (group-width-add-higher t) (λ c κs. search needs) (λ c. search needs) (group-width-loop-again-2 t) (group-width-returns-2 t)

@@ -3,7 +3,7 @@ use lib.ListN.{drop}
 use lib.Seq.{getD-drop}
 use borrow.Author.Needs.{needs}
 use borrow.Author.Tests.{not-true, not-false}
-use Rattle.table.proofs.Laws.{in-range, need-yes, need-no}
+use Rattle.table.proofs.Laws.{need-yes, need-no, in-range}
 use Rattle.schema.specs.Table.{fieldVerdict}
 use Rattle.table.proofs.check_field.Statement.{statement}
 use Rattle.table.proofs.check_field.Tie as tie

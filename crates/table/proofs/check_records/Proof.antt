@@ -3,9 +3,9 @@ use Prim.Native.Nat.{_-_, _*_, _≤_}
 use native.Mathlib.Omega.{arith}
 use lib.ListN.{length, drop}
 use borrow.Author.Needs.{needs}
+use Rattle.table.proofs.Laws.{also-pass, also-stop}
 use Rattle.table.proofs.Records.{records-turn, records-start, records-end, left-start, left-turn, Left}
 use Rattle.schema.specs.Table.{enums, schema, recordCount, recordsVerdict, recordsFrom}
-use Rattle.table.proofs.Laws.{also-pass, also-stop}
 use Rattle.table.proofs.check_records.Statement.{statement}
 use Rattle.table.proofs.check_records.Tie as tie
 

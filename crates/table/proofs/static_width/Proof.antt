@@ -4,11 +4,11 @@ use native.Mathlib.Omega.{arith}
 use lib.Seq.{getD-drop}
 use borrow.Author.Needs.{needs}
 use borrow.Author.Tests.{eq-eqb, ne-eqb}
+use Rattle.table.proofs.Laws.{cond-yes, cond-no}
 use Rattle.schema.specs.Schema.{fieldWidth}
 use Rattle.schema.specs.Table.{fieldAt}
-use Rattle.table.proofs.Laws.{cond-yes, cond-no}
-use Rattle.table.proofs.field_width.Statement.{statement}
-use Rattle.table.proofs.field_width.Tie as tie
+use Rattle.table.proofs.static_width.Statement.{statement}
+use Rattle.table.proofs.static_width.Tie as tie
 
 returns : tie.Need-returns
 unfolding fieldAt fieldWidth
@@ -18,7 +18,7 @@ returns-2 : tie.Need-returns-2
 unfolding fieldAt fieldWidth
 returns-2 c = (λ es. c .before .before .value-width .ensures .0 es ∙ sym (cond-no _ _ _ (ne-eqb _ _ (λ e. c .if1 .left (sym (getD-drop (c .before .before .before .before .args .p) (c .before .before .before .before .args .table .now) 3 0) ∙ e)))), omega (arith, c .before .before .value-width .ensures .1))
 
-pub field-width-spec : {M : Type 1} → statement M
-field-width-spec =
+pub static-width-spec : {M : Type 1} → statement M
+static-width-spec =
     tie.close
     (tie.spec (λ c κs. search needs) (λ c. search needs) (λ c. search needs) (λ c. search needs) returns returns-2)

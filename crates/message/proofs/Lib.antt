@@ -12,3 +12,8 @@ pub mod Agree
 pub mod Accepted
 pub mod Eleven
 pub mod Ids
+pub mod CheckAnswers
+pub mod CheckPlaces
+pub mod CheckValues
+pub mod CheckFields
+pub mod CheckGroups

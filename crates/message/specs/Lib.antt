@@ -2,6 +2,7 @@ pub mod Marks
 pub mod Sheet
 pub mod Walk
 pub mod Count
+pub mod Check
 pub mod Text
 pub mod Conforms
 pub mod Proper

@@ -1,1 +1,868 @@
-// A message under its schema: what it means, and when it is one.
+// A message under its schema: whether it is one, and how long its sheet is.
+//
+// The check walks a message once, in the order of document 01, and keeps which bytes of a group are
+// taken in the scratch that the caller lends. `index` is that of crate `schema`. Functions count the
+// sheet's length on from `before`, what comes before them.
+ghost use mathlib.Core.Path.{_≡_};
+ghost use mathlib.Core.Bool.{true, not, _||_};
+ghost use mathlib.Core.List.{List, []};
+ghost use Prim.Native.Nat.{ℕ, _+_, _*_, _%_, _<_, _≤_, _^_};
+ghost use lib.ListN.{length, take, drop, getD, replicate};
+ghost use lib.Dec.{eqb};
+ghost use Rattle.wire.specs.Bytes.{part, splice};
+ghost use Rattle.schema.specs.Schema.{textOk, inline, known, kindWidth, valueWidth, fieldWidth, shallowKind, shallow};
+ghost use Rattle.schema.specs.Table.{fieldAt, enums, schema};
+ghost use Rattle.schema.specs.Layout.{widthIn, Layout};
+ghost use Rattle.schema.specs.FieldKinds.{kindFrom, testedKind};
+ghost use Rattle.message.specs.Marks.{mark, padsZero, padsBefore};
+ghost use Rattle.message.specs.Sheet.{Mark, ST};
+ghost use Rattle.message.specs.Walk.{Here, Reader, Inner, byte, here, strict, markedR, optionalR, inlineR, indirectR, textR, innerR, locate, itemsR, fieldR, extendingR, extensionR, extensionIn, bodyR, groupR, next, walk};
+ghost use Rattle.message.specs.Count.{count, andThen, counted};
+ghost use Rattle.message.specs.Check.{countOf, after, placeOf, Lands, within, itemR, markedValueR, innerOf, widthOf, staticOf, Ready};
+
+// What a walk finds: the sheet's length so far, or the first fault.
+pub enum Walked {
+    Counted { length: usize },
+    Refused { number: u8, place: usize },
+}
+
+// Where an offset leads: a value's place and its count or size word, or a fault.
+pub enum Located {
+    At { place: usize, count: usize },
+    Nowhere { number: u8, place: usize },
+}
+
+// What holds in the whole of a dynamic group: where it starts in the message, where its data area
+// starts in its own bytes, and how many levels are left below it.
+pub struct Frame {
+    base: usize,
+    area: usize,
+    levels: usize,
+}
+
+fn wide(x: u8) -> usize
+    ensures { λ r. ⌜ (r ≡ x) × (r < 256) ⌝ }
+{
+    x as usize
+}
+
+// The sheet's length, some bytes further. No sheet is as long as 64 bits can say, which is shown of
+// the whole message; the walk need not know.
+fn longer(length: usize, by: usize) -> usize
+    ensures { λ r. ⌜ r ≡ (length + by) % 2 ^ 64 ⌝ }
+{
+    std::num::wrapping_add_usize(length, by)
+}
+
+// THE DATA AREA
+
+// "Offset: 5, 26 for the count or size word, 26 or 13 for the rest, 27": what is found is taken.
+fn locate(
+    bytes: &[u8],
+    marks: &mut [u8],
+    frame: Frame,
+    at: usize,
+    past: u8,
+    width: usize,
+) -> Located
+    requires { ⌜ (length (now marks) ≡ length (now bytes)) × (frame .base + length (now bytes) ≤ 65536) × (at + 4 ≤ length (now bytes)) × (width ≤ 4096) ⌝ }
+    ensures { λ r. ⌜ (placeOf r (now (marks .exit)) ≡ locate past width (within (now (bytes .entry)) frame) at (now (marks .entry))) × Lands width (now (bytes .entry)) (now (marks .exit)) r ⌝ }
+{
+    let place = at + wire::read_u32(bytes, at);
+    if place < frame.area {
+        return Located::Nowhere {
+            number: 5,
+            place: frame.base + at,
+        };
+    }
+    if bytes.len() <= place {
+        return Located::Nowhere {
+            number: 5,
+            place: frame.base + at,
+        };
+    }
+    if bytes.len() < place + 4 {
+        return Located::Nowhere {
+            number: 26,
+            place: frame.base + place,
+        };
+    }
+    let count = wire::read_u32(bytes, place);
+    let size = 4 + count * width;
+    if bytes.len() < place + size {
+        return Located::Nowhere {
+            number: past,
+            place: frame.base + place,
+        };
+    }
+    if wire::all_zero(marks, place, size) {
+        wire::fill(marks, place, size, 1);
+        return Located::At { place, count };
+    }
+    Located::Nowhere {
+        number: 27,
+        place: frame.base + place,
+    }
+}
+
+// A byte that a value took, or a pad byte that is zero.
+fn is_clean(mark: u8, byte: u8) -> bool
+    ensures { λ r. ⌜ r ≡ not (eqb mark 0) || eqb byte 0 ⌝ }
+{
+    mark != 0 || byte == 0
+}
+
+// Whether every pad byte from `at` on is zero. The loop has no early exit, so that it becomes vector
+// code.
+fn pads_zero(marks: &[u8], bytes: &[u8], at: usize) -> bool
+    requires { ⌜ (length (now marks) ≡ length (now bytes)) × (at ≤ length (now bytes)) ⌝ }
+    ensures { λ r. ⌜ r ≡ padsZero (drop at (now (marks .entry))) (drop at (now (bytes .entry))) ⌝ }
+{
+    let mut zero = true;
+    let mut i = at;
+    while i < bytes.len() {
+        zero = zero & is_clean(marks[i], bytes[i]);
+        i += 1;
+    }
+    zero
+}
+
+// How many bytes from `at` on stand before the first pad byte that is not zero.
+fn pads_before(marks: &[u8], bytes: &[u8], at: usize) -> usize
+    requires { ⌜ (length (now marks) ≡ length (now bytes)) × (at ≤ length (now bytes)) ⌝ }
+    ensures { λ r. ⌜ (r ≡ padsBefore (drop at (now (marks .entry))) (drop at (now (bytes .entry)))) × (at + r ≤ length (now (bytes .entry))) ⌝ }
+{
+    let mut i = at;
+    while i < bytes.len() {
+        if !is_clean(marks[i], bytes[i]) {
+            return i - at;
+        }
+        i += 1;
+    }
+    i - at
+}
+
+// VALUES THAT HOLD NO OTHER
+
+fn is_text(utf8: bool, bytes: &[u8], at: usize, count: usize) -> bool
+    requires { ⌜ at + count ≤ length (now bytes) ⌝ }
+    ensures { λ r. ⌜ r ≡ textOk utf8 (part count at (now (bytes .entry))) ⌝ }
+{
+    if utf8 {
+        let end = at + count;
+        return wire::is_utf8(&bytes[at..end]);
+    }
+    true
+}
+
+// "10, 11, 12: no such symbol; bool or flag not 0, 1; 24 hours or more"
+fn check_number(
+    table: &[u8],
+    index: &[u16],
+    bytes: &[u8],
+    base: usize,
+    tested: schema::Tested,
+    at: usize,
+    before: usize,
+) -> Walked
+    requires { ⌜ (Layout (now table) (now index)) × (at + kindWidth (widthIn (now index)) (testedKind (enums (now table)) tested) ≤ length (now bytes)) × (base + length (now bytes) ≤ 65536) ⌝ }
+    ensures { λ r. ⌜ ((I : Inner) (S : ℕ → Reader) (area : ℕ) (m : List ℕ) → countOf r m ≡ after before (count (itemR I S (testedKind (enums (now (table .entry))) tested) (here strict (now (bytes .entry)) base area) at m))) ⌝ }
+{
+    let fault = schema::test_fault(table, index, tested, bytes, at);
+    if fault != 0 {
+        return Walked::Refused {
+            number: fault,
+            place: base + at,
+        };
+    }
+    Walked::Counted {
+        length: longer(before, 2 + wide(schema::tested_width(tested))),
+    }
+}
+
+// "Inline text: 7, 8, 9."
+fn check_inline(
+    bytes: &[u8],
+    base: usize,
+    utf8: bool,
+    capacity: u8,
+    at: usize,
+    before: usize,
+) -> Walked
+    requires { ⌜ (at + (capacity + 1) ≤ length (now bytes)) × (base + length (now bytes) ≤ 65536) ⌝ }
+    ensures { λ r. ⌜ ((I : Inner) (S : ℕ → Reader) (area : ℕ) (m : List ℕ) → countOf r m ≡ after before (count (itemR I S (inline utf8 capacity) (here strict (now (bytes .entry)) base area) at m))) ⌝ }
+{
+    let room = wide(capacity);
+    let count = wide(bytes[at]);
+    if room < count {
+        return Walked::Refused {
+            number: 7,
+            place: base + at,
+        };
+    }
+    let end = at + 1 + count;
+    if wire::all_zero(bytes, end, room - count) {
+        if is_text(utf8, bytes, at + 1, count) {
+            return Walked::Counted {
+                length: longer(before, 6 + count),
+            };
+        }
+        return Walked::Refused {
+            number: 9,
+            place: base + (at + 1),
+        };
+    }
+    Walked::Refused {
+        number: 8,
+        place: base + end + wire::count_zeros(bytes, end, room - count),
+    }
+}
+
+// "Indirect string: u32 count and bytes."
+fn check_text(
+    bytes: &[u8],
+    marks: &mut [u8],
+    frame: Frame,
+    utf8: bool,
+    at: usize,
+    before: usize,
+) -> Walked
+    requires { ⌜ (length (now marks) ≡ length (now bytes)) × (frame .base + length (now bytes) ≤ 65536) × (at + 4 ≤ length (now bytes)) ⌝ }
+    ensures { λ r. ⌜ countOf r (now (marks .exit)) ≡ after before (count (markedR ST (indirectR 26 1 (textR utf8)) (within (now (bytes .entry)) frame) at (now (marks .entry)))) ⌝ }
+{
+    let found = locate(bytes, marks, frame, at, 26, 1);
+    match found {
+        Located::At { place, count } => {
+            if is_text(utf8, bytes, place + 4, count) {
+                return Walked::Counted {
+                    length: longer(before, 6 + count),
+                };
+            }
+            Walked::Refused {
+                number: 9,
+                place: frame.base + (place + 4),
+            }
+        }
+        Located::Nowhere { number, place } => Walked::Refused { number, place },
+    }
+}
+
+// An optional field whose flag is not 1: "11 on its flag, 4", or absent.
+fn check_absent(bytes: &[u8], base: usize, at: usize, width: usize, before: usize) -> Walked
+    requires { ⌜ (byte at (now bytes) ≡ 1 → ⊥) × (at + (width + 1) ≤ length (now bytes)) × (base + length (now bytes) ≤ 65536) ⌝ }
+    ensures { λ r. ⌜ ((k : Mark) (R : Reader) (area : ℕ) (m : List ℕ) → countOf r m ≡ after before (count (optionalR k width R (here strict (now (bytes .entry)) base area) at m))) ⌝ }
+{
+    if bytes[at] != 0 {
+        return Walked::Refused {
+            number: 11,
+            place: base + at,
+        };
+    }
+    if wire::all_zero(bytes, at + 1, width) {
+        return Walked::Counted {
+            length: longer(before, 2),
+        };
+    }
+    Walked::Refused {
+        number: 4,
+        place: base + (at + 1) + wire::count_zeros(bytes, at + 1, width),
+    }
+}
+
+// Whether the extension's offset, which stands at 12, is zero or leads into the data area.
+fn extension_inside(bytes: &[u8], area: usize) -> bool
+    requires { ⌜ 16 ≤ length (now bytes) ⌝ }
+    ensures { λ r. ⌜ ((base : ℕ) → r ≡ extensionIn (here strict (now (bytes .entry)) base area) 12) ⌝ }
+{
+    let offset = wire::read_u32(bytes, 12);
+    if offset == 0 {
+        return true;
+    }
+    if 12 + offset < area {
+        return false;
+    }
+    12 + offset < bytes.len()
+}
+
+// GROUPS, FIELDS AND ITEMS
+
+// "Group: 1, 2, 25, 24": the head of the group that `bytes` are, with `levels` left for it. `allowed`
+// is the number of the dynamic kind that names it.
+fn check_group(
+    table: &[u8],
+    index: &[u16],
+    bytes: &[u8],
+    marks: &mut [u8],
+    base: usize,
+    levels: usize,
+    allowed: usize,
+    before: usize,
+) -> Walked
+    requires { ⌜ Ready (now table) (now index) (now bytes) (now marks) base ⌝ }
+    ensures { λ r. ⌜ countOf r [] ≡ after before (count (groupR strict (schema (now (table .entry))) levels allowed base (now (bytes .entry)))) ⌝ }
+{
+    if bytes.len() < 16 {
+        return Walked::Refused {
+            number: 1,
+            place: base,
+        };
+    }
+    let total = schema::group_total(index);
+    let group = schema::find(table, index, total, wire::read_u64(bytes, 4));
+    if total <= group {
+        return Walked::Refused {
+            number: 2,
+            place: base,
+        };
+    }
+    if schema::allows(table, index, allowed, group) {
+        if levels == 0 {
+            return Walked::Refused {
+                number: 24,
+                place: base,
+            };
+        }
+        return check_body(table, index, bytes, marks, base, levels - 1, group, before);
+    }
+    Walked::Refused {
+        number: 25,
+        place: base,
+    }
+}
+
+// "14, 3, fields in order, extension, 6", with so many levels left below the group.
+fn check_body(
+    table: &[u8],
+    index: &[u16],
+    bytes: &[u8],
+    marks: &mut [u8],
+    base: usize,
+    levels: usize,
+    group: usize,
+    before: usize,
+) -> Walked
+    requires { ⌜ (Ready (now table) (now index) (now bytes) (now marks) base) × (16 ≤ length (now bytes)) × (group < length (schema (now table))) ⌝ }
+    ensures { λ r. ⌜ countOf r [] ≡ after before (count (bodyR strict (schema (now (table .entry))) (innerOf (now (table .entry)) levels) group base (now (bytes .entry)))) ⌝ }
+{
+    let area = 16 + schema::group_width(index, group);
+    if bytes.len() < area {
+        return Walked::Refused {
+            number: 14,
+            place: base,
+        };
+    }
+    if !extension_inside(bytes, area) {
+        return Walked::Refused {
+            number: 3,
+            place: base + 12,
+        };
+    }
+    clear(marks);
+    let frame = Frame { base, area, levels };
+    let contents = check_contents(table, index, bytes, marks, frame, group, longer(before, 8));
+    match contents {
+        Walked::Counted { length } => {
+            if pads_zero(marks, bytes, area) {
+                return Walked::Counted {
+                    length: longer(length, 2),
+                };
+            }
+            Walked::Refused {
+                number: 6,
+                place: base + area + pads_before(marks, bytes, area),
+            }
+        }
+        Walked::Refused { number, place } => Walked::Refused { number, place },
+    }
+}
+
+fn check_contents(
+    table: &[u8],
+    index: &[u16],
+    bytes: &[u8],
+    marks: &mut [u8],
+    frame: Frame,
+    group: usize,
+    before: usize,
+) -> Walked
+    requires { ⌜ (Ready (now table) (now index) (now bytes) (now marks) (frame .base)) × (16 + widthOf (now table) 5 group ≤ length (now bytes)) × (group < length (schema (now table))) ⌝ }
+    ensures { λ r. ⌜ countOf r (now (marks .exit)) ≡ after before (count (next (staticOf (now (table .entry)) (frame .levels) 5 group (within (now (bytes .entry)) frame) 16 (now (marks .entry))) (λ m. extensionR (schema (now (table .entry))) (innerOf (now (table .entry)) (frame .levels)) (within (now (bytes .entry)) frame) 12 m))) ⌝ }
+{
+    let fields = check_fields(table, index, bytes, marks, frame, 5, group, 16, before);
+    match fields {
+        Walked::Counted { length } => check_extension(table, index, bytes, marks, frame, length),
+        Walked::Refused { number, place } => Walked::Refused { number, place },
+    }
+}
+
+// The fields of a group whose static depth is below `depth`. Those that need no test are passed over
+// here, without a call.
+fn check_fields(
+    table: &[u8],
+    index: &[u16],
+    bytes: &[u8],
+    marks: &mut [u8],
+    frame: Frame,
+    depth: usize,
+    group: usize,
+    at: usize,
+    before: usize,
+) -> Walked
+    requires { ⌜ (Ready (now table) (now index) (now bytes) (now marks) (frame .base)) × (at + widthOf (now table) depth group ≤ length (now bytes)) × (group < length (schema (now table))) × (shallow (schema (now table)) depth group ≡ true) ⌝ }
+    ensures { λ r. ⌜ countOf r (now (marks .exit)) ≡ after before (count (staticOf (now (table .entry)) (frame .levels) depth group (within (now (bytes .entry)) frame) at (now (marks .entry)))) ⌝ }
+{
+    let start = schema::group_place(index, group);
+    let total = schema::field_count(table, start);
+    let deeper = depth - 1;
+    let mut i = 0;
+    let mut field = start + 16;
+    let mut place = at;
+    let mut length = before;
+    while i < total {
+        let plain = schema::plain_width(table, field);
+        if plain != 0 {
+            length = longer(length, 2 + plain);
+            place += plain;
+            field += 16;
+            i += 1;
+            continue;
+        }
+        let width = schema::field_width(table, index, field);
+        let answer = check_field(
+            table,
+            index,
+            bytes,
+            marks,
+            frame,
+            deeper,
+            field,
+            place,
+            length,
+        );
+        match answer {
+            Walked::Counted { length: now } => {
+                length = now;
+            }
+            Walked::Refused { number, place } => {
+                return Walked::Refused { number, place };
+            }
+        }
+        place += width;
+        field += 16;
+        i += 1;
+    }
+    Walked::Counted { length }
+}
+
+// "Field: 11 on its flag, 4, then its value": the field whose record stands at `field` of the table.
+fn check_field(
+    table: &[u8],
+    index: &[u16],
+    bytes: &[u8],
+    marks: &mut [u8],
+    frame: Frame,
+    depth: usize,
+    field: usize,
+    at: usize,
+    before: usize,
+) -> Walked
+    requires { ⌜ (Ready (now table) (now index) (now bytes) (now marks) (frame .base)) × (field + 16 ≤ length (now table)) × (at + fieldWidth (widthOf (now table) depth) (fieldAt (enums (now table)) (drop field (now table))) ≤ length (now bytes)) × (shallowKind (shallow (schema (now table)) depth) (widthOf (now table) depth) (fieldAt (enums (now table)) (drop field (now table)) .kind) ≡ true) ⌝ }
+    ensures { λ r. ⌜ countOf r (now (marks .exit)) ≡ after before (count (fieldR (innerOf (now (table .entry)) (frame .levels)) (widthOf (now (table .entry)) depth) (staticOf (now (table .entry)) (frame .levels) depth) (fieldAt (enums (now (table .entry))) (drop field (now (table .entry)))) (within (now (bytes .entry)) frame) at (now (marks .entry)))) ⌝ }
+{
+    if schema::is_optional(table, field) {
+        let width = schema::value_width(table, index, field);
+        if bytes[at] != 1 {
+            return check_absent(bytes, frame.base, at, width, before);
+        }
+        return check_value(
+            table,
+            index,
+            bytes,
+            marks,
+            frame,
+            depth,
+            field,
+            at + 1,
+            before,
+        );
+    }
+    check_value(table, index, bytes, marks, frame, depth, field, at, before)
+}
+
+fn check_value(
+    table: &[u8],
+    index: &[u16],
+    bytes: &[u8],
+    marks: &mut [u8],
+    frame: Frame,
+    depth: usize,
+    field: usize,
+    at: usize,
+    before: usize,
+) -> Walked
+    requires { ⌜ (Ready (now table) (now index) (now bytes) (now marks) (frame .base)) × (field + 16 ≤ length (now table)) × (at + valueWidth (widthOf (now table) depth) (fieldAt (enums (now table)) (drop field (now table))) ≤ length (now bytes)) × (shallowKind (shallow (schema (now table)) depth) (widthOf (now table) depth) (fieldAt (enums (now table)) (drop field (now table)) .kind) ≡ true) ⌝ }
+    ensures { λ r. ⌜ countOf r (now (marks .exit)) ≡ after before (count (markedValueR (innerOf (now (table .entry)) (frame .levels)) (widthOf (now (table .entry)) depth) (staticOf (now (table .entry)) (frame .levels) depth) (fieldAt (enums (now (table .entry))) (drop field (now (table .entry)))) (within (now (bytes .entry)) frame) at (now (marks .entry)))) ⌝ }
+{
+    let kind = schema::kind_at(table, field);
+    if schema::is_sequence(table, field) {
+        let width = schema::kind_width(index, kind);
+        let found = locate(bytes, marks, frame, at, 13, width);
+        match found {
+            Located::At { place, count } => {
+                return check_items(
+                    table,
+                    index,
+                    bytes,
+                    marks,
+                    frame,
+                    depth,
+                    kind,
+                    width,
+                    count,
+                    place + 4,
+                    longer(before, 6),
+                );
+            }
+            Located::Nowhere { number, place } => {
+                return Walked::Refused { number, place };
+            }
+        }
+    }
+    check_item(table, index, bytes, marks, frame, depth, kind, at, before)
+}
+
+// So many items, each of `width` bytes. Plain values need no test, and are only counted.
+fn check_items(
+    table: &[u8],
+    index: &[u16],
+    bytes: &[u8],
+    marks: &mut [u8],
+    frame: Frame,
+    depth: usize,
+    kind: schema::FieldKind,
+    width: usize,
+    total: usize,
+    at: usize,
+    before: usize,
+) -> Walked
+    requires { ⌜ (Ready (now table) (now index) (now bytes) (now marks) (frame .base)) × (at + total * width ≤ length (now bytes)) × (total < 2 ^ 32) × (width ≤ 4096) × (width ≡ kindWidth (widthOf (now table) depth) (kindFrom (enums (now table)) kind)) × (shallowKind (shallow (schema (now table)) depth) (widthOf (now table) depth) (kindFrom (enums (now table)) kind) ≡ true) ⌝ }
+    ensures { λ r. ⌜ countOf r (now (marks .exit)) ≡ after before (count (itemsR width (itemR (innerOf (now (table .entry)) (frame .levels)) (staticOf (now (table .entry)) (frame .levels) depth) (kindFrom (enums (now (table .entry))) kind)) total (within (now (bytes .entry)) frame) at (now (marks .entry)))) ⌝ }
+{
+    if let schema::FieldKind::Plain { width: plain } = kind {
+        return Walked::Counted {
+            length: longer(before, total * (2 + wide(plain))),
+        };
+    }
+    let mut i = 0;
+    let mut place = at;
+    let mut length = before;
+    while i < total {
+        let item = check_item(
+            table,
+            index,
+            bytes,
+            marks,
+            frame,
+            depth,
+            kind,
+            place,
+            length,
+        );
+        match item {
+            Walked::Counted { length: now } => {
+                length = now;
+            }
+            Walked::Refused { number, place } => {
+                return Walked::Refused { number, place };
+            }
+        }
+        place += width;
+        i += 1;
+    }
+    Walked::Counted { length }
+}
+
+fn check_item(
+    table: &[u8],
+    index: &[u16],
+    bytes: &[u8],
+    marks: &mut [u8],
+    frame: Frame,
+    depth: usize,
+    kind: schema::FieldKind,
+    at: usize,
+    before: usize,
+) -> Walked
+    requires { ⌜ (Ready (now table) (now index) (now bytes) (now marks) (frame .base)) × (at + kindWidth (widthOf (now table) depth) (kindFrom (enums (now table)) kind) ≤ length (now bytes)) × (shallowKind (shallow (schema (now table)) depth) (widthOf (now table) depth) (kindFrom (enums (now table)) kind) ≡ true) ⌝ }
+    ensures { λ r. ⌜ countOf r (now (marks .exit)) ≡ after before (count (itemR (innerOf (now (table .entry)) (frame .levels)) (staticOf (now (table .entry)) (frame .levels) depth) (kindFrom (enums (now (table .entry))) kind) (within (now (bytes .entry)) frame) at (now (marks .entry)))) ⌝ }
+{
+    match kind {
+        schema::FieldKind::Plain { width } => Walked::Counted {
+            length: longer(before, 2 + wide(width)),
+        },
+        schema::FieldKind::Number { tested } => check_number(
+            table,
+            index,
+            bytes,
+            frame.base,
+            tested,
+            at,
+            before,
+        ),
+        schema::FieldKind::Inline { utf8, capacity } => check_inline(
+            bytes,
+            frame.base,
+            utf8,
+            capacity,
+            at,
+            before,
+        ),
+        schema::FieldKind::Indirect { utf8 } => check_text(bytes, marks, frame, utf8, at, before),
+        schema::FieldKind::Static { group } => check_fields(
+            table,
+            index,
+            bytes,
+            marks,
+            frame,
+            depth,
+            group,
+            at,
+            longer(before, 2),
+        ),
+        schema::FieldKind::Dynamic { allowed } => check_dynamic(
+            table,
+            index,
+            bytes,
+            marks,
+            frame,
+            allowed,
+            at,
+            longer(before, 2),
+        ),
+    }
+}
+
+fn check_dynamic(
+    table: &[u8],
+    index: &[u16],
+    bytes: &[u8],
+    marks: &mut [u8],
+    frame: Frame,
+    allowed: usize,
+    at: usize,
+    before: usize,
+) -> Walked
+    requires { ⌜ (Ready (now table) (now index) (now bytes) (now marks) (frame .base)) × (at + 4 ≤ length (now bytes)) ⌝ }
+    ensures { λ r. ⌜ countOf r (now (marks .exit)) ≡ after before (count (indirectR 26 1 (innerR (innerOf (now (table .entry)) (frame .levels)) allowed) (within (now (bytes .entry)) frame) at (now (marks .entry)))) ⌝ }
+{
+    let found = locate(bytes, marks, frame, at, 26, 1);
+    match found {
+        Located::At { place, count } => check_nested(
+            table,
+            index,
+            bytes,
+            marks,
+            frame,
+            allowed,
+            place,
+            4 + count,
+            before,
+        ),
+        Located::Nowhere { number, place } => Walked::Refused { number, place },
+    }
+}
+
+// The dynamic group of `size` bytes at `start`, which are taken: its own marks stand there while it is
+// walked.
+fn check_nested(
+    table: &[u8],
+    index: &[u16],
+    bytes: &[u8],
+    marks: &mut [u8],
+    frame: Frame,
+    allowed: usize,
+    start: usize,
+    size: usize,
+    before: usize,
+) -> Walked
+    requires { ⌜ (Ready (now table) (now index) (now bytes) (now marks) (frame .base)) × (start + size ≤ length (now bytes)) × (mark start size (now marks) ≡ now marks) ⌝ }
+    ensures { λ r. ⌜ countOf r (now (marks .exit)) ≡ after before (andThen (count (innerOf (now (table .entry)) (frame .levels) allowed (frame .base + start) (part size start (now (bytes .entry))))) (λ _. counted 0 (now (marks .entry)))) ⌝ }
+{
+    let end = start + size;
+    let group = check_group(
+        table,
+        index,
+        &bytes[start..end],
+        &mut marks[start..end],
+        frame.base + start,
+        frame.levels,
+        allowed,
+        before,
+    );
+    match group {
+        Walked::Counted { length } => {
+            wire::fill(marks, start, size, 1);
+            Walked::Counted { length }
+        }
+        Walked::Refused { number, place } => Walked::Refused { number, place },
+    }
+}
+
+// "An extension is a sequence of any groups", and one of no groups means the same as none.
+fn check_extension(
+    table: &[u8],
+    index: &[u16],
+    bytes: &[u8],
+    marks: &mut [u8],
+    frame: Frame,
+    before: usize,
+) -> Walked
+    requires { ⌜ (Ready (now table) (now index) (now bytes) (now marks) (frame .base)) × (16 ≤ length (now bytes)) ⌝ }
+    ensures { λ r. ⌜ countOf r (now (marks .exit)) ≡ after before (count (extensionR (schema (now (table .entry))) (innerOf (now (table .entry)) (frame .levels)) (within (now (bytes .entry)) frame) 12 (now (marks .entry)))) ⌝ }
+{
+    if wire::read_u32(bytes, 12) == 0 {
+        return Walked::Counted { length: before };
+    }
+    let found = locate(bytes, marks, frame, 12, 13, 4);
+    match found {
+        Located::At { place, count } => {
+            if count == 0 {
+                return Walked::Counted { length: before };
+            }
+            check_groups(
+                table,
+                index,
+                bytes,
+                marks,
+                frame,
+                count,
+                place + 4,
+                longer(before, 6),
+            )
+        }
+        Located::Nowhere { number, place } => Walked::Refused { number, place },
+    }
+}
+
+fn check_groups(
+    table: &[u8],
+    index: &[u16],
+    bytes: &[u8],
+    marks: &mut [u8],
+    frame: Frame,
+    total: usize,
+    at: usize,
+    before: usize,
+) -> Walked
+    requires { ⌜ (Ready (now table) (now index) (now bytes) (now marks) (frame .base)) × (at + total * 4 ≤ length (now bytes)) ⌝ }
+    ensures { λ r. ⌜ countOf r (now (marks .exit)) ≡ after before (count (itemsR 4 (indirectR 26 1 (extendingR (schema (now (table .entry))) (innerOf (now (table .entry)) (frame .levels)))) total (within (now (bytes .entry)) frame) at (now (marks .entry)))) ⌝ }
+{
+    let mut i = 0;
+    let mut place = at;
+    let mut length = before;
+    while i < total {
+        let group = check_extending(table, index, bytes, marks, frame, place, length);
+        match group {
+            Walked::Counted { length: now } => {
+                length = now;
+            }
+            Walked::Refused { number, place } => {
+                return Walked::Refused { number, place };
+            }
+        }
+        place += 4;
+        i += 1;
+    }
+    Walked::Counted { length }
+}
+
+// A group of the extension; one of unknown type is kept as bytes.
+fn check_extending(
+    table: &[u8],
+    index: &[u16],
+    bytes: &[u8],
+    marks: &mut [u8],
+    frame: Frame,
+    at: usize,
+    before: usize,
+) -> Walked
+    requires { ⌜ (Ready (now table) (now index) (now bytes) (now marks) (frame .base)) × (at + 4 ≤ length (now bytes)) ⌝ }
+    ensures { λ r. ⌜ countOf r (now (marks .exit)) ≡ after before (count (indirectR 26 1 (extendingR (schema (now (table .entry))) (innerOf (now (table .entry)) (frame .levels))) (within (now (bytes .entry)) frame) at (now (marks .entry)))) ⌝ }
+{
+    let found = locate(bytes, marks, frame, at, 26, 1);
+    match found {
+        Located::At { place, count } => {
+            if count < 12 {
+                return Walked::Refused {
+                    number: 1,
+                    place: frame.base + place,
+                };
+            }
+            if is_known(table, index, wire::read_u64(bytes, place + 4)) {
+                return check_nested(
+                    table,
+                    index,
+                    bytes,
+                    marks,
+                    frame,
+                    0,
+                    place,
+                    4 + count,
+                    longer(before, 2),
+                );
+            }
+            Walked::Counted {
+                length: longer(before, 6 + count),
+            }
+        }
+        Located::Nowhere { number, place } => Walked::Refused { number, place },
+    }
+}
+
+fn is_known(table: &[u8], index: &[u16], id: u64) -> bool
+    requires { ⌜ Layout (now table) (now index) ⌝ }
+    ensures { λ r. ⌜ r ≡ known (schema (now (table .entry))) id ⌝ }
+{
+    let total = schema::group_total(index);
+    schema::find(table, index, total, id) < total
+}
+
+fn clear(marks: &mut [u8])
+    ensures { λ _. ⌜ now (marks .exit) ≡ replicate (length (now (marks .entry))) 0 ⌝ }
+{
+    let n = marks.len();
+    wire::fill(marks, 0, n, 0);
+}
+
+// THE MESSAGE
+
+// "22, then the group". The scratch's first bytes, as many as the message has, are zero afterwards.
+pub fn check(table: &[u8], index: &[u16], message: &[u8], scratch: &mut [u8]) -> Walked
+    requires { ⌜ (Layout (now table) (now index)) × (length (now message) ≤ length (now scratch)) × (length (now message) ≤ 65536) ⌝ }
+    ensures { λ r. ⌜ countOf r [] ≡ after 0 (count (walk strict (schema (now (table .entry))) (now (message .entry)))) ⌝ }
+    ensures { λ _. ⌜ now (scratch .exit) ≡ splice (length (now (message .entry))) 0 (replicate (length (now (message .entry))) 0) (now (scratch .entry)) ⌝ }
+{
+    let n = message.len();
+    let answer = check_sized(table, index, message, &mut scratch[0..n]);
+    wire::fill(scratch, 0, n, 0);
+    answer
+}
+
+fn check_sized(table: &[u8], index: &[u16], message: &[u8], marks: &mut [u8]) -> Walked
+    requires { ⌜ (Layout (now table) (now index)) × (length (now marks) ≡ length (now message)) × (length (now message) ≤ 65536) ⌝ }
+    ensures { λ r. ⌜ countOf r [] ≡ after 0 (count (walk strict (schema (now (table .entry))) (now (message .entry)))) ⌝ }
+{
+    if message.len() < 4 {
+        return Walked::Refused {
+            number: 22,
+            place: 0,
+        };
+    }
+    if message.len() != 4 + wire::read_u32(message, 0) {
+        return Walked::Refused {
+            number: 22,
+            place: 0,
+        };
+    }
+    check_group(table, index, message, marks, 0, 8, 0, 2)
+}

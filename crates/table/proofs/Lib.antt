@@ -3,3 +3,4 @@ pub mod Records
 pub mod Widths
 pub mod Formed
 pub mod Accepted
+pub mod Values

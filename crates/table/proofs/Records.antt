@@ -40,6 +40,10 @@ module _ (t : List ℕ) where
   unfolding same
   enum-no-group = other-mark t EN GR
 
+  pub enum-no-symbol : marked EN t ≡ true → marked SY t ≡ false
+  unfolding same
+  enum-no-symbol = other-mark t EN SY
+
   pub group-no-enum : marked GR t ≡ true → marked EN t ≡ false
   unfolding same
   group-no-enum = other-mark t GR EN

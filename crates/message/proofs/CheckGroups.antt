@@ -1,0 +1,218 @@
+-- Dynamic groups, the extension and the whole message: each way through them.
+use Prim.Native.Nat.{ℕ, zero, suc, _+_, _-_, _*_, _%_, _^_, _<_, _≤_}
+use mathlib.Core.Path.{_≡_, refl, sym, ap, _∙_}
+use mathlib.Core.Bool.{Bool, true, false}
+use mathlib.Core.List.{List, [], _++_, append-nil}
+use native.Mathlib.Omega.{arith}
+use native.Mathlib.Nat.{mul-one, add-assoc}
+use lib.ListN.{length, drop, replicate, length-append, drop-of-length-le}
+use borrow.Author.Tests.{lt-ltb, le-ltb, le-leb, lt-leb, eq-eqb, ne-eqb}
+use Rattle.wire.specs.Bytes.{part, splice, le}
+use Rattle.wire.proofs.Laws.{length-part}
+use Rattle.schema.specs.Faults.{need}
+use Rattle.schema.specs.Schema.{Group, textOk, width, find, known, allows}
+use Rattle.message.specs.Marks.{padsZero, padsBefore, mark}
+use Rattle.message.specs.Sheet.{GB, XT, XU, GE}
+use Rattle.message.specs.Walk.{Reading, refused, done, prefixed, next, Here, here, strict, Inner, word, locate, indirectR, innerR, itemsR, listR, textR, staticR, extendingR, groupsR, extensionR, extensionIn, behindR, padded, bodyR, headR, groupR, walk}
+use Rattle.message.specs.Count.{Count, failed, counted, count, more, andThen}
+use Rattle.message.specs.Check.{countOf, after, placeOf}
+use Rattle.message.specs.declared.Walked.{Walked}
+use Rattle.message.specs.declared.Walked.the-variants.{Counted, Refused}
+use Rattle.message.specs.declared.Located.{Located}
+use Rattle.message.specs.declared.Located.the-variants.{At, Nowhere}
+use Rattle.message.proofs.Count.{more-more, count-prefixed, count-marked, count-list, count-inner, length-mark}
+use Rattle.message.proofs.CheckAnswers.{stays, goes-on, passed, stopped, bounded}
+use Rattle.message.proofs.CheckFields.{leads-nowhere, leads-to}
+use Rattle.message.proofs.CheckPlaces.{splice-over}
+
+-- A NESTED GROUP
+
+pub nested-passed : (k : ℕ) (c : Count) (v : Walked) (l : ℕ) (m m′ : List ℕ) → countOf v [] ≡ after k c → v ≡ Counted l → m′ ≡ m → countOf (Counted l) m′ ≡ after k (andThen c (λ _. counted 0 m))
+nested-passed k c v l m m′ s e o =
+    rw (o, passed k c v [] s l (λ _. counted 0 m) e) (stays l (counted 0 m) m refl (bounded k c v [] s l e))
+
+-- the marks of a nested group are gone once its bytes are taken again
+pub marks-again : (m m′ ys : List ℕ) (p n : ℕ) → m′ ≡ splice n p (replicate n 1) (splice n p ys m) → mark p n m ≡ m → length ys ≡ n → p + n ≤ length m → m′ ≡ m
+unfolding mark
+marks-again m m′ ys p n e f h l = e ∙ splice-over n p ys (replicate n 1) m h l ∙ f
+
+-- THE EXTENSION
+
+module _ (gs : List Group) (I : Inner) (h : Here) (at : ℕ) (m : List ℕ) where
+  pub extension-zero : word at (h .bytes) ≡ 0 → count (extensionR gs I h at m) ≡ counted 0 m
+  unfolding extensionR count
+  extension-zero e = rw (eq-eqb _ _ e)
+
+  module _ (e : word at (h .bytes) ≡ 0 → ⊥) (m′ : List ℕ) (l : Located) (s : placeOf l m′ ≡ locate 13 4 h at m) where
+    extension-is : extensionR gs I h at m ≡ indirectR 13 4 (groupsR gs I) h at m
+    unfolding extensionR
+    extension-is = rw (ne-eqb _ _ e)
+
+    pub extension-nowhere : (n p : ℕ) → l ≡ Nowhere n p → count (extensionR gs I h at m) ≡ failed n p
+    extension-nowhere n p o = ap count extension-is ∙ leads-nowhere 13 4 (groupsR gs I) h at m m′ l s n p o
+
+    pub extension-empty : (n p : ℕ) → l ≡ At p n → n ≡ 0 → count (extensionR gs I h at m) ≡ counted 0 m′
+    unfolding groupsR count
+    extension-empty n p o z = ap count extension-is ∙ leads-to 13 4 (groupsR gs I) h at m m′ l s n p o ∙ rw (eq-eqb _ _ z)
+
+    pub extension-some : (n p : ℕ) → l ≡ At p n → (n ≡ 0 → ⊥) → p + 4 ≤ length (h .bytes) → count (extensionR gs I h at m) ≡ more 6 (count (itemsR 4 (indirectR 26 1 (extendingR gs I)) n h (p + 4) m′))
+    unfolding groupsR
+    extension-some n p o z g =
+        ap count extension-is ∙ leads-to 13 4 (groupsR gs I) h at m m′ l s n p o
+        ∙ rw (ne-eqb _ _ z) (count-marked h p m′ XT (listR 4 (indirectR 26 1 (extendingR gs I)) n)
+        ∙ ap (more 2) (count-list h p m′ 4 (indirectR 26 1 (extendingR gs I)) n g) ∙ more-more 2 4 _)
+
+  -- one of its groups
+  module _ (m′ : List ℕ) (l : Located) (s : placeOf l m′ ≡ locate 26 1 h at m) (n p : ℕ) (o : l ≡ At p n) where
+    pub extending-short : n < 12 → count (indirectR 26 1 (extendingR gs I) h at m) ≡ failed 1 (h .base + p)
+    unfolding extendingR need count
+    extending-short z = leads-to 26 1 (extendingR gs I) h at m m′ l s n p o ∙ rw (lt-leb 12 n z)
+
+    pub extending-known : 12 ≤ n → known gs (le (part 8 (p + 4) (h .bytes))) ≡ true
+        → count (indirectR 26 1 (extendingR gs I) h at m) ≡ more 2 (andThen (count (I 0 (h .base + p) (part (4 + n) p (h .bytes)))) (λ _. counted 0 m′))
+    unfolding extendingR need
+    extending-known z u =
+        leads-to 26 1 (extendingR gs I) h at m m′ l s n p o
+        ∙ rw (le-leb 12 n z, u) (count-marked h p m′ GB (innerR I 0 n) ∙ ap (more 2) (count-inner h p m′ I 0 n))
+
+    pub extending-kept : 12 ≤ n → known gs (le (part 8 (p + 4) (h .bytes))) ≡ false → p + (4 + n * 1) ≤ length (h .bytes) → count (indirectR 26 1 (extendingR gs I) h at m) ≡ counted (6 + n) m′
+    unfolding extendingR need textR textOk count more
+    extending-kept z u g =
+        let f = rw mul-one at g in
+        leads-to 26 1 (extendingR gs I) h at m m′ l s n p o
+        ∙ rw (le-leb 12 n z, u) (count-marked h p m′ XU (textR false n) ∙ rw (length-part (4 + n) p (h .bytes) f) (ap (λ (j : ℕ). counted j m′) (let r : 2 + (4 + n) ≡ 6 + n = omega arith in r)))
+
+-- THE BODY
+
+-- what comes behind the fields and the extension
+unfoldable pub closing : List ℕ → ℕ → ℕ → List ℕ → Count
+closing b base area m = need (padsZero (drop area m) (drop area b)) (failed 6 (base + area + padsBefore (drop area m) (drop area b))) (counted 2 [])
+
+close-is : (s u b m : List ℕ) (base area : ℕ) → length s ≡ 8
+    → count (padded (here strict b base area) (prefixed s (next (done u m) (λ m. done GE m)))) ≡ andThen (more 8 (counted (length u) m)) (closing b base area)
+unfolding padded prefixed next andThen more closing count need
+close-is s u b m base area e = go (padsZero (drop area m) (drop area b))
+  where
+    go : (c : Bool) → count (need c (refused 6 (base + area + padsBefore (drop area m) (drop area b))) (done (s ++ (u ++ GE)) []))
+        ≡ more (8 + length u) (need c (failed 6 (base + area + padsBefore (drop area m) (drop area b))) (counted 2 []))
+    go true = rw (length-append s (u ++ GE), length-append u GE, e) (ap (λ (j : ℕ). counted j []) (sym (add-assoc 8 (length u) 2)))
+    go false = refl
+
+closes : (s b : List ℕ) (base area : ℕ) (r : Reading) → length s ≡ 8
+    → count (padded (here strict b base area) (prefixed s (next r (λ m. done GE m)))) ≡ andThen (more 8 (count r)) (closing b base area)
+unfolding count andThen more next prefixed padded
+closes s b base area (done u m) e = close-is s u b m base area e
+closes s b base area (refused n p) e = refl
+
+module _ (gs : List Group) (I : Inner) (g base : ℕ) (b : List ℕ) (a : ℕ) (ia : a ≡ 16 + width gs 5 g) where
+  pub body-narrow : length b < a → count (bodyR strict gs I g base b) ≡ failed 14 base
+  unfolding bodyR need count
+  body-narrow h = rw (← ia, lt-leb a (length b) h)
+
+  module _ (l : a ≤ length b) (sixteen : 16 ≤ length b) where
+    pub body-loose : extensionIn (here strict b base a) 12 ≡ false → count (bodyR strict gs I g base b) ≡ failed 3 (base + 12)
+    unfolding bodyR behindR need next prefixed padded count
+    body-loose e = rw (← ia, le-leb a (length b) l, e)
+
+    pub body-is : extensionIn (here strict b base a) 12 ≡ true → count (bodyR strict gs I g base b)
+        ≡ andThen (more 8 (count (next (staticR gs I 5 g (here strict b base a) 16 (replicate (length b) 0)) (λ m. extensionR gs I (here strict b base a) 12 m)))) (closing b base a)
+    unfolding bodyR behindR need
+    body-is e = rw (← ia, le-leb a (length b) l, e) (closes (part 8 4 b) b base a _ (length-part 8 4 b (omega arith)))
+
+    -- after the walk of what is inside, on marks that are all 0 and behind the eight bytes of the id
+    module _ (e : extensionIn (here strict b base a) 12 ≡ true) (k j : ℕ) (q : j ≡ (k + 8) % 2 ^ 64) (o : List ℕ) (z : o ≡ replicate (length b) 0) (v : Walked) (m : List ℕ)
+        (s : countOf v m ≡ after j (count (next (staticR gs I 5 g (here strict b base a) 16 o) (λ m. extensionR gs I (here strict b base a) 12 m)))) where
+      body-contents : countOf v m ≡ after k (more 8 (count (next (staticR gs I 5 g (here strict b base a) 16 (replicate (length b) 0)) (λ m. extensionR gs I (here strict b base a) 12 m))))
+      body-contents = rw z at s ∙ sym (goes-on k 8 j _ _ refl q)
+
+      pub body-stopped : (n p : ℕ) → v ≡ Refused n p → countOf (Refused n p) [] ≡ after k (count (bodyR strict gs I g base b))
+      body-stopped n p r = stopped k _ v m body-contents n p (closing b base a) [] r ∙ ap (after k) (sym (body-is e))
+
+      pub body-passed : (i : ℕ) → v ≡ Counted i → after k (count (bodyR strict gs I g base b)) ≡ after i (closing b base a m)
+      body-passed i r = ap (after k) (body-is e) ∙ passed k _ v m body-contents i (closing b base a) r
+
+module _ (b : List ℕ) (base a : ℕ) (m : List ℕ) where
+  pub closing-clean : padsZero (drop a m) (drop a b) ≡ true → closing b base a m ≡ counted 2 []
+  unfolding closing need
+  closing-clean e = rw e
+
+  pub closing-dirty : (z : ℕ) → z ≡ padsBefore (drop a m) (drop a b) → padsZero (drop a m) (drop a b) ≡ false → closing b base a m ≡ failed 6 (base + a + z)
+  unfolding closing need
+  closing-dirty z iz e = rw (e, ← iz)
+
+-- THE HEAD
+
+module _ (gs : List Group) (B : ℕ → ℕ → List ℕ → Reading) (al base : ℕ) (b : List ℕ) where
+  head-short : length b < 16 → headR gs B al base b ≡ refused 1 base
+  unfolding headR need
+  head-short h = rw (lt-leb 16 (length b) h)
+
+  module _ (h : 16 ≤ length b) (g : ℕ) (is : g ≡ find gs (le (part 8 4 b))) where
+    head-unknown : length gs ≤ g → headR gs B al base b ≡ refused 2 base
+    unfolding headR need known
+    head-unknown k = rw (← is, le-leb 16 (length b) h, le-ltb g (length gs) k)
+
+    module _ (k : g < length gs) where
+      head-other : allows gs al g ≡ false → headR gs B al base b ≡ refused 25 base
+      unfolding headR need known
+      head-other a = rw (← is, le-leb 16 (length b) h, lt-ltb g (length gs) k, a)
+
+      head-body : allows gs al g ≡ true → headR gs B al base b ≡ B g base b
+      unfolding headR need known
+      head-body a = rw (← is, le-leb 16 (length b) h, lt-ltb g (length gs) k, a)
+
+module _ (gs : List Group) (al base : ℕ) (b : List ℕ) where
+  -- the body at a level: none where no level is left
+  abbrev bodyAt : ℕ → ℕ → ℕ → List ℕ → Reading
+  bodyAt zero g base b = refused 24 base
+  bodyAt (suc l) g base b = bodyR strict gs (groupR strict gs l) g base b
+
+  group-is : (l : ℕ) → groupR strict gs l al base b ≡ headR gs (bodyAt l) al base b
+  unfolding groupR
+  group-is zero = refl
+  group-is (suc l) = refl
+
+  pub group-short : (l : ℕ) → length b < 16 → count (groupR strict gs l al base b) ≡ failed 1 base
+  unfolding count
+  group-short l h = ap count (group-is l ∙ head-short gs (bodyAt l) al base b h)
+
+  module _ (l : ℕ) (h : 16 ≤ length b) (g : ℕ) (is : g ≡ find gs (le (part 8 4 b))) where
+    pub group-unknown : length gs ≤ g → count (groupR strict gs l al base b) ≡ failed 2 base
+    unfolding count
+    group-unknown k = ap count (group-is l ∙ head-unknown gs (bodyAt l) al base b h g is k)
+
+    module _ (k : g < length gs) where
+      pub group-other : allows gs al g ≡ false → count (groupR strict gs l al base b) ≡ failed 25 base
+      unfolding count
+      group-other a = ap count (group-is l ∙ head-other gs (bodyAt l) al base b h g is k a)
+
+      pub group-deep : l ≡ 0 → allows gs al g ≡ true → count (groupR strict gs l al base b) ≡ failed 24 base
+      unfolding count
+      group-deep z a = ap count (group-is l ∙ head-body gs (bodyAt l) al base b h g is k a) ∙ rw z
+
+      pub group-body : (l ≡ 0 → ⊥) → allows gs al g ≡ true → groupR strict gs l al base b ≡ bodyR strict gs (groupR strict gs (l - 1)) g base b
+      group-body z a = group-is l ∙ head-body gs (bodyAt l) al base b h g is k a ∙ go l z
+        where
+          go : (l : ℕ) → (l ≡ 0 → ⊥) → bodyAt l g base b ≡ bodyR strict gs (groupR strict gs (l - 1)) g base b
+          go zero z = absurd (z refl)
+          go (suc l) z = let e : suc l - 1 ≡ l = omega arith in rw e
+
+-- MARKS, CLEARED
+
+pub cleared : (m : List ℕ) (n : ℕ) → n ≡ length m → splice n 0 (replicate n 0) m ≡ replicate n 0
+cleared m n e = let h : length m ≤ n = omega arith in rw (drop-of-length-le m h) (append-nil _)
+
+-- THE MESSAGE
+
+module _ (gs : List Group) (b : List ℕ) where
+  pub message-short : length b < 4 → count (walk strict gs b) ≡ failed 22 0
+  unfolding walk need count
+  message-short h = rw (lt-leb 4 (length b) h)
+
+  pub message-other : 4 ≤ length b → (length b ≡ 4 + word 0 b → ⊥) → count (walk strict gs b) ≡ failed 22 0
+  unfolding walk need count
+  message-other h e = rw (le-leb 4 (length b) h, ne-eqb _ _ e)
+
+  pub message-group : 4 ≤ length b → length b ≡ 4 + word 0 b → count (walk strict gs b) ≡ more 2 (count (groupR strict gs 8 0 0 b))
+  unfolding walk need
+  message-group h e = rw (le-leb 4 (length b) h, eq-eqb _ _ e) (count-prefixed _ (groupR strict gs 8 0 0 b) ∙ rw (length-mark GB))

@@ -5,6 +5,7 @@ pub struct Record {
     pub kind: usize,
     pub length: usize,
     pub stored: usize,
+    pub scratch: usize,
 }
 
 // The next record's header, or `last` at the end of the file.
@@ -20,6 +21,7 @@ fn parse(last: bool, header: &[u8; 40]) -> Record {
         kind: wire::read_u32(header, 0),
         length: wire::read_u32(header, 4),
         stored: wire::read_u32(header, 8),
+        scratch: wire::read_u32(header, 12),
     }
 }
 

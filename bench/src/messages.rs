@@ -1,0 +1,90 @@
+//! Messages to time, each in canonical form.
+
+use crate::tables::{blank, field, group};
+
+/// A table, a message that it accepts, and what the pair is called.
+pub struct Case {
+    pub name: &'static str,
+    pub table: Vec<u8>,
+    pub message: Vec<u8>,
+}
+
+/// A dynamic group: its size, its type id, no extension, its fields and its data area.
+fn dynamic(id: u64, fields: &[u8], area: &[u8]) -> Vec<u8> {
+    let mut bytes = ((12 + fields.len() + area.len()) as u32).to_le_bytes().to_vec();
+    bytes.extend(id.to_le_bytes());
+    bytes.extend([0; 4]);
+    bytes.extend(fields);
+    bytes.extend(area);
+    bytes
+}
+
+fn text(bytes: &[u8]) -> Vec<u8> {
+    let mut value = (bytes.len() as u32).to_le_bytes().to_vec();
+    value.extend(bytes);
+    value
+}
+
+/// A sequence of offsets, and the values that they lead to, in order.
+fn sequence_of(values: &[Vec<u8>]) -> Vec<u8> {
+    let count = values.len();
+    let mut body = (count as u32).to_le_bytes().to_vec();
+    let mut free = 4 + 4 * count;
+    for value in values {
+        body.extend(((free - body.len()) as u32).to_le_bytes());
+        free += value.len();
+    }
+    body.extend(values.iter().flatten());
+    body
+}
+
+/// Barcode, density, sound speed, grade and a note: what a test station sends.
+fn station() -> Case {
+    let (barcode, note) = (text(b"BC-0042-19-A"), text(b"knot left"));
+    let mut fields = 21u32.to_le_bytes().to_vec();
+    fields.extend(612u32.to_le_bytes());
+    fields.extend(4870u32.to_le_bytes());
+    fields.extend(2u32.to_le_bytes());
+    fields.push(1);
+    fields.extend((4 + barcode.len() as u32).to_le_bytes());
+    Case { name: "message: a station's", table: blank(), message: dynamic(1, &fields, &[barcode, note].concat()) }
+}
+
+fn one_field(name: &'static str, record: Vec<u8>, value: &[u8]) -> Case {
+    Case { name, table: group(Some(1), 0, &[record]), message: dynamic(1, &4u32.to_le_bytes(), value) }
+}
+
+/// Groups one in the other, eight levels deep.
+fn nested() -> Case {
+    let mut inner = dynamic(1, &[0; 5], &[]);
+    for _ in 1..8 {
+        inner = dynamic(1, &[1, 4, 0, 0, 0], &inner);
+    }
+    Case {
+        name: "message: groups to level 8",
+        table: group(Some(1), 0, &[field(22, true, false, 0, 0)]),
+        message: inner,
+    }
+}
+
+fn small_groups() -> Case {
+    let groups: Vec<_> = (0..2700u32).map(|i| dynamic(2, &i.to_le_bytes(), &[])).collect();
+    let mut table = group(Some(1), 0, &[field(23, false, true, 0, 0)]);
+    table.extend(group(Some(2), 0, &[field(5, false, false, 0, 0)]));
+    Case { name: "message: 2,700 small groups", table, message: dynamic(1, &4u32.to_le_bytes(), &sequence_of(&groups)) }
+}
+
+pub fn cases() -> Vec<Case> {
+    let long: Vec<u8> = (0..60_000).map(|i| (i % 95) as u8 + 32).collect();
+    let strings: Vec<_> = (0..3000).map(|i| text(format!("part {i:04}").as_bytes())).collect();
+    let mut numbers = 10_000u32.to_le_bytes().to_vec();
+    numbers.extend((0..10_000u32).flat_map(u32::to_le_bytes));
+    vec![
+        station(),
+        one_field("message: 60 KB in one string", field(17, false, false, 0, 0), &text(&long)),
+        one_field("message: 3,000 short strings", field(17, false, true, 0, 0), &sequence_of(&strings)),
+        one_field("message: 10,000 u32", field(5, false, true, 0, 0), &numbers),
+        nested(),
+        small_groups(),
+    ]
+}

@@ -190,6 +190,21 @@ module _ (s : List ℕ) (at : ℕ) where
       let run = ascii-run 8 at s h (λ k j. rw (same k j) at (low k (omega arith))) in
       record { none = λ e. absurd (omega arith); some = λ n. record { inside = h; breaks = λ e. absurd (omega arith); passes = λ z. run } }
 
+pub both : (x y : Bool) → x && y ≡ true → (x ≡ true) × (y ≡ true)
+both true y e = (refl, e)
+both false y e = (e, cc)
+
+-- four runs of eight are one of 32
+pub four-eights : (at : ℕ) (s : List ℕ) → Ascii s at 8 → Ascii s (at + 8) 8 → Ascii s (at + 16) 8 → Ascii s (at + 24) 8 → Ascii s at 32
+four-eights at s a b c d =
+    let n : _≡_ {A = ℕ} 8 0 → ⊥ = λ z. omega arith in
+    let p : at + 8 + 8 ≡ at + 16 = omega arith in
+    let q : at + 16 + 8 ≡ at + 24 = omega arith in
+    let r : at + 24 + 8 ≡ at + 32 = omega arith in
+    let run : utf8 (drop at s) ≡ utf8 (drop (at + 32) s) =
+    a .some n .passes n ∙ (rw p at (b .some n .passes n)) ∙ (rw q at (c .some n .passes n)) ∙ (rw r at (d .some n .passes n)) in
+    record { none = λ e. absurd (omega arith); some = λ z. record { inside = omega (arith, rw r at (d .some n .inside)); breaks = λ e. absurd (omega arith); passes = λ z. run } }
+
 -- THE END OF THE TEXT
 
 pub utf8-end : (s : List ℕ) (at : ℕ) → length s ≤ at → utf8 (drop at s) ≡ true

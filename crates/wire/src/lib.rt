@@ -3,8 +3,9 @@
 // Nothing here knows of a schema. A function with a `requires` is no public question of the codec:
 // its callers have shown that the bytes are there.
 ghost use mathlib.Core.Path.{_≡_};
-ghost use Prim.Native.Nat.{_+_, _<_, _≤_, _^_};
-ghost use lib.ListN.{length, replicate};
+ghost use mathlib.Core.Bool.{true};
+ghost use Prim.Native.Nat.{ℕ, _+_, _<_, _≤_, _^_};
+ghost use lib.ListN.{length, getD, replicate};
 ghost use lib.Ieee.{ofBits, nanBits, binary64};
 ghost use Rattle.wire.specs.Bytes.{part, splice, le, bytesOf, signed, same, allZero, zeros};
 ghost use Rattle.wire.specs.Utf8.{utf8, begins, lowest, highest};
@@ -212,7 +213,7 @@ pub fn is_utf8(text: &[u8]) -> bool
     valid
 }
 
-// The width of the form at `at`, or 0 where it is broken. Eight bytes of ASCII count as one form.
+// The width of the form at `at`, or 0 where it is broken. A run of ASCII counts as one form.
 fn form_width(s: &[u8], at: usize) -> usize
     requires { ⌜ at < length (now s) ⌝ }
     ensures { λ r. ⌜ Form (now (s .entry)) at r ⌝ }
@@ -243,7 +244,7 @@ fn form_width(s: &[u8], at: usize) -> usize
     4
 }
 
-// How many bytes of ASCII stand at `at`, as far as one look tells: eight, one or none.
+// How many bytes of ASCII stand at `at`, as far as one look tells: 32, eight, one or none.
 fn ascii_width(s: &[u8], at: usize) -> usize
     requires { ⌜ at < length (now s) ⌝ }
     ensures { λ r. ⌜ Ascii (now (s .entry)) at r ⌝ }
@@ -254,10 +255,24 @@ fn ascii_width(s: &[u8], at: usize) -> usize
     if s.len() - at < 8 {
         return 1;
     }
-    if read_u64(s, at) & 0x8080_8080_8080_8080 == 0 {
+    if !has_eight(s, at) {
+        return 1;
+    }
+    if s.len() - at < 32 {
         return 8;
     }
-    1
+    if has_eight(s, at + 8) & has_eight(s, at + 16) & has_eight(s, at + 24) {
+        return 32;
+    }
+    8
+}
+
+// Whether the eight bytes from `at` on are ASCII: none has its high bit.
+fn has_eight(s: &[u8], at: usize) -> bool
+    requires { ⌜ (at + 8 ≤ length (now s)) × ((i : ℕ) → getD (now s) i 0 < 256) ⌝ }
+    ensures { λ r. ⌜ (r ≡ true → Ascii (now (s .entry)) at 8) ⌝ }
+{
+    read_u64(s, at) & 0x8080_8080_8080_8080 == 0
 }
 
 // Whether a byte stands at `at`, and between two bounds.

@@ -1,50 +1,8 @@
 //! The public questions beside the second program, with the table checked in each call on both sides.
 //! Buffers are written once before, and not cleared between calls.
+use blink_bench::proved::{check_message, check_table, verdict, Verdict};
 use blink_bench::{compare, heading, messages, tables};
 use std::hint::black_box;
-
-#[repr(C)]
-#[derive(Debug, PartialEq)]
-struct Verdict {
-    number: u32,
-    place: u64,
-}
-
-extern "C" {
-    fn blink_check_table(table: *const u8, length: usize) -> Verdict;
-    fn blink_check_message(
-        table: *const u8,
-        table_length: usize,
-        message: *const u8,
-        length: usize,
-        scratch: *mut u8,
-        scratch_length: usize,
-    ) -> Verdict;
-}
-
-fn check_table(table: &[u8]) -> Verdict {
-    unsafe { blink_check_table(table.as_ptr(), table.len()) }
-}
-
-fn check_message(table: &[u8], message: &[u8], scratch: &mut [u8]) -> Verdict {
-    unsafe {
-        blink_check_message(
-            table.as_ptr(),
-            table.len(),
-            message.as_ptr(),
-            message.len(),
-            scratch.as_mut_ptr(),
-            scratch.len(),
-        )
-    }
-}
-
-fn verdict<T>(answer: Result<T, blink_reference::Fault>) -> Verdict {
-    match answer {
-        Ok(_) => Verdict { number: 0, place: 0 },
-        Err(fault) => Verdict { number: fault.number as u32, place: fault.place as u64 },
-    }
-}
 
 fn main() {
     heading("proved", "reference");
@@ -62,7 +20,7 @@ fn main() {
     }
     for messages::Case { name, table, message } in messages::cases() {
         let (mut scratch, mut other) = (vec![0u8; message.len()], vec![0u8; message.len()]);
-        assert_eq!(check_message(&table, &message, &mut scratch), Verdict { number: 0, place: 0 }, "{name}");
+        assert_eq!(check_message(&table, &message, &mut scratch), Verdict::ACCEPTED, "{name}");
         compare(
             name,
             &mut || _ = black_box(check_message(black_box(&table), black_box(&message), &mut scratch)),

@@ -1,5 +1,5 @@
 -- Dynamic groups, the extension and the whole message: each way through them.
-use Prim.Native.Nat.{ℕ, zero, suc, _+_, _-_, _*_, _%_, _^_, _<_, _≤_}
+use Prim.Native.Nat.{ℕ, min, zero, suc, _+_, _-_, _*_, _%_, _^_, _<_, _≤_}
 use mathlib.Core.Path.{_≡_, refl, sym, ap, _∙_}
 use mathlib.Core.Bool.{Bool, true, false}
 use mathlib.Core.List.{List, [], _++_, append-nil}
@@ -8,33 +8,29 @@ use native.Mathlib.Nat.{mul-one, add-assoc}
 use lib.ListN.{length, drop, replicate, length-append, drop-of-length-le}
 use borrow.Author.Tests.{lt-ltb, le-ltb, le-leb, lt-leb, eq-eqb, ne-eqb}
 use Rattle.wire.specs.Bytes.{part, splice, le}
-use Rattle.wire.proofs.Laws.{length-part}
+use Rattle.wire.proofs.Laws.{length-part, splice-nil}
 use Rattle.schema.specs.Faults.{need}
 use Rattle.schema.specs.Schema.{Group, textOk, width, find, known, allows}
 use Rattle.message.specs.Marks.{padsZero, padsBefore, mark}
 use Rattle.message.specs.Sheet.{GB, XT, XU, GE}
 use Rattle.message.specs.Walk.{Reading, refused, done, prefixed, next, Here, here, strict, Inner, word, locate, indirectR, innerR, itemsR, listR, textR, staticR, extendingR, groupsR, extensionR, extensionIn, behindR, padded, bodyR, headR, groupR, walk}
 use Rattle.message.specs.Count.{Count, failed, counted, count, more, andThen}
-use Rattle.message.specs.Check.{countOf, after, placeOf}
-use Rattle.message.specs.declared.Walked.{Walked}
-use Rattle.message.specs.declared.Walked.the-variants.{Counted, Refused}
+use Rattle.message.specs.Check.{marksOf, countBy, after, placeBy}
+use Rattle.message.specs.declared.Step.{Step}
+use Rattle.message.specs.declared.Step.the-variants.{Counted, Refused}
+use Rattle.message.specs.declared.Taken.{Taken}
 use Rattle.message.specs.declared.Located.{Located}
 use Rattle.message.specs.declared.Located.the-variants.{At, Nowhere}
 use Rattle.message.proofs.Count.{more-more, count-prefixed, count-marked, count-list, count-inner, length-mark}
 use Rattle.message.proofs.CheckAnswers.{stays, goes-on, passed, stopped, bounded}
 use Rattle.message.proofs.CheckFields.{leads-nowhere, leads-to}
-use Rattle.message.proofs.CheckPlaces.{splice-over}
 
 -- A NESTED GROUP
 
-pub nested-passed : (k : ℕ) (c : Count) (v : Walked) (l : ℕ) (m m′ : List ℕ) → countOf v [] ≡ after k c → v ≡ Counted l → m′ ≡ m → countOf (Counted l) m′ ≡ after k (andThen c (λ _. counted 0 m))
-nested-passed k c v l m m′ s e o =
-    rw (o, passed k c v [] s l (λ _. counted 0 m) e) (stays l (counted 0 m) m refl (bounded k c v [] s l e))
-
--- the marks of a nested group are gone once its bytes are taken again
-pub marks-again : (m m′ ys : List ℕ) (p n : ℕ) → m′ ≡ splice n p (replicate n 1) (splice n p ys m) → mark p n m ≡ m → length ys ≡ n → p + n ≤ length m → m′ ≡ m
-unfolding mark
-marks-again m m′ ys p n e f h l = e ∙ splice-over n p ys (replicate n 1) m h l ∙ f
+pub nested-passed : (F : Taken → List ℕ) (k : ℕ) (c : Count) (v : Step) (l : ℕ) (x y : Taken) (m : List ℕ) → countBy (λ _. []) v ≡ after k c → v ≡ Counted l x → F y ≡ m
+    → countBy F (Counted l y) ≡ after k (andThen c (λ _. counted 0 m))
+nested-passed F k c v l x y m s e o =
+    rw (passed (λ _. []) k c v s l x (λ _. counted 0 m) e) (stays F l (counted 0 m) y (rw o refl) (bounded (λ _. []) k c v s l x e))
 
 -- THE EXTENSION
 
@@ -43,44 +39,44 @@ module _ (gs : List Group) (I : Inner) (h : Here) (at : ℕ) (m : List ℕ) wher
   unfolding extensionR count
   extension-zero e = rw (eq-eqb _ _ e)
 
-  module _ (e : word at (h .bytes) ≡ 0 → ⊥) (m′ : List ℕ) (l : Located) (s : placeOf l m′ ≡ locate 13 4 h at m) where
+  module _ (e : word at (h .bytes) ≡ 0 → ⊥) (F : Taken → List ℕ) (l : Located) (s : placeBy F l ≡ locate 13 4 h at m) where
     extension-is : extensionR gs I h at m ≡ indirectR 13 4 (groupsR gs I) h at m
     unfolding extensionR
     extension-is = rw (ne-eqb _ _ e)
 
     pub extension-nowhere : (n p : ℕ) → l ≡ Nowhere n p → count (extensionR gs I h at m) ≡ failed n p
-    extension-nowhere n p o = ap count extension-is ∙ leads-nowhere 13 4 (groupsR gs I) h at m m′ l s n p o
+    extension-nowhere n p o = ap count extension-is ∙ leads-nowhere 13 4 (groupsR gs I) h at m F l s n p o
 
-    pub extension-empty : (n p : ℕ) → l ≡ At p n → n ≡ 0 → count (extensionR gs I h at m) ≡ counted 0 m′
+    pub extension-empty : (n p : ℕ) (x : Taken) → l ≡ At p n x → n ≡ 0 → count (extensionR gs I h at m) ≡ counted 0 (F x)
     unfolding groupsR count
-    extension-empty n p o z = ap count extension-is ∙ leads-to 13 4 (groupsR gs I) h at m m′ l s n p o ∙ rw (eq-eqb _ _ z)
+    extension-empty n p x o z = ap count extension-is ∙ leads-to 13 4 (groupsR gs I) h at m F l s n p x o ∙ rw (eq-eqb _ _ z)
 
-    pub extension-some : (n p : ℕ) → l ≡ At p n → (n ≡ 0 → ⊥) → p + 4 ≤ length (h .bytes) → count (extensionR gs I h at m) ≡ more 6 (count (itemsR 4 (indirectR 26 1 (extendingR gs I)) n h (p + 4) m′))
+    pub extension-some : (n p : ℕ) (x : Taken) → l ≡ At p n x → (n ≡ 0 → ⊥) → p + 4 ≤ length (h .bytes) → count (extensionR gs I h at m) ≡ more 6 (count (itemsR 4 (indirectR 26 1 (extendingR gs I)) n h (p + 4) (F x)))
     unfolding groupsR
-    extension-some n p o z g =
-        ap count extension-is ∙ leads-to 13 4 (groupsR gs I) h at m m′ l s n p o
-        ∙ rw (ne-eqb _ _ z) (count-marked h p m′ XT (listR 4 (indirectR 26 1 (extendingR gs I)) n)
-        ∙ ap (more 2) (count-list h p m′ 4 (indirectR 26 1 (extendingR gs I)) n g) ∙ more-more 2 4 _)
+    extension-some n p x o z g =
+        ap count extension-is ∙ leads-to 13 4 (groupsR gs I) h at m F l s n p x o
+        ∙ rw (ne-eqb _ _ z) (count-marked h p (F x) XT (listR 4 (indirectR 26 1 (extendingR gs I)) n)
+        ∙ ap (more 2) (count-list h p (F x) 4 (indirectR 26 1 (extendingR gs I)) n g) ∙ more-more 2 4 _)
 
   -- one of its groups
-  module _ (m′ : List ℕ) (l : Located) (s : placeOf l m′ ≡ locate 26 1 h at m) (n p : ℕ) (o : l ≡ At p n) where
+  module _ (F : Taken → List ℕ) (l : Located) (s : placeBy F l ≡ locate 26 1 h at m) (n p : ℕ) (x : Taken) (o : l ≡ At p n x) where
     pub extending-short : n < 12 → count (indirectR 26 1 (extendingR gs I) h at m) ≡ failed 1 (h .base + p)
     unfolding extendingR need count
-    extending-short z = leads-to 26 1 (extendingR gs I) h at m m′ l s n p o ∙ rw (lt-leb 12 n z)
+    extending-short z = leads-to 26 1 (extendingR gs I) h at m F l s n p x o ∙ rw (lt-leb 12 n z)
 
     pub extending-known : 12 ≤ n → known gs (le (part 8 (p + 4) (h .bytes))) ≡ true
-        → count (indirectR 26 1 (extendingR gs I) h at m) ≡ more 2 (andThen (count (I 0 (h .base + p) (part (4 + n) p (h .bytes)))) (λ _. counted 0 m′))
+        → count (indirectR 26 1 (extendingR gs I) h at m) ≡ more 2 (andThen (count (I 0 (h .base + p) (part (4 + n) p (h .bytes)))) (λ _. counted 0 (F x)))
     unfolding extendingR need
     extending-known z u =
-        leads-to 26 1 (extendingR gs I) h at m m′ l s n p o
-        ∙ rw (le-leb 12 n z, u) (count-marked h p m′ GB (innerR I 0 n) ∙ ap (more 2) (count-inner h p m′ I 0 n))
+        leads-to 26 1 (extendingR gs I) h at m F l s n p x o
+        ∙ rw (le-leb 12 n z, u) (count-marked h p (F x) GB (innerR I 0 n) ∙ ap (more 2) (count-inner h p (F x) I 0 n))
 
-    pub extending-kept : 12 ≤ n → known gs (le (part 8 (p + 4) (h .bytes))) ≡ false → p + (4 + n * 1) ≤ length (h .bytes) → count (indirectR 26 1 (extendingR gs I) h at m) ≡ counted (6 + n) m′
+    pub extending-kept : 12 ≤ n → known gs (le (part 8 (p + 4) (h .bytes))) ≡ false → p + (4 + n * 1) ≤ length (h .bytes) → count (indirectR 26 1 (extendingR gs I) h at m) ≡ counted (6 + n) (F x)
     unfolding extendingR need textR textOk count more
     extending-kept z u g =
         let f = rw mul-one at g in
-        leads-to 26 1 (extendingR gs I) h at m m′ l s n p o
-        ∙ rw (le-leb 12 n z, u) (count-marked h p m′ XU (textR false n) ∙ rw (length-part (4 + n) p (h .bytes) f) (ap (λ (j : ℕ). counted j m′) (let r : 2 + (4 + n) ≡ 6 + n = omega arith in r)))
+        leads-to 26 1 (extendingR gs I) h at m F l s n p x o
+        ∙ rw (le-leb 12 n z, u) (count-marked h p (F x) XU (textR false n) ∙ rw (length-part (4 + n) p (h .bytes) f) (ap (λ (j : ℕ). counted j (F x)) (let r : 2 + (4 + n) ≡ 6 + n = omega arith in r)))
 
 -- THE BODY
 
@@ -120,16 +116,16 @@ module _ (gs : List Group) (I : Inner) (g base : ℕ) (b : List ℕ) (a : ℕ) (
     body-is e = rw (← ia, le-leb a (length b) l, e) (closes (part 8 4 b) b base a _ (length-part 8 4 b (omega arith)))
 
     -- after the walk of what is inside, on marks that are all 0 and behind the eight bytes of the id
-    module _ (e : extensionIn (here strict b base a) 12 ≡ true) (k j : ℕ) (q : j ≡ (k + 8) % 2 ^ 64) (o : List ℕ) (z : o ≡ replicate (length b) 0) (v : Walked) (m : List ℕ)
-        (s : countOf v m ≡ after j (count (next (staticR gs I 5 g (here strict b base a) 16 o) (λ m. extensionR gs I (here strict b base a) 12 m)))) where
-      body-contents : countOf v m ≡ after k (more 8 (count (next (staticR gs I 5 g (here strict b base a) 16 (replicate (length b) 0)) (λ m. extensionR gs I (here strict b base a) 12 m))))
+    module _ (e : extensionIn (here strict b base a) 12 ≡ true) (k j : ℕ) (q : j ≡ (k + 8) % 2 ^ 64) (o : List ℕ) (z : o ≡ replicate (length b) 0) (F : Taken → List ℕ) (v : Step)
+        (s : countBy F v ≡ after j (count (next (staticR gs I 5 g (here strict b base a) 16 o) (λ m. extensionR gs I (here strict b base a) 12 m)))) where
+      body-contents : countBy F v ≡ after k (more 8 (count (next (staticR gs I 5 g (here strict b base a) 16 (replicate (length b) 0)) (λ m. extensionR gs I (here strict b base a) 12 m))))
       body-contents = rw z at s ∙ sym (goes-on k 8 j _ _ refl q)
 
-      pub body-stopped : (n p : ℕ) → v ≡ Refused n p → countOf (Refused n p) [] ≡ after k (count (bodyR strict gs I g base b))
-      body-stopped n p r = stopped k _ v m body-contents n p (closing b base a) [] r ∙ ap (after k) (sym (body-is e))
+      pub body-stopped : (G : Taken → List ℕ) (n p : ℕ) → v ≡ Refused n p → countBy G (Refused n p) ≡ after k (count (bodyR strict gs I g base b))
+      body-stopped G n p r = stopped F k _ v body-contents G n p (closing b base a) r ∙ ap (after k) (sym (body-is e))
 
-      pub body-passed : (i : ℕ) → v ≡ Counted i → after k (count (bodyR strict gs I g base b)) ≡ after i (closing b base a m)
-      body-passed i r = ap (after k) (body-is e) ∙ passed k _ v m body-contents i (closing b base a) r
+      pub body-passed : (i : ℕ) (x : Taken) → v ≡ Counted i x → after k (count (bodyR strict gs I g base b)) ≡ after i (closing b base a (F x))
+      body-passed i x r = ap (after k) (body-is e) ∙ passed F k _ v body-contents i x (closing b base a) r
 
 module _ (b : List ℕ) (base a : ℕ) (m : List ℕ) where
   pub closing-clean : padsZero (drop a m) (drop a b) ≡ true → closing b base a m ≡ counted 2 []
@@ -197,10 +193,15 @@ module _ (gs : List Group) (al base : ℕ) (b : List ℕ) where
           go zero z = absurd (z refl)
           go (suc l) z = let e : suc l - 1 ≡ l = omega arith in rw e
 
--- MARKS, CLEARED
+-- MARKS
 
 pub cleared : (m : List ℕ) (n : ℕ) → n ≡ length m → splice n 0 (replicate n 0) m ≡ replicate n 0
 cleared m n e = let h : length m ≤ n = omega arith in rw (drop-of-length-le m h) (append-nil _)
+
+-- nothing is taken yet
+pub nothing-taken : (a : ℕ) (m b : List ℕ) → length m ≡ length b → marksOf a (record { packed = a; scattered = false }) m ≡ replicate (length b) 0
+unfolding marksOf mark
+nothing-taken a m b e = let k : min a (length m) - a ≡ 0 = omega arith in rw (k, splice-nil a (replicate (length m) 0), e)
 
 -- THE MESSAGE
 

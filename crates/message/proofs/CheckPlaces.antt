@@ -1,95 +1,88 @@
 -- Where an offset leads, and the marks of what was found.
 use Prim.Native.Nat.{ℕ, zero, suc, _+_, _-_, _*_, _<_, _≤_, _^_}
-use mathlib.Core.Path.{_≡_, refl, sym, ap, _∙_}
+use mathlib.Core.Path.{_≡_, refl, sym}
 use mathlib.Core.Bool.{Bool, true, false, not, _&&_, _||_, and-assoc, and-true}
-use mathlib.Core.List.{List, _∷_, _++_, append-assoc}
+use mathlib.Core.List.{List, _∷_}
 use native.Mathlib.Omega.{arith}
 use native.Mathlib.Nat.{mul-le-mul-right}
-use lib.ListN.{length, getD, take, drop, replicate, length-take, length-append, length-replicate, drop-of-length-le}
-use lib.Seq.{drop-drop, take-at, drop-at}
+use lib.ListN.{length, getD, drop, drop-of-length-le}
 use lib.Dec.{eqb}
 use borrow.Author.Tests.{lt-ltb, le-ltb, le-leb, lt-leb, ne-eqb}
-use Rattle.wire.specs.Bytes.{part, splice, allZero}
 use Rattle.wire.proofs.Laws.{drop-more}
 use Rattle.schema.specs.Faults.{need}
 use Rattle.message.specs.Marks.{free, mark, padsZero, padsBefore}
-use Rattle.message.specs.Walk.{here, strict, word, inArea, locate}
-use Rattle.message.specs.Check.{placeOf, endOf, again, wordOf, Lands}
+use Rattle.message.proofs.CheckMarks.{mark-twice}
+use Rattle.message.specs.Walk.{lost, found, here, strict, word, inArea, locate}
+use Rattle.message.specs.Check.{placeBy, Claims, Lands}
+use Rattle.message.specs.declared.Taken.{Taken}
 use Rattle.message.specs.declared.Located.{Located}
 use Rattle.message.specs.declared.Located.the-variants.{At, Nowhere}
-
--- for wire/proofs/Laws.antt: what stands in a place does not matter once it is written over
-pub splice-over : (n p : ℕ) (xs ys s : List ℕ) → length xs ≡ n → p + n ≤ length s → splice n p ys (splice n p xs s) ≡ splice n p ys s
-splice-over n p xs ys s h l =
-    let front : length (take p s) ≡ p = simp length-take (omega arith) in
-    let both : length (take p s ++ xs) ≡ p + n = simp (length-append, length-take) (omega (arith, h)) in
-    let left : take p (splice n p xs s) ≡ take p s = take-at (take p s) (xs ++ drop n (drop p s)) p front in
-    let right : drop n (drop p (splice n p xs s)) ≡ drop n (drop p s)
-    = drop-drop n p (splice n p xs s) ∙ ap (drop (p + n)) (sym (append-assoc (take p s) xs (drop n (drop p s)))) ∙ drop-at (take p s ++ xs) (drop n (drop p s)) (p + n) both in
-    rw (left, right)
-
-mark-twice : (m : List ℕ) (p n : ℕ) → p + n ≤ length m → mark p n (mark p n m) ≡ mark p n m
-unfolding mark
-mark-twice m p n l = splice-over n p (replicate n 1) (replicate n 1) m (length-replicate n 1) l
 
 pub small : (n w : ℕ) → n < 2 ^ 32 → w ≤ 4096 → n * w ≤ 17592186044416
 small n w h l = omega (arith, mul-le-mul-right {m = n} {n = 4294967296} w (omega arith))
 
 -- LANDS
 
-pub lands-nowhere : (w n p : ℕ) (b m : List ℕ) → Lands w b m (Nowhere n p)
-unfolding endOf again wordOf
-lands-nowhere w n p b m = record { four = omega arith; inside = omega arith; taken = refl }
+told : (q p j n : ℕ) (s x : Taken) → At p n s ≡ At q j x → (q ≡ p) × (j ≡ n) × (x ≡ s)
+told q p j n s x e = ((cc), (cc), (cc))
 
-module _ (w n p : ℕ) (b m m′ : List ℕ) where
-  pub lands-at : n < 2 ^ 32 → m′ ≡ mark p (4 + n * w) m → length m ≡ length b → p + (4 + n * w) ≤ length b → Lands w b m′ (At p n)
-  unfolding endOf again wordOf
-  lands-at f e s l = record { four = f; inside = l; taken = rw e (mark-twice m p (4 + n * w) (omega arith)) }
+never : {A : Type 0} (n p q j : ℕ) (x : Taken) → Nowhere n p ≡ At q j x → A
+never n p q j x e = absurd (let z : _≡_ {A = ℕ} 0 1 = cc in omega arith)
 
-  module _ (r : Located) (e : r ≡ At p n) (L : Lands w b m r) where
-    pub lands-count : n < 2 ^ 32
-    unfolding wordOf
-    lands-count = rw e at (L .four)
+module _ (F : Taken → List ℕ) where
+  pub claims-nowhere : (p n k x y : ℕ) → Claims F p n k (Nowhere x y)
+  claims-nowhere p n k x y = record { place = λ q j s e. never x y q j s e; word = λ q j s e. never x y q j s e; taken = λ q j s e. never x y q j s e }
 
-    pub lands-inside : p + (4 + n * w) ≤ length b
-    unfolding endOf
-    lands-inside = rw e at (L .inside)
+  pub claims-at : (p n k : ℕ) (s : Taken) (m : List ℕ) → mark p k m ≡ F s → p + k ≤ length m → Claims F p n k (At p n s)
+  claims-at p n k s m e l =
+      let t : mark p k (F s) ≡ F s = rw (← e) (mark-twice p k m l) in
+      record { place = λ q j x r. told q p j n s x r .0; word = λ q j x r. told q p j n s x r .1; taken = λ q j x r. rw (told q p j n s x r .2) t }
 
-    pub lands-taken : mark p (4 + n * w) m ≡ m
-    unfolding again
-    lands-taken = rw e at (L .taken)
+  pub lands-nowhere : (w : ℕ) (b : List ℕ) (x y : ℕ) → Lands F w b (Nowhere x y)
+  lands-nowhere w b x y = record { four = λ q j s e. never x y q j s e; inside = λ q j s e. never x y q j s e; taken = λ q j s e. never x y q j s e }
+
+  pub lands-claim : (w : ℕ) (b : List ℕ) (p n k : ℕ) (r : Located) → Claims F p n k r → n < 2 ^ 32 → k ≡ 4 + n * w → p + k ≤ length b → Lands F w b r
+  lands-claim w b p n k r C h e l =
+      record {
+        four = λ q j s g. rw (C .word q j s g) h;
+        inside = λ q j s g. rw (C .place q j s g, C .word q j s g, ← e) l;
+        taken = λ q j s g. rw (C .place q j s g, C .word q j s g, ← e) (C .taken q j s g);
+      }
 
 -- LOCATE
 
-module _ (past w : ℕ) (b : List ℕ) (base area at : ℕ) (m m′ : List ℕ) (o p n k : ℕ) (io : o ≡ word at b) (ip : p ≡ at + o) where
-  pub low : p < area → placeOf (Nowhere 5 (base + at)) m′ ≡ locate past w (here strict b base area) at m
-  unfolding placeOf locate need inArea
+module _ (F : Taken → List ℕ) (past w : ℕ) (b : List ℕ) (base area at : ℕ) (m : List ℕ) (o p n k : ℕ) (io : o ≡ word at b) (ip : p ≡ at + o) where
+  pub low : p < area → placeBy F (Nowhere 5 (base + at)) ≡ locate past w (here strict b base area) at m
+  unfolding placeBy locate need inArea
   low h = rw (← io, ← ip, lt-leb area p h)
 
-  pub high : area ≤ p → length b ≤ p → placeOf (Nowhere 5 (base + at)) m′ ≡ locate past w (here strict b base area) at m
-  unfolding placeOf locate need inArea
+  pub high : area ≤ p → length b ≤ p → placeBy F (Nowhere 5 (base + at)) ≡ locate past w (here strict b base area) at m
+  unfolding placeBy locate need inArea
   high h k = rw (← io, ← ip, le-leb area p h, le-ltb p (length b) k)
 
-  pub cut : area ≤ p → p < length b → length b < p + 4 → placeOf (Nowhere 26 (base + p)) m′ ≡ locate past w (here strict b base area) at m
-  unfolding placeOf locate need inArea
+  pub cut : area ≤ p → p < length b → length b < p + 4 → placeBy F (Nowhere 26 (base + p)) ≡ locate past w (here strict b base area) at m
+  unfolding placeBy locate need inArea
   cut h k l = rw (← io, ← ip, le-leb area p h, lt-ltb p (length b) k, lt-leb (p + 4) (length b) l)
 
   module _ (h : area ≤ p) (g : p < length b) (l : p + 4 ≤ length b) (in′ : n ≡ word p b) (ik : k ≡ 4 + n * w) where
-    pub over : length b < p + k → placeOf (Nowhere past (base + p)) m′ ≡ locate past w (here strict b base area) at m
-    unfolding placeOf locate need inArea
+    pub over : length b < p + k → placeBy F (Nowhere past (base + p)) ≡ locate past w (here strict b base area) at m
+    unfolding placeBy locate need inArea
     over q = rw (← io, ← ip, ← in′, ← ik, le-leb area p h, lt-ltb p (length b) g, le-leb (p + 4) (length b) l, lt-leb (p + k) (length b) q)
 
-    pub shared : p + k ≤ length b → allZero (part k p m) ≡ false → placeOf (Nowhere 27 (base + p)) m′ ≡ locate past w (here strict b base area) at m
-    unfolding placeOf locate need inArea free
-    shared q z = rw (← io, ← ip, ← in′, ← ik, le-leb area p h, lt-ltb p (length b) g, le-leb (p + 4) (length b) l, le-leb (p + k) (length b) q, z)
+    pub claims : p + k ≤ length b → need (free p k m) (lost 27 (base + p)) (found p n (mark p k m)) ≡ locate past w (here strict b base area) at m
+    unfolding locate need inArea
+    claims q = rw (← io, ← ip, ← in′, ← ik, le-leb area p h, lt-ltb p (length b) g, le-leb (p + 4) (length b) l, le-leb (p + k) (length b) q)
 
-    pub hit : p + k ≤ length b → allZero (part k p m) ≡ true → m′ ≡ mark p k m → placeOf (At p n) m′ ≡ locate past w (here strict b base area) at m
-    unfolding placeOf locate need inArea free
-    hit q z y = rw (y, ← io, ← ip, ← in′, ← ik, le-leb area p h, lt-ltb p (length b) g, le-leb (p + 4) (length b) l, le-leb (p + k) (length b) q, z)
+-- CLAIM
 
-pub marked-is : (p k : ℕ) (m m′ : List ℕ) → m′ ≡ splice k p (replicate k 1) m → m′ ≡ mark p k m
-unfolding mark
-marked-is p k m m′ e = e
+module _ (F : Taken → List ℕ) (base p n k : ℕ) (m : List ℕ) where
+  pub claim-shared : free p k m ≡ false → placeBy F (Nowhere 27 (base + p)) ≡ need (free p k m) (lost 27 (base + p)) (found p n (mark p k m))
+  unfolding placeBy need
+  claim-shared e = rw e
+
+  pub claim-free : (s : Taken) → free p k m ≡ true → mark p k m ≡ F s → placeBy F (At p n s) ≡ need (free p k m) (lost 27 (base + p)) (found p n (mark p k m))
+  unfolding placeBy need
+  claim-free s e f = rw (e, f)
 
 -- PADS
 

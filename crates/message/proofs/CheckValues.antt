@@ -18,7 +18,8 @@ use Rattle.schema.specs.declared.Tested.the-variants.{Flag, Millis, Nanos, Symb
 use Rattle.message.specs.Sheet.{Mark, ST, kindMark}
 use Rattle.message.specs.Walk.{here, strict, Reader, Inner, word, byte, optionalR, plainR, inlineR, inArea, extensionIn, locate, indirectR, textR, kindR, markedR}
 use Rattle.message.specs.Count.{failed, counted, count, more}
-use Rattle.message.specs.Check.{placeOf, itemR}
+use Rattle.message.specs.Check.{placeBy, itemR}
+use Rattle.message.specs.declared.Taken.{Taken}
 use Rattle.message.specs.declared.Located.{Located}
 use Rattle.message.specs.declared.Located.the-variants.{At, Nowhere}
 use Rattle.message.proofs.Count.{count-marked, count-lost, count-found}
@@ -116,27 +117,27 @@ module _ (I : Inner) (S : ℕ → Reader) (b : List ℕ) (base area at : ℕ) (m
 
 -- INDIRECT TEXT
 
-module _ (u : Bool) (b : List ℕ) (base area at : ℕ) (m m′ : List ℕ) (f : Located) (is : placeOf f m′ ≡ locate 26 1 (here strict b base area) at m) where
+module _ (u : Bool) (b : List ℕ) (base area at : ℕ) (m : List ℕ) (F : Taken → List ℕ) (f : Located) (is : placeBy F f ≡ locate 26 1 (here strict b base area) at m) where
   pub text-lost : (n p : ℕ) → f ≡ Nowhere n p → count (markedR ST (indirectR 26 1 (textR u)) (here strict b base area) at m) ≡ failed n p
-  unfolding placeOf more
+  unfolding placeBy more
   text-lost n p e =
       count-marked (here strict b base area) at m ST (indirectR 26 1 (textR u))
-      ∙ ap (more 2) (count-lost (here strict b base area) at m 26 1 (textR u) n p (sym is ∙ ap (λ (g : Located). placeOf g m′) e))
+      ∙ ap (more 2) (count-lost (here strict b base area) at m 26 1 (textR u) n p (sym is ∙ ap (placeBy F) e))
 
-  module _ (n p : ℕ) (e : f ≡ At p n) where
-    text-open : count (markedR ST (indirectR 26 1 (textR u)) (here strict b base area) at m) ≡ more 2 (count (textR u n (here strict b base area) p m′))
-    unfolding placeOf
+  module _ (n p : ℕ) (s : Taken) (e : f ≡ At p n s) where
+    text-open : count (markedR ST (indirectR 26 1 (textR u)) (here strict b base area) at m) ≡ more 2 (count (textR u n (here strict b base area) p (F s)))
+    unfolding placeBy
     text-open =
         count-marked (here strict b base area) at m ST (indirectR 26 1 (textR u))
-        ∙ ap (more 2) (count-found (here strict b base area) at m 26 1 (textR u) p n m′ (sym is ∙ ap (λ (g : Located). placeOf g m′) e))
+        ∙ ap (more 2) (count-found (here strict b base area) at m 26 1 (textR u) p n (F s) (sym is ∙ ap (placeBy F) e))
 
     pub text-bad : textOk u (part n (p + 4) b) ≡ false → count (markedR ST (indirectR 26 1 (textR u)) (here strict b base area) at m) ≡ failed 9 (base + (p + 4))
     unfolding textR need count more
     text-bad o = text-open ∙ rw o
 
-    pub text-counts : textOk u (part n (p + 4) b) ≡ true → p + (4 + n * 1) ≤ length b → count (markedR ST (indirectR 26 1 (textR u)) (here strict b base area) at m) ≡ counted (6 + n) m′
+    pub text-counts : textOk u (part n (p + 4) b) ≡ true → p + (4 + n * 1) ≤ length b → count (markedR ST (indirectR 26 1 (textR u)) (here strict b base area) at m) ≡ counted (6 + n) (F s)
     unfolding textR need count more
-    text-counts o h = let k = rw mul-one at h in text-open ∙ rw (o, length-part (4 + n) p b k) (ap (λ (j : ℕ). counted j m′) (let r : 2 + (4 + n) ≡ 6 + n = omega arith in r))
+    text-counts o h = let k = rw mul-one at h in text-open ∙ rw (o, length-part (4 + n) p b k) (ap (λ (j : ℕ). counted j (F s)) (let r : 2 + (4 + n) ≡ 6 + n = omega arith in r))
 
 -- AN OPTIONAL FIELD THAT IS NOT THERE
 

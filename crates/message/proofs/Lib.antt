@@ -17,3 +17,5 @@ pub mod CheckPlaces
 pub mod CheckValues
 pub mod CheckFields
 pub mod CheckGroups
+pub mod CheckMarks
+pub mod CheckExact

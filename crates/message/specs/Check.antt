@@ -1,8 +1,9 @@
 -- What the check's functions answer, and what they ask of their callers.
 use mathlib.Core.Path.{_≡_}
-use mathlib.Core.List.{List}
-use Prim.Native.Nat.{ℕ, _+_, _*_, _%_, _^_, _<_, _≤_}
-use lib.ListN.{length}
+use mathlib.Core.Bool.{cond}
+use mathlib.Core.List.{List, []}
+use Prim.Native.Nat.{ℕ, _+_, _-_, min, _*_, _%_, _^_, _<_, _≤_}
+use lib.ListN.{length, replicate}
 use Rattle.schema.specs.Schema.{Kind, Field, width}
 use Rattle.schema.specs.Table.{schema}
 use Rattle.schema.specs.Layout.{Layout}
@@ -10,48 +11,56 @@ use Rattle.message.specs.Marks.{mark}
 use Rattle.message.specs.Sheet.{kindMark, fieldMark}
 use Rattle.message.specs.Walk.{Here, here, strict, Reader, Inner, Place, lost, found, markedR, kindR, valueR, staticR, groupR}
 use Rattle.message.specs.Count.{Count, failed, counted}
+use Rattle.message.specs.declared.Step.{Step}
+use Rattle.message.specs.declared.Step.the-variants.{Counted, Refused}
 use Rattle.message.specs.declared.Walked.{Walked}
-use Rattle.message.specs.declared.Walked.the-variants.{Counted, Refused}
+use Rattle.message.specs.declared.Walked.the-variants.{Counted as Whole, Refused as Failed}
 use Rattle.message.specs.declared.Located.{Located}
 use Rattle.message.specs.declared.Located.the-variants.{At, Nowhere}
 use Rattle.message.specs.declared.Frame.{Frame}
+use Rattle.message.specs.declared.Taken.{Taken}
+
+-- MARKS
+-- The code keeps no mark for the values that stand one behind the other from the data area's start on, as most do: it knows where they end.
+-- Until a value stands elsewhere the scratch is not looked at.
+
+-- The marks of a group with its data area at a, where s is taken and the scratch is m.
+unfoldable pub marksOf : ℕ → Taken → List ℕ → List ℕ
+marksOf a s m = mark a (min (s .packed) (length m) - a) (cond (s .scattered) m (replicate (length m) 0))
 
 -- ANSWERS
 
--- A walk's answer, with the marks that it leaves.
+-- The answer of a step of the walk; F gives the marks of what is taken.
+unfoldable pub countBy : (Taken → List ℕ) → Step → Count
+countBy F (Counted k s) = counted k (F s)
+countBy F (Refused n p) = failed n p
+
+-- The whole walk's answer, with marks m.
 unfoldable pub countOf : Walked → List ℕ → Count
-countOf (Counted k) m = counted k m
-countOf (Refused n p) m = failed n p
+countOf (Whole k) m = counted k m
+countOf (Failed n p) m = failed n p
 
 -- A count that goes on behind a sheet of k bytes. The code adds in 64 bits; a sheet is at most eleven times as long as its message, so nothing is cut off.
 unfoldable pub after : ℕ → Count → Count
 after k (failed n p) = failed n p
 after k (counted j m) = counted ((k + j) % 2 ^ 64) m
 
--- Where an offset leads, with the marks that are left.
-unfoldable pub placeOf : Located → List ℕ → Place
-placeOf (At p n) m = found p n m
-placeOf (Nowhere n p) m = lost n p
+-- Where an offset leads.
+unfoldable pub placeBy : (Taken → List ℕ) → Located → Place
+placeBy F (At p n s) = found p n (F s)
+placeBy F (Nowhere n p) = lost n p
 
--- Where a value that was found ends, and the marks with it taken once more.
-unfoldable pub endOf : ℕ → Located → ℕ
-endOf w (At p n) = p + (4 + n * w)
-endOf w (Nowhere n p) = 0
+-- A value of k bytes at p that was claimed, with the word n, is taken.
+pub record Claims (F : Taken → List ℕ) (p n k : ℕ) (r : Located) : Type 0 where
+  pub place : (q j : ℕ) (s : Taken) → r ≡ At q j s → q ≡ p
+  pub word : (q j : ℕ) (s : Taken) → r ≡ At q j s → j ≡ n
+  pub taken : (q j : ℕ) (s : Taken) → r ≡ At q j s → mark p k (F s) ≡ F s
 
-unfoldable pub again : ℕ → Located → List ℕ → List ℕ
-again w (At p n) m = mark p (4 + n * w) m
-again w (Nowhere n p) m = m
-
--- The count or size word of a value that was found.
-unfoldable pub wordOf : Located → ℕ
-wordOf (At p n) = n
-wordOf (Nowhere n p) = 0
-
--- A value that was found lies in the bytes b, and is taken in the marks m.
-pub record Lands (w : ℕ) (b m : List ℕ) (r : Located) : Type 0 where
-  pub four : wordOf r < 2 ^ 32
-  pub inside : endOf w r ≤ length b
-  pub taken : again w r m ≡ m
+-- A value that was found has a count of four bytes, lies in the bytes b, and is taken.
+pub record Lands (F : Taken → List ℕ) (w : ℕ) (b : List ℕ) (r : Located) : Type 0 where
+  pub four : (p n : ℕ) (s : Taken) → r ≡ At p n s → n < 2 ^ 32
+  pub inside : (p n : ℕ) (s : Taken) → r ≡ At p n s → p + (4 + n * w) ≤ length b
+  pub taken : (p n : ℕ) (s : Taken) → r ≡ At p n s → mark p (4 + n * w) (F s) ≡ F s
 
 -- READERS, AS THE CODE CALLS THEM
 
@@ -77,8 +86,9 @@ staticOf t levels d = staticR (schema t) (innerOf t levels) d
 
 -- WHAT CALLERS SHOW
 
--- k is the index of the table t; the marks m are those of the group's bytes b, which start at `base` of the message.
-pub record Ready (t k b m : List ℕ) (base : ℕ) : Type 0 where
+-- k is the index of the table t; the scratch m is that of the group's bytes b, whose fields stand before the data area.
+pub record Ready (t k b m : List ℕ) (f : Frame) : Type 0 where
   pub layout : Layout t k
   pub same : length m ≡ length b
-  pub small : base + length b ≤ 65536
+  pub small : f .base + length b ≤ 65536
+  pub room : f .area ≤ length b

@@ -1,40 +1,61 @@
 // A message under its schema: whether it is one, and how long its sheet is.
 //
 // The check walks a message once, in the order of document 01, and keeps which bytes of a group are
-// taken in the scratch that the caller lends. `index` is that of crate `schema`. Functions count the
+// taken by where the packed ones end and, for others, in the scratch that the caller lends. `index` is that of crate `schema`. Functions count the
 // sheet's length on from `before`, what comes before them.
 ghost use mathlib.Core.Path.{_≡_};
-ghost use mathlib.Core.Bool.{true, not, _||_};
+ghost use mathlib.Core.Bool.{true, cond, not, _||_};
 ghost use mathlib.Core.List.{List, []};
-ghost use Prim.Native.Nat.{ℕ, _+_, _*_, _%_, _<_, _≤_, _^_};
+ghost use Prim.Native.Nat.{ℕ, min, max, _+_, _*_, _%_, _<_, _≤_, _^_};
 ghost use lib.ListN.{length, take, drop, getD, replicate};
 ghost use lib.Dec.{eqb};
 ghost use Rattle.wire.specs.Bytes.{part, splice};
+ghost use Rattle.schema.specs.Faults.{need};
 ghost use Rattle.schema.specs.Schema.{textOk, inline, known, kindWidth, valueWidth, fieldWidth, shallowKind, shallow};
 ghost use Rattle.schema.specs.Table.{fieldAt, enums, schema};
 ghost use Rattle.schema.specs.Layout.{widthIn, Layout};
 ghost use Rattle.schema.specs.FieldKinds.{kindFrom, testedKind};
-ghost use Rattle.message.specs.Marks.{mark, padsZero, padsBefore};
+ghost use Rattle.message.specs.Marks.{free, mark, padsZero, padsBefore};
 ghost use Rattle.message.specs.Sheet.{Mark, ST};
-ghost use Rattle.message.specs.Walk.{Here, Reader, Inner, byte, here, strict, markedR, optionalR, inlineR, indirectR, textR, innerR, locate, itemsR, fieldR, extendingR, extensionR, extensionIn, bodyR, groupR, next, walk};
+ghost use Rattle.message.specs.Walk.{Here, lost, found, Reader, Inner, byte, here, strict, markedR, optionalR, inlineR, indirectR, textR, innerR, locate, itemsR, fieldR, extendingR, extensionR, extensionIn, bodyR, groupR, next, walk};
 ghost use Rattle.message.specs.Count.{count, andThen, counted};
-ghost use Rattle.message.specs.Check.{countOf, after, placeOf, Lands, within, itemR, markedValueR, innerOf, widthOf, staticOf, Ready};
+ghost use Rattle.message.specs.Check.{marksOf, countBy, countOf, after, placeBy, Claims, Lands, within, itemR, markedValueR, innerOf, widthOf, staticOf, Ready};
 
-// What a walk finds: the sheet's length so far, or the first fault.
+// Which bytes of a data area are taken: those before `packed`, and where a value did not stand straight
+// behind the others, those that are marked in the scratch.
+struct Taken {
+    packed: usize,
+    scattered: bool,
+}
+
+// What a walk finds: the sheet's length so far and what is taken, or the first fault.
+enum Step {
+    Counted { length: usize, taken: Taken },
+    Refused { number: u8, place: usize },
+}
+
+// The check's answer: the sheet's length, or the first fault.
 pub enum Walked {
     Counted { length: usize },
     Refused { number: u8, place: usize },
 }
 
 // Where an offset leads: a value's place and its count or size word, or a fault.
-pub enum Located {
-    At { place: usize, count: usize },
-    Nowhere { number: u8, place: usize },
+enum Located {
+    At {
+        place: usize,
+        count: usize,
+        taken: Taken,
+    },
+    Nowhere {
+        number: u8,
+        place: usize,
+    },
 }
 
 // What holds in the whole of a dynamic group: where it starts in the message, where its data area
 // starts in its own bytes, and how many levels are left below it.
-pub struct Frame {
+struct Frame {
     base: usize,
     area: usize,
     levels: usize,
@@ -61,12 +82,13 @@ fn locate(
     bytes: &[u8],
     marks: &mut [u8],
     frame: Frame,
+    taken: Taken,
     at: usize,
     past: u8,
     width: usize,
 ) -> Located
-    requires { ⌜ (length (now marks) ≡ length (now bytes)) × (frame .base + length (now bytes) ≤ 65536) × (at + 4 ≤ length (now bytes)) × (width ≤ 4096) ⌝ }
-    ensures { λ r. ⌜ (placeOf r (now (marks .exit)) ≡ locate past width (within (now (bytes .entry)) frame) at (now (marks .entry))) × Lands width (now (bytes .entry)) (now (marks .exit)) r ⌝ }
+    requires { ⌜ (length (now marks) ≡ length (now bytes)) × (frame .base + length (now bytes) ≤ 65536) × (frame .area ≤ length (now bytes)) × (at + 4 ≤ length (now bytes)) × (width ≤ 4096) ⌝ }
+    ensures { λ r. ⌜ (placeBy (λ s. marksOf (frame .area) s (now (marks .exit))) r ≡ locate past width (within (now (bytes .entry)) frame) at (marksOf (frame .area) taken (now (marks .entry)))) × Lands (λ s. marksOf (frame .area) s (now (marks .exit))) width (now (bytes .entry)) r ⌝ }
 {
     let place = at + wire::read_u32(bytes, at);
     if place < frame.area {
@@ -95,15 +117,81 @@ fn locate(
             place: frame.base + place,
         };
     }
-    if wire::all_zero(marks, place, size) {
-        wire::fill(marks, place, size, 1);
-        return Located::At { place, count };
+    claim(marks, frame, taken, place, count, size)
+}
+
+// "27: byte already taken", or the value of `size` bytes at `place` is taken.
+fn claim(
+    marks: &mut [u8],
+    frame: Frame,
+    taken: Taken,
+    place: usize,
+    count: usize,
+    size: usize,
+) -> Located
+    requires { ⌜ (frame .area ≤ place) × (1 ≤ size) × (place + size ≤ length (now marks)) × (frame .base + length (now marks) ≤ 65536) ⌝ }
+    ensures { λ r. ⌜ (placeBy (λ s. marksOf (frame .area) s (now (marks .exit))) r ≡ need (free place size (marksOf (frame .area) taken (now (marks .entry)))) (lost 27 (frame .base + place)) (found place count (mark place size (marksOf (frame .area) taken (now (marks .entry)))))) × Claims (λ s. marksOf (frame .area) s (now (marks .exit))) place count size r ⌝ }
+{
+    if place < taken.packed {
+        return Located::Nowhere {
+            number: 27,
+            place: frame.base + place,
+        };
     }
-    Located::Nowhere {
-        number: 27,
-        place: frame.base + place,
+    if taken.scattered {
+        if wire::all_zero(marks, place, size) {
+            wire::fill(marks, place, size, 1);
+            return Located::At {
+                place,
+                count,
+                taken,
+            };
+        }
+        return Located::Nowhere {
+            number: 27,
+            place: frame.base + place,
+        };
+    }
+    if place == taken.packed {
+        return Located::At {
+            place,
+            count,
+            taken: Taken {
+                packed: place + size,
+                scattered: false,
+            },
+        };
+    }
+    clear(marks);
+    wire::fill(marks, place, size, 1);
+    Located::At {
+        place,
+        count,
+        taken: Taken {
+            packed: taken.packed,
+            scattered: true,
+        },
     }
 }
+
+fn clear(marks: &mut [u8])
+    ensures { λ _. ⌜ now (marks .exit) ≡ replicate (length (now (marks .entry))) 0 ⌝ }
+{
+    let n = marks.len();
+    wire::fill(marks, 0, n, 0);
+}
+
+// What a nested group left in the scratch gives way to the marks of its own bytes.
+fn retake(marks: &mut [u8], scattered: bool, place: usize, size: usize)
+    requires { ⌜ place + size ≤ length (now marks) ⌝ }
+    ensures { λ _. ⌜ now (marks .exit) ≡ cond scattered (splice size place (replicate size 1) (now (marks .entry))) (now (marks .entry)) ⌝ }
+{
+    if scattered {
+        wire::fill(marks, place, size, 1);
+    }
+}
+
+// PADS
 
 // A byte that a value took, or a pad byte that is zero.
 fn is_clean(mark: u8, byte: u8) -> bool
@@ -115,7 +203,7 @@ fn is_clean(mark: u8, byte: u8) -> bool
 // Whether every pad byte from `at` on is zero. The loop has no early exit, so that it becomes vector
 // code.
 fn pads_zero(marks: &[u8], bytes: &[u8], at: usize) -> bool
-    requires { ⌜ (length (now marks) ≡ length (now bytes)) × (at ≤ length (now bytes)) ⌝ }
+    requires { ⌜ length (now marks) ≡ length (now bytes) ⌝ }
     ensures { λ r. ⌜ r ≡ padsZero (drop at (now (marks .entry))) (drop at (now (bytes .entry))) ⌝ }
 {
     let mut zero = true;
@@ -142,6 +230,67 @@ fn pads_before(marks: &[u8], bytes: &[u8], at: usize) -> usize
     i - at
 }
 
+fn later(a: usize, b: usize) -> usize
+    ensures { λ r. ⌜ r ≡ max a b ⌝ }
+{
+    if a < b {
+        return b;
+    }
+    a
+}
+
+// "6", as a test of what no value took.
+fn are_pads_zero(marks: &[u8], bytes: &[u8], area: usize, taken: Taken) -> bool
+    requires { ⌜ (length (now marks) ≡ length (now bytes)) × (area ≤ length (now bytes)) ⌝ }
+    ensures { λ r. ⌜ r ≡ padsZero (drop area (marksOf area taken (now (marks .entry)))) (drop area (now (bytes .entry))) ⌝ }
+{
+    let start = later(area, taken.packed);
+    if taken.scattered {
+        return pads_zero(marks, bytes, start);
+    }
+    if bytes.len() < start {
+        return true;
+    }
+    wire::all_zero(bytes, start, bytes.len() - start)
+}
+
+// "6", as the place in the data area. The marks that were not kept are written for it.
+fn bad_pad(marks: &mut [u8], bytes: &[u8], area: usize, taken: Taken) -> usize
+    requires { ⌜ (length (now marks) ≡ length (now bytes)) × (area ≤ length (now bytes)) ⌝ }
+    ensures { λ r. ⌜ (r ≡ padsBefore (drop area (marksOf area taken (now (marks .entry)))) (drop area (now (bytes .entry)))) × (area + r ≤ length (now (bytes .entry))) ⌝ }
+{
+    write_marks(marks, area, taken);
+    pads_before(marks, bytes, area)
+}
+
+fn write_marks(marks: &mut [u8], area: usize, taken: Taken)
+    requires { ⌜ area ≤ length (now marks) ⌝ }
+    ensures { λ _. ⌜ now (marks .exit) ≡ marksOf area taken (now (marks .entry)) ⌝ }
+{
+    clear_unless(marks, taken.scattered);
+    let end = earlier(taken.packed, marks.len());
+    if area < end {
+        wire::fill(marks, area, end - area, 1);
+    }
+}
+
+fn clear_unless(marks: &mut [u8], scattered: bool)
+    ensures { λ _. ⌜ now (marks .exit) ≡ cond scattered (now (marks .entry)) (replicate (length (now (marks .entry))) 0) ⌝ }
+{
+    if !scattered {
+        clear(marks);
+    }
+}
+
+fn earlier(a: usize, b: usize) -> usize
+    ensures { λ r. ⌜ r ≡ min a b ⌝ }
+{
+    if a < b {
+        return a;
+    }
+    b
+}
+
 // VALUES THAT HOLD NO OTHER
 
 fn is_text(utf8: bool, bytes: &[u8], at: usize, count: usize) -> bool
@@ -163,20 +312,22 @@ fn check_number(
     base: usize,
     tested: schema::Tested,
     at: usize,
+    taken: Taken,
     before: usize,
-) -> Walked
+) -> Step
     requires { ⌜ (Layout (now table) (now index)) × (at + kindWidth (widthIn (now index)) (testedKind (enums (now table)) tested) ≤ length (now bytes)) × (base + length (now bytes) ≤ 65536) ⌝ }
-    ensures { λ r. ⌜ ((I : Inner) (S : ℕ → Reader) (area : ℕ) (m : List ℕ) → countOf r m ≡ after before (count (itemR I S (testedKind (enums (now (table .entry))) tested) (here strict (now (bytes .entry)) base area) at m))) ⌝ }
+    ensures { λ r. ⌜ ((I : Inner) (S : ℕ → Reader) (area : ℕ) (F : Taken → List ℕ) → countBy F r ≡ after before (count (itemR I S (testedKind (enums (now (table .entry))) tested) (here strict (now (bytes .entry)) base area) at (F taken)))) ⌝ }
 {
     let fault = schema::test_fault(table, index, tested, bytes, at);
     if fault != 0 {
-        return Walked::Refused {
+        return Step::Refused {
             number: fault,
             place: base + at,
         };
     }
-    Walked::Counted {
+    Step::Counted {
         length: longer(before, 2 + wide(schema::tested_width(tested))),
+        taken,
     }
 }
 
@@ -187,15 +338,16 @@ fn check_inline(
     utf8: bool,
     capacity: u8,
     at: usize,
+    taken: Taken,
     before: usize,
-) -> Walked
+) -> Step
     requires { ⌜ (at + (capacity + 1) ≤ length (now bytes)) × (base + length (now bytes) ≤ 65536) ⌝ }
-    ensures { λ r. ⌜ ((I : Inner) (S : ℕ → Reader) (area : ℕ) (m : List ℕ) → countOf r m ≡ after before (count (itemR I S (inline utf8 capacity) (here strict (now (bytes .entry)) base area) at m))) ⌝ }
+    ensures { λ r. ⌜ ((I : Inner) (S : ℕ → Reader) (area : ℕ) (F : Taken → List ℕ) → countBy F r ≡ after before (count (itemR I S (inline utf8 capacity) (here strict (now (bytes .entry)) base area) at (F taken)))) ⌝ }
 {
     let room = wide(capacity);
     let count = wide(bytes[at]);
     if room < count {
-        return Walked::Refused {
+        return Step::Refused {
             number: 7,
             place: base + at,
         };
@@ -203,16 +355,17 @@ fn check_inline(
     let end = at + 1 + count;
     if wire::all_zero(bytes, end, room - count) {
         if is_text(utf8, bytes, at + 1, count) {
-            return Walked::Counted {
+            return Step::Counted {
                 length: longer(before, 6 + count),
+                taken,
             };
         }
-        return Walked::Refused {
+        return Step::Refused {
             number: 9,
             place: base + (at + 1),
         };
     }
-    Walked::Refused {
+    Step::Refused {
         number: 8,
         place: base + end + wire::count_zeros(bytes, end, room - count),
     }
@@ -225,45 +378,59 @@ fn check_text(
     frame: Frame,
     utf8: bool,
     at: usize,
+    taken: Taken,
     before: usize,
-) -> Walked
-    requires { ⌜ (length (now marks) ≡ length (now bytes)) × (frame .base + length (now bytes) ≤ 65536) × (at + 4 ≤ length (now bytes)) ⌝ }
-    ensures { λ r. ⌜ countOf r (now (marks .exit)) ≡ after before (count (markedR ST (indirectR 26 1 (textR utf8)) (within (now (bytes .entry)) frame) at (now (marks .entry)))) ⌝ }
+) -> Step
+    requires { ⌜ (length (now marks) ≡ length (now bytes)) × (frame .base + length (now bytes) ≤ 65536) × (frame .area ≤ length (now bytes)) × (at + 4 ≤ length (now bytes)) ⌝ }
+    ensures { λ r. ⌜ countBy (λ s. marksOf (frame .area) s (now (marks .exit))) r ≡ after before (count (markedR ST (indirectR 26 1 (textR utf8)) (within (now (bytes .entry)) frame) at (marksOf (frame .area) taken (now (marks .entry))))) ⌝ }
 {
-    let found = locate(bytes, marks, frame, at, 26, 1);
+    let found = locate(bytes, marks, frame, taken, at, 26, 1);
     match found {
-        Located::At { place, count } => {
+        Located::At {
+            place,
+            count,
+            taken: now,
+        } => {
             if is_text(utf8, bytes, place + 4, count) {
-                return Walked::Counted {
+                return Step::Counted {
                     length: longer(before, 6 + count),
+                    taken: now,
                 };
             }
-            Walked::Refused {
+            Step::Refused {
                 number: 9,
                 place: frame.base + (place + 4),
             }
         }
-        Located::Nowhere { number, place } => Walked::Refused { number, place },
+        Located::Nowhere { number, place } => Step::Refused { number, place },
     }
 }
 
 // An optional field whose flag is not 1: "11 on its flag, 4", or absent.
-fn check_absent(bytes: &[u8], base: usize, at: usize, width: usize, before: usize) -> Walked
+fn check_absent(
+    bytes: &[u8],
+    base: usize,
+    at: usize,
+    width: usize,
+    taken: Taken,
+    before: usize,
+) -> Step
     requires { ⌜ (byte at (now bytes) ≡ 1 → ⊥) × (at + (width + 1) ≤ length (now bytes)) × (base + length (now bytes) ≤ 65536) ⌝ }
-    ensures { λ r. ⌜ ((k : Mark) (R : Reader) (area : ℕ) (m : List ℕ) → countOf r m ≡ after before (count (optionalR k width R (here strict (now (bytes .entry)) base area) at m))) ⌝ }
+    ensures { λ r. ⌜ ((k : Mark) (R : Reader) (area : ℕ) (F : Taken → List ℕ) → countBy F r ≡ after before (count (optionalR k width R (here strict (now (bytes .entry)) base area) at (F taken)))) ⌝ }
 {
     if bytes[at] != 0 {
-        return Walked::Refused {
+        return Step::Refused {
             number: 11,
             place: base + at,
         };
     }
     if wire::all_zero(bytes, at + 1, width) {
-        return Walked::Counted {
+        return Step::Counted {
             length: longer(before, 2),
+            taken,
         };
     }
-    Walked::Refused {
+    Step::Refused {
         number: 4,
         place: base + (at + 1) + wire::count_zeros(bytes, at + 1, width),
     }
@@ -284,6 +451,14 @@ fn extension_inside(bytes: &[u8], area: usize) -> bool
     12 + offset < bytes.len()
 }
 
+fn is_known(table: &[u8], index: &[u16], id: u64) -> bool
+    requires { ⌜ Layout (now table) (now index) ⌝ }
+    ensures { λ r. ⌜ r ≡ known (schema (now (table .entry))) id ⌝ }
+{
+    let total = schema::group_total(index);
+    schema::find(table, index, total, id) < total
+}
+
 // GROUPS, FIELDS AND ITEMS
 
 // "Group: 1, 2, 25, 24": the head of the group that `bytes` are, with `levels` left for it. `allowed`
@@ -297,12 +472,12 @@ fn check_group(
     levels: usize,
     allowed: usize,
     before: usize,
-) -> Walked
-    requires { ⌜ Ready (now table) (now index) (now bytes) (now marks) base ⌝ }
-    ensures { λ r. ⌜ countOf r [] ≡ after before (count (groupR strict (schema (now (table .entry))) levels allowed base (now (bytes .entry)))) ⌝ }
+) -> Step
+    requires { ⌜ (Layout (now table) (now index)) × (length (now marks) ≡ length (now bytes)) × (base + length (now bytes) ≤ 65536) ⌝ }
+    ensures { λ r. ⌜ countBy (λ _. []) r ≡ after before (count (groupR strict (schema (now (table .entry))) levels allowed base (now (bytes .entry)))) ⌝ }
 {
     if bytes.len() < 16 {
-        return Walked::Refused {
+        return Step::Refused {
             number: 1,
             place: base,
         };
@@ -310,21 +485,21 @@ fn check_group(
     let total = schema::group_total(index);
     let group = schema::find(table, index, total, wire::read_u64(bytes, 4));
     if total <= group {
-        return Walked::Refused {
+        return Step::Refused {
             number: 2,
             place: base,
         };
     }
     if schema::allows(table, index, allowed, group) {
         if levels == 0 {
-            return Walked::Refused {
+            return Step::Refused {
                 number: 24,
                 place: base,
             };
         }
         return check_body(table, index, bytes, marks, base, levels - 1, group, before);
     }
-    Walked::Refused {
+    Step::Refused {
         number: 25,
         place: base,
     }
@@ -340,39 +515,52 @@ fn check_body(
     levels: usize,
     group: usize,
     before: usize,
-) -> Walked
-    requires { ⌜ (Ready (now table) (now index) (now bytes) (now marks) base) × (16 ≤ length (now bytes)) × (group < length (schema (now table))) ⌝ }
-    ensures { λ r. ⌜ countOf r [] ≡ after before (count (bodyR strict (schema (now (table .entry))) (innerOf (now (table .entry)) levels) group base (now (bytes .entry)))) ⌝ }
+) -> Step
+    requires { ⌜ (Layout (now table) (now index)) × (length (now marks) ≡ length (now bytes)) × (base + length (now bytes) ≤ 65536) × (16 ≤ length (now bytes)) × (group < length (schema (now table))) ⌝ }
+    ensures { λ r. ⌜ countBy (λ _. []) r ≡ after before (count (bodyR strict (schema (now (table .entry))) (innerOf (now (table .entry)) levels) group base (now (bytes .entry)))) ⌝ }
 {
     let area = 16 + schema::group_width(index, group);
     if bytes.len() < area {
-        return Walked::Refused {
+        return Step::Refused {
             number: 14,
             place: base,
         };
     }
     if !extension_inside(bytes, area) {
-        return Walked::Refused {
+        return Step::Refused {
             number: 3,
             place: base + 12,
         };
     }
-    clear(marks);
     let frame = Frame { base, area, levels };
-    let contents = check_contents(table, index, bytes, marks, frame, group, longer(before, 8));
+    let none = Taken {
+        packed: area,
+        scattered: false,
+    };
+    let contents = check_contents(
+        table,
+        index,
+        bytes,
+        marks,
+        frame,
+        group,
+        none,
+        longer(before, 8),
+    );
     match contents {
-        Walked::Counted { length } => {
-            if pads_zero(marks, bytes, area) {
-                return Walked::Counted {
+        Step::Counted { length, taken } => {
+            if are_pads_zero(marks, bytes, area, taken) {
+                return Step::Counted {
                     length: longer(length, 2),
+                    taken,
                 };
             }
-            Walked::Refused {
+            Step::Refused {
                 number: 6,
-                place: base + area + pads_before(marks, bytes, area),
+                place: base + area + bad_pad(marks, bytes, area, taken),
             }
         }
-        Walked::Refused { number, place } => Walked::Refused { number, place },
+        Step::Refused { number, place } => Step::Refused { number, place },
     }
 }
 
@@ -383,15 +571,35 @@ fn check_contents(
     marks: &mut [u8],
     frame: Frame,
     group: usize,
+    taken: Taken,
     before: usize,
-) -> Walked
-    requires { ⌜ (Ready (now table) (now index) (now bytes) (now marks) (frame .base)) × (16 + widthOf (now table) 5 group ≤ length (now bytes)) × (group < length (schema (now table))) ⌝ }
-    ensures { λ r. ⌜ countOf r (now (marks .exit)) ≡ after before (count (next (staticOf (now (table .entry)) (frame .levels) 5 group (within (now (bytes .entry)) frame) 16 (now (marks .entry))) (λ m. extensionR (schema (now (table .entry))) (innerOf (now (table .entry)) (frame .levels)) (within (now (bytes .entry)) frame) 12 m))) ⌝ }
+) -> Step
+    requires { ⌜ (Ready (now table) (now index) (now bytes) (now marks) frame) × (16 + widthOf (now table) 5 group ≤ length (now bytes)) × (group < length (schema (now table))) ⌝ }
+    ensures { λ r. ⌜ countBy (λ s. marksOf (frame .area) s (now (marks .exit))) r ≡ after before (count (next (staticOf (now (table .entry)) (frame .levels) 5 group (within (now (bytes .entry)) frame) 16 (marksOf (frame .area) taken (now (marks .entry)))) (λ m. extensionR (schema (now (table .entry))) (innerOf (now (table .entry)) (frame .levels)) (within (now (bytes .entry)) frame) 12 m))) ⌝ }
 {
-    let fields = check_fields(table, index, bytes, marks, frame, 5, group, 16, before);
+    let fields = check_fields(
+        table,
+        index,
+        bytes,
+        marks,
+        frame,
+        5,
+        group,
+        16,
+        taken,
+        before,
+    );
     match fields {
-        Walked::Counted { length } => check_extension(table, index, bytes, marks, frame, length),
-        Walked::Refused { number, place } => Walked::Refused { number, place },
+        Step::Counted { length, taken: now } => check_extension(
+            table,
+            index,
+            bytes,
+            marks,
+            frame,
+            now,
+            length,
+        ),
+        Step::Refused { number, place } => Step::Refused { number, place },
     }
 }
 
@@ -406,10 +614,11 @@ fn check_fields(
     depth: usize,
     group: usize,
     at: usize,
+    taken: Taken,
     before: usize,
-) -> Walked
-    requires { ⌜ (Ready (now table) (now index) (now bytes) (now marks) (frame .base)) × (at + widthOf (now table) depth group ≤ length (now bytes)) × (group < length (schema (now table))) × (shallow (schema (now table)) depth group ≡ true) ⌝ }
-    ensures { λ r. ⌜ countOf r (now (marks .exit)) ≡ after before (count (staticOf (now (table .entry)) (frame .levels) depth group (within (now (bytes .entry)) frame) at (now (marks .entry)))) ⌝ }
+) -> Step
+    requires { ⌜ (Ready (now table) (now index) (now bytes) (now marks) frame) × (at + widthOf (now table) depth group ≤ length (now bytes)) × (group < length (schema (now table))) × (shallow (schema (now table)) depth group ≡ true) ⌝ }
+    ensures { λ r. ⌜ countBy (λ s. marksOf (frame .area) s (now (marks .exit))) r ≡ after before (count (staticOf (now (table .entry)) (frame .levels) depth group (within (now (bytes .entry)) frame) at (marksOf (frame .area) taken (now (marks .entry))))) ⌝ }
 {
     let start = schema::group_place(index, group);
     let total = schema::field_count(table, start);
@@ -418,6 +627,7 @@ fn check_fields(
     let mut field = start + 16;
     let mut place = at;
     let mut length = before;
+    let mut holds = taken;
     while i < total {
         let plain = schema::plain_width(table, field);
         if plain != 0 {
@@ -437,21 +647,29 @@ fn check_fields(
             deeper,
             field,
             place,
+            holds,
             length,
         );
         match answer {
-            Walked::Counted { length: now } => {
-                length = now;
+            Step::Counted {
+                length: sum,
+                taken: now,
+            } => {
+                length = sum;
+                holds = now;
             }
-            Walked::Refused { number, place } => {
-                return Walked::Refused { number, place };
+            Step::Refused { number, place } => {
+                return Step::Refused { number, place };
             }
         }
         place += width;
         field += 16;
         i += 1;
     }
-    Walked::Counted { length }
+    Step::Counted {
+        length,
+        taken: holds,
+    }
 }
 
 // "Field: 11 on its flag, 4, then its value": the field whose record stands at `field` of the table.
@@ -464,15 +682,16 @@ fn check_field(
     depth: usize,
     field: usize,
     at: usize,
+    taken: Taken,
     before: usize,
-) -> Walked
-    requires { ⌜ (Ready (now table) (now index) (now bytes) (now marks) (frame .base)) × (field + 16 ≤ length (now table)) × (at + fieldWidth (widthOf (now table) depth) (fieldAt (enums (now table)) (drop field (now table))) ≤ length (now bytes)) × (shallowKind (shallow (schema (now table)) depth) (widthOf (now table) depth) (fieldAt (enums (now table)) (drop field (now table)) .kind) ≡ true) ⌝ }
-    ensures { λ r. ⌜ countOf r (now (marks .exit)) ≡ after before (count (fieldR (innerOf (now (table .entry)) (frame .levels)) (widthOf (now (table .entry)) depth) (staticOf (now (table .entry)) (frame .levels) depth) (fieldAt (enums (now (table .entry))) (drop field (now (table .entry)))) (within (now (bytes .entry)) frame) at (now (marks .entry)))) ⌝ }
+) -> Step
+    requires { ⌜ (Ready (now table) (now index) (now bytes) (now marks) frame) × (field + 16 ≤ length (now table)) × (at + fieldWidth (widthOf (now table) depth) (fieldAt (enums (now table)) (drop field (now table))) ≤ length (now bytes)) × (shallowKind (shallow (schema (now table)) depth) (widthOf (now table) depth) ((fieldAt (enums (now table)) (drop field (now table))) .kind) ≡ true) ⌝ }
+    ensures { λ r. ⌜ countBy (λ s. marksOf (frame .area) s (now (marks .exit))) r ≡ after before (count (fieldR (innerOf (now (table .entry)) (frame .levels)) (widthOf (now (table .entry)) depth) (staticOf (now (table .entry)) (frame .levels) depth) (fieldAt (enums (now (table .entry))) (drop field (now (table .entry)))) (within (now (bytes .entry)) frame) at (marksOf (frame .area) taken (now (marks .entry))))) ⌝ }
 {
     if schema::is_optional(table, field) {
-        let width = schema::value_width(table, index, field);
         if bytes[at] != 1 {
-            return check_absent(bytes, frame.base, at, width, before);
+            let width = schema::value_width(table, index, field);
+            return check_absent(bytes, frame.base, at, width, taken, before);
         }
         return check_value(
             table,
@@ -483,10 +702,22 @@ fn check_field(
             depth,
             field,
             at + 1,
+            taken,
             before,
         );
     }
-    check_value(table, index, bytes, marks, frame, depth, field, at, before)
+    check_value(
+        table,
+        index,
+        bytes,
+        marks,
+        frame,
+        depth,
+        field,
+        at,
+        taken,
+        before,
+    )
 }
 
 fn check_value(
@@ -498,17 +729,22 @@ fn check_value(
     depth: usize,
     field: usize,
     at: usize,
+    taken: Taken,
     before: usize,
-) -> Walked
-    requires { ⌜ (Ready (now table) (now index) (now bytes) (now marks) (frame .base)) × (field + 16 ≤ length (now table)) × (at + valueWidth (widthOf (now table) depth) (fieldAt (enums (now table)) (drop field (now table))) ≤ length (now bytes)) × (shallowKind (shallow (schema (now table)) depth) (widthOf (now table) depth) (fieldAt (enums (now table)) (drop field (now table)) .kind) ≡ true) ⌝ }
-    ensures { λ r. ⌜ countOf r (now (marks .exit)) ≡ after before (count (markedValueR (innerOf (now (table .entry)) (frame .levels)) (widthOf (now (table .entry)) depth) (staticOf (now (table .entry)) (frame .levels) depth) (fieldAt (enums (now (table .entry))) (drop field (now (table .entry)))) (within (now (bytes .entry)) frame) at (now (marks .entry)))) ⌝ }
+) -> Step
+    requires { ⌜ (Ready (now table) (now index) (now bytes) (now marks) frame) × (field + 16 ≤ length (now table)) × (at + valueWidth (widthOf (now table) depth) (fieldAt (enums (now table)) (drop field (now table))) ≤ length (now bytes)) × (shallowKind (shallow (schema (now table)) depth) (widthOf (now table) depth) ((fieldAt (enums (now table)) (drop field (now table))) .kind) ≡ true) ⌝ }
+    ensures { λ r. ⌜ countBy (λ s. marksOf (frame .area) s (now (marks .exit))) r ≡ after before (count (markedValueR (innerOf (now (table .entry)) (frame .levels)) (widthOf (now (table .entry)) depth) (staticOf (now (table .entry)) (frame .levels) depth) (fieldAt (enums (now (table .entry))) (drop field (now (table .entry)))) (within (now (bytes .entry)) frame) at (marksOf (frame .area) taken (now (marks .entry))))) ⌝ }
 {
     let kind = schema::kind_at(table, field);
     if schema::is_sequence(table, field) {
         let width = schema::kind_width(index, kind);
-        let found = locate(bytes, marks, frame, at, 13, width);
+        let found = locate(bytes, marks, frame, taken, at, 13, width);
         match found {
-            Located::At { place, count } => {
+            Located::At {
+                place,
+                count,
+                taken: now,
+            } => {
                 return check_items(
                     table,
                     index,
@@ -520,15 +756,27 @@ fn check_value(
                     width,
                     count,
                     place + 4,
+                    now,
                     longer(before, 6),
                 );
             }
             Located::Nowhere { number, place } => {
-                return Walked::Refused { number, place };
+                return Step::Refused { number, place };
             }
         }
     }
-    check_item(table, index, bytes, marks, frame, depth, kind, at, before)
+    check_item(
+        table,
+        index,
+        bytes,
+        marks,
+        frame,
+        depth,
+        kind,
+        at,
+        taken,
+        before,
+    )
 }
 
 // So many items, each of `width` bytes. Plain values need no test, and are only counted.
@@ -543,19 +791,22 @@ fn check_items(
     width: usize,
     total: usize,
     at: usize,
+    taken: Taken,
     before: usize,
-) -> Walked
-    requires { ⌜ (Ready (now table) (now index) (now bytes) (now marks) (frame .base)) × (at + total * width ≤ length (now bytes)) × (total < 2 ^ 32) × (width ≤ 4096) × (width ≡ kindWidth (widthOf (now table) depth) (kindFrom (enums (now table)) kind)) × (shallowKind (shallow (schema (now table)) depth) (widthOf (now table) depth) (kindFrom (enums (now table)) kind) ≡ true) ⌝ }
-    ensures { λ r. ⌜ countOf r (now (marks .exit)) ≡ after before (count (itemsR width (itemR (innerOf (now (table .entry)) (frame .levels)) (staticOf (now (table .entry)) (frame .levels) depth) (kindFrom (enums (now (table .entry))) kind)) total (within (now (bytes .entry)) frame) at (now (marks .entry)))) ⌝ }
+) -> Step
+    requires { ⌜ (Ready (now table) (now index) (now bytes) (now marks) frame) × (at + total * width ≤ length (now bytes)) × (total < 2 ^ 32) × (width ≤ 4096) × (width ≡ kindWidth (widthOf (now table) depth) (kindFrom (enums (now table)) kind)) × (shallowKind (shallow (schema (now table)) depth) (widthOf (now table) depth) (kindFrom (enums (now table)) kind) ≡ true) ⌝ }
+    ensures { λ r. ⌜ countBy (λ s. marksOf (frame .area) s (now (marks .exit))) r ≡ after before (count (itemsR width (itemR (innerOf (now (table .entry)) (frame .levels)) (staticOf (now (table .entry)) (frame .levels) depth) (kindFrom (enums (now (table .entry))) kind)) total (within (now (bytes .entry)) frame) at (marksOf (frame .area) taken (now (marks .entry))))) ⌝ }
 {
     if let schema::FieldKind::Plain { width: plain } = kind {
-        return Walked::Counted {
+        return Step::Counted {
             length: longer(before, total * (2 + wide(plain))),
+            taken,
         };
     }
     let mut i = 0;
     let mut place = at;
     let mut length = before;
+    let mut holds = taken;
     while i < total {
         let item = check_item(
             table,
@@ -566,20 +817,28 @@ fn check_items(
             depth,
             kind,
             place,
+            holds,
             length,
         );
         match item {
-            Walked::Counted { length: now } => {
-                length = now;
+            Step::Counted {
+                length: sum,
+                taken: now,
+            } => {
+                length = sum;
+                holds = now;
             }
-            Walked::Refused { number, place } => {
-                return Walked::Refused { number, place };
+            Step::Refused { number, place } => {
+                return Step::Refused { number, place };
             }
         }
         place += width;
         i += 1;
     }
-    Walked::Counted { length }
+    Step::Counted {
+        length,
+        taken: holds,
+    }
 }
 
 fn check_item(
@@ -591,14 +850,16 @@ fn check_item(
     depth: usize,
     kind: schema::FieldKind,
     at: usize,
+    taken: Taken,
     before: usize,
-) -> Walked
-    requires { ⌜ (Ready (now table) (now index) (now bytes) (now marks) (frame .base)) × (at + kindWidth (widthOf (now table) depth) (kindFrom (enums (now table)) kind) ≤ length (now bytes)) × (shallowKind (shallow (schema (now table)) depth) (widthOf (now table) depth) (kindFrom (enums (now table)) kind) ≡ true) ⌝ }
-    ensures { λ r. ⌜ countOf r (now (marks .exit)) ≡ after before (count (itemR (innerOf (now (table .entry)) (frame .levels)) (staticOf (now (table .entry)) (frame .levels) depth) (kindFrom (enums (now (table .entry))) kind) (within (now (bytes .entry)) frame) at (now (marks .entry)))) ⌝ }
+) -> Step
+    requires { ⌜ (Ready (now table) (now index) (now bytes) (now marks) frame) × (at + kindWidth (widthOf (now table) depth) (kindFrom (enums (now table)) kind) ≤ length (now bytes)) × (shallowKind (shallow (schema (now table)) depth) (widthOf (now table) depth) (kindFrom (enums (now table)) kind) ≡ true) ⌝ }
+    ensures { λ r. ⌜ countBy (λ s. marksOf (frame .area) s (now (marks .exit))) r ≡ after before (count (itemR (innerOf (now (table .entry)) (frame .levels)) (staticOf (now (table .entry)) (frame .levels) depth) (kindFrom (enums (now (table .entry))) kind) (within (now (bytes .entry)) frame) at (marksOf (frame .area) taken (now (marks .entry))))) ⌝ }
 {
     match kind {
-        schema::FieldKind::Plain { width } => Walked::Counted {
+        schema::FieldKind::Plain { width } => Step::Counted {
             length: longer(before, 2 + wide(width)),
+            taken,
         },
         schema::FieldKind::Number { tested } => check_number(
             table,
@@ -607,6 +868,7 @@ fn check_item(
             frame.base,
             tested,
             at,
+            taken,
             before,
         ),
         schema::FieldKind::Inline { utf8, capacity } => check_inline(
@@ -615,9 +877,18 @@ fn check_item(
             utf8,
             capacity,
             at,
+            taken,
             before,
         ),
-        schema::FieldKind::Indirect { utf8 } => check_text(bytes, marks, frame, utf8, at, before),
+        schema::FieldKind::Indirect { utf8 } => check_text(
+            bytes,
+            marks,
+            frame,
+            utf8,
+            at,
+            taken,
+            before,
+        ),
         schema::FieldKind::Static { group } => check_fields(
             table,
             index,
@@ -627,6 +898,7 @@ fn check_item(
             depth,
             group,
             at,
+            taken,
             longer(before, 2),
         ),
         schema::FieldKind::Dynamic { allowed } => check_dynamic(
@@ -637,6 +909,7 @@ fn check_item(
             frame,
             allowed,
             at,
+            taken,
             longer(before, 2),
         ),
     }
@@ -650,14 +923,19 @@ fn check_dynamic(
     frame: Frame,
     allowed: usize,
     at: usize,
+    taken: Taken,
     before: usize,
-) -> Walked
-    requires { ⌜ (Ready (now table) (now index) (now bytes) (now marks) (frame .base)) × (at + 4 ≤ length (now bytes)) ⌝ }
-    ensures { λ r. ⌜ countOf r (now (marks .exit)) ≡ after before (count (indirectR 26 1 (innerR (innerOf (now (table .entry)) (frame .levels)) allowed) (within (now (bytes .entry)) frame) at (now (marks .entry)))) ⌝ }
+) -> Step
+    requires { ⌜ (Ready (now table) (now index) (now bytes) (now marks) frame) × (at + 4 ≤ length (now bytes)) ⌝ }
+    ensures { λ r. ⌜ countBy (λ s. marksOf (frame .area) s (now (marks .exit))) r ≡ after before (count (indirectR 26 1 (innerR (innerOf (now (table .entry)) (frame .levels)) allowed) (within (now (bytes .entry)) frame) at (marksOf (frame .area) taken (now (marks .entry))))) ⌝ }
 {
-    let found = locate(bytes, marks, frame, at, 26, 1);
+    let found = locate(bytes, marks, frame, taken, at, 26, 1);
     match found {
-        Located::At { place, count } => check_nested(
+        Located::At {
+            place,
+            count,
+            taken: now,
+        } => check_nested(
             table,
             index,
             bytes,
@@ -666,14 +944,15 @@ fn check_dynamic(
             allowed,
             place,
             4 + count,
+            now,
             before,
         ),
-        Located::Nowhere { number, place } => Walked::Refused { number, place },
+        Located::Nowhere { number, place } => Step::Refused { number, place },
     }
 }
 
-// The dynamic group of `size` bytes at `start`, which are taken: its own marks stand there while it is
-// walked.
+// The dynamic group of `size` bytes at `start`, which are taken: it has their part of the scratch for
+// its own.
 fn check_nested(
     table: &[u8],
     index: &[u16],
@@ -683,10 +962,11 @@ fn check_nested(
     allowed: usize,
     start: usize,
     size: usize,
+    taken: Taken,
     before: usize,
-) -> Walked
-    requires { ⌜ (Ready (now table) (now index) (now bytes) (now marks) (frame .base)) × (start + size ≤ length (now bytes)) × (mark start size (now marks) ≡ now marks) ⌝ }
-    ensures { λ r. ⌜ countOf r (now (marks .exit)) ≡ after before (andThen (count (innerOf (now (table .entry)) (frame .levels) allowed (frame .base + start) (part size start (now (bytes .entry))))) (λ _. counted 0 (now (marks .entry)))) ⌝ }
+) -> Step
+    requires { ⌜ (Ready (now table) (now index) (now bytes) (now marks) frame) × (start + size ≤ length (now bytes)) × (mark start size (marksOf (frame .area) taken (now marks)) ≡ marksOf (frame .area) taken (now marks)) ⌝ }
+    ensures { λ r. ⌜ countBy (λ s. marksOf (frame .area) s (now (marks .exit))) r ≡ after before (andThen (count (innerOf (now (table .entry)) (frame .levels) allowed (frame .base + start) (part size start (now (bytes .entry))))) (λ _. counted 0 (marksOf (frame .area) taken (now (marks .entry))))) ⌝ }
 {
     let end = start + size;
     let group = check_group(
@@ -700,11 +980,14 @@ fn check_nested(
         before,
     );
     match group {
-        Walked::Counted { length } => {
-            wire::fill(marks, start, size, 1);
-            Walked::Counted { length }
+        Step::Counted {
+            length,
+            taken: inner,
+        } => {
+            retake(marks, taken.scattered, start, size);
+            Step::Counted { length, taken }
         }
-        Walked::Refused { number, place } => Walked::Refused { number, place },
+        Step::Refused { number, place } => Step::Refused { number, place },
     }
 }
 
@@ -715,19 +998,30 @@ fn check_extension(
     bytes: &[u8],
     marks: &mut [u8],
     frame: Frame,
+    taken: Taken,
     before: usize,
-) -> Walked
-    requires { ⌜ (Ready (now table) (now index) (now bytes) (now marks) (frame .base)) × (16 ≤ length (now bytes)) ⌝ }
-    ensures { λ r. ⌜ countOf r (now (marks .exit)) ≡ after before (count (extensionR (schema (now (table .entry))) (innerOf (now (table .entry)) (frame .levels)) (within (now (bytes .entry)) frame) 12 (now (marks .entry)))) ⌝ }
+) -> Step
+    requires { ⌜ (Ready (now table) (now index) (now bytes) (now marks) frame) × (16 ≤ length (now bytes)) ⌝ }
+    ensures { λ r. ⌜ countBy (λ s. marksOf (frame .area) s (now (marks .exit))) r ≡ after before (count (extensionR (schema (now (table .entry))) (innerOf (now (table .entry)) (frame .levels)) (within (now (bytes .entry)) frame) 12 (marksOf (frame .area) taken (now (marks .entry))))) ⌝ }
 {
     if wire::read_u32(bytes, 12) == 0 {
-        return Walked::Counted { length: before };
+        return Step::Counted {
+            length: before,
+            taken,
+        };
     }
-    let found = locate(bytes, marks, frame, 12, 13, 4);
+    let found = locate(bytes, marks, frame, taken, 12, 13, 4);
     match found {
-        Located::At { place, count } => {
+        Located::At {
+            place,
+            count,
+            taken: now,
+        } => {
             if count == 0 {
-                return Walked::Counted { length: before };
+                return Step::Counted {
+                    length: before,
+                    taken: now,
+                };
             }
             check_groups(
                 table,
@@ -737,10 +1031,11 @@ fn check_extension(
                 frame,
                 count,
                 place + 4,
+                now,
                 longer(before, 6),
             )
         }
-        Located::Nowhere { number, place } => Walked::Refused { number, place },
+        Located::Nowhere { number, place } => Step::Refused { number, place },
     }
 }
 
@@ -752,28 +1047,37 @@ fn check_groups(
     frame: Frame,
     total: usize,
     at: usize,
+    taken: Taken,
     before: usize,
-) -> Walked
-    requires { ⌜ (Ready (now table) (now index) (now bytes) (now marks) (frame .base)) × (at + total * 4 ≤ length (now bytes)) ⌝ }
-    ensures { λ r. ⌜ countOf r (now (marks .exit)) ≡ after before (count (itemsR 4 (indirectR 26 1 (extendingR (schema (now (table .entry))) (innerOf (now (table .entry)) (frame .levels)))) total (within (now (bytes .entry)) frame) at (now (marks .entry)))) ⌝ }
+) -> Step
+    requires { ⌜ (Ready (now table) (now index) (now bytes) (now marks) frame) × (at + total * 4 ≤ length (now bytes)) ⌝ }
+    ensures { λ r. ⌜ countBy (λ s. marksOf (frame .area) s (now (marks .exit))) r ≡ after before (count (itemsR 4 (indirectR 26 1 (extendingR (schema (now (table .entry))) (innerOf (now (table .entry)) (frame .levels)))) total (within (now (bytes .entry)) frame) at (marksOf (frame .area) taken (now (marks .entry))))) ⌝ }
 {
     let mut i = 0;
     let mut place = at;
     let mut length = before;
+    let mut holds = taken;
     while i < total {
-        let group = check_extending(table, index, bytes, marks, frame, place, length);
+        let group = check_extending(table, index, bytes, marks, frame, place, holds, length);
         match group {
-            Walked::Counted { length: now } => {
-                length = now;
+            Step::Counted {
+                length: sum,
+                taken: now,
+            } => {
+                length = sum;
+                holds = now;
             }
-            Walked::Refused { number, place } => {
-                return Walked::Refused { number, place };
+            Step::Refused { number, place } => {
+                return Step::Refused { number, place };
             }
         }
         place += 4;
         i += 1;
     }
-    Walked::Counted { length }
+    Step::Counted {
+        length,
+        taken: holds,
+    }
 }
 
 // A group of the extension; one of unknown type is kept as bytes.
@@ -784,16 +1088,21 @@ fn check_extending(
     marks: &mut [u8],
     frame: Frame,
     at: usize,
+    taken: Taken,
     before: usize,
-) -> Walked
-    requires { ⌜ (Ready (now table) (now index) (now bytes) (now marks) (frame .base)) × (at + 4 ≤ length (now bytes)) ⌝ }
-    ensures { λ r. ⌜ countOf r (now (marks .exit)) ≡ after before (count (indirectR 26 1 (extendingR (schema (now (table .entry))) (innerOf (now (table .entry)) (frame .levels))) (within (now (bytes .entry)) frame) at (now (marks .entry)))) ⌝ }
+) -> Step
+    requires { ⌜ (Ready (now table) (now index) (now bytes) (now marks) frame) × (at + 4 ≤ length (now bytes)) ⌝ }
+    ensures { λ r. ⌜ countBy (λ s. marksOf (frame .area) s (now (marks .exit))) r ≡ after before (count (indirectR 26 1 (extendingR (schema (now (table .entry))) (innerOf (now (table .entry)) (frame .levels))) (within (now (bytes .entry)) frame) at (marksOf (frame .area) taken (now (marks .entry))))) ⌝ }
 {
-    let found = locate(bytes, marks, frame, at, 26, 1);
+    let found = locate(bytes, marks, frame, taken, at, 26, 1);
     match found {
-        Located::At { place, count } => {
+        Located::At {
+            place,
+            count,
+            taken: now,
+        } => {
             if count < 12 {
-                return Walked::Refused {
+                return Step::Refused {
                     number: 1,
                     place: frame.base + place,
                 };
@@ -808,30 +1117,17 @@ fn check_extending(
                     0,
                     place,
                     4 + count,
+                    now,
                     longer(before, 2),
                 );
             }
-            Walked::Counted {
+            Step::Counted {
                 length: longer(before, 6 + count),
+                taken: now,
             }
         }
-        Located::Nowhere { number, place } => Walked::Refused { number, place },
+        Located::Nowhere { number, place } => Step::Refused { number, place },
     }
-}
-
-fn is_known(table: &[u8], index: &[u16], id: u64) -> bool
-    requires { ⌜ Layout (now table) (now index) ⌝ }
-    ensures { λ r. ⌜ r ≡ known (schema (now (table .entry))) id ⌝ }
-{
-    let total = schema::group_total(index);
-    schema::find(table, index, total, id) < total
-}
-
-fn clear(marks: &mut [u8])
-    ensures { λ _. ⌜ now (marks .exit) ≡ replicate (length (now (marks .entry))) 0 ⌝ }
-{
-    let n = marks.len();
-    wire::fill(marks, 0, n, 0);
 }
 
 // THE MESSAGE
@@ -864,5 +1160,9 @@ fn check_sized(table: &[u8], index: &[u16], message: &[u8], marks: &mut [u8]) ->
             place: 0,
         };
     }
-    check_group(table, index, message, marks, 0, 8, 0, 2)
+    let group = check_group(table, index, message, marks, 0, 8, 0, 2);
+    match group {
+        Step::Counted { length, taken } => Walked::Counted { length },
+        Step::Refused { number, place } => Walked::Refused { number, place },
+    }
 }

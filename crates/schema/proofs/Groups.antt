@@ -1,7 +1,7 @@
 -- The groups of a table whose records' places the index holds.
 use Prim.Native.Nat.{ℕ, zero, suc, _+_, _-_, _<_, _≤_}
-use mathlib.Core.Path.{_≡_, refl, ap, _∙_}
-use mathlib.Core.Bool.{Bool, true, false, _&&_}
+use mathlib.Core.Path.{_≡_, refl, sym, ap, _∙_}
+use mathlib.Core.Bool.{Bool, true, false, _&&_, and-true}
 use mathlib.Core.List.{List, [], _∷_}
 use native.Mathlib.Omega.{arith}
 use native.Mathlib.Nat.{sub-zero, zero-add}
@@ -31,13 +31,13 @@ super-drop (y ∷ gs) zero x r e = ap (λ z. superOf z 0) e
 super-drop (y ∷ gs) (suc g) x r e = super-drop gs g x r e
 
 -- a number past the last group has no fields, and so no width
-fields-past : (gs : List Group) (g : ℕ) → length gs ≤ g → fieldsOf gs g ≡ []
+pub fields-past : (gs : List Group) (g : ℕ) → length gs ≤ g → fieldsOf gs g ≡ []
 unfolding fieldsOf
 fields-past [] g h = refl
 fields-past (x ∷ gs) zero h = absurd (omega arith)
 fields-past (x ∷ gs) (suc g) h = fields-past gs g (omega arith)
 
-width-past : (gs : List Group) (d g : ℕ) → length gs ≤ g → width gs d g ≡ 0
+pub width-past : (gs : List Group) (d g : ℕ) → length gs ≤ g → width gs d g ≡ 0
 unfolding width fieldsWidth
 width-past gs zero g h = refl
 width-past gs (suc d) g h = rw (fields-past gs g h)
@@ -133,6 +133,14 @@ module _ (gs : List Group) (n a g : ℕ) where
         go : (n : ℕ) → g ≤ n → under gs n a g ≡ under gs (n - 1) a (s - 1)
         go zero e = absurd (omega arith)
         go (suc n) e = let q : suc n - 1 ≡ n = omega arith in rw (← is, ne-eqb _ _ d, lt-ltb 0 s (omega arith), q)
+
+-- whether a group has an id and it is this one, by the id's test first
+pub not-named : (has : Bool) (i id : ℕ) → (i ≡ id → ⊥) → false ≡ (has && eqb i id)
+not-named true i id d = sym (ne-eqb i id d)
+not-named false i id d = refl
+
+pub named : (has : Bool) (i id : ℕ) → i ≡ id → (has && eqb i id) ≡ has
+named has i id e = rw (eq-eqb i id e) (and-true has)
 
 -- LAYOUT
 

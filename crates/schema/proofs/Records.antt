@@ -11,7 +11,7 @@ use lib.Dec.{eqb}
 use borrow.Author.Tests.{eq-eqb, ne-eqb}
 use Rattle.wire.specs.Bytes.{part, le}
 use Rattle.schema.specs.Schema.{member}
-use Rattle.schema.specs.Table.{kindOf, fieldAt, fieldsAt, valuesAt}
+use Rattle.schema.specs.Table.{symbolValue, fieldType, fieldSize, reference, kindOf, fieldAt, fieldsAt, valuesAt}
 
 -- a byte, and a number, of what is left at p
 pub byte-at : (t : List ℕ) (p i : ℕ) → getD (drop p t) i 0 ≡ getD t (p + i) 0
@@ -23,9 +23,9 @@ number-at n i p t = rw (drop-drop i p t)
 -- FIELDS
 
 module _ (es : List (List ℕ)) (t : List ℕ) (p : ℕ) where
-  pub field-kind : fieldAt es (drop p t) .kind ≡ kindOf es (getD t (p + 2) 0) (getD t (p + 5) 0) (le (part 2 (p + 6) t))
+  pub field-kind : (type size ref : ℕ) → type ≡ fieldType (drop p t) → size ≡ fieldSize (drop p t) → ref ≡ reference (drop p t) → kindOf es type size ref ≡ fieldAt es (drop p t) .kind
   unfolding fieldAt
-  field-kind = rw (byte-at t p 2, byte-at t p 5, number-at 2 6 p t)
+  field-kind type size ref a b c = rw (a, b, c)
 
   pub field-optional : fieldAt es (drop p t) .optional ≡ eqb (getD t (p + 3) 0) 1
   unfolding fieldAt
@@ -55,18 +55,18 @@ module _ (t : List ℕ) (p n v : ℕ) where
   symbol-all = rw (sub-zero, mul-zero, add-zero)
 
   module _ (i : ℕ) (h : i < n) where
-    values-more : valuesFrom t p n i ≡ le (part 4 (p + 16 * i + 2) t) ∷ valuesFrom t p n (i + 1)
+    values-more : valuesFrom t p n i ≡ symbolValue (drop (p + 16 * i) t) ∷ valuesFrom t p n (i + 1)
     unfolding valuesAt
     values-more =
         let e : n - i ≡ suc (n - (i + 1)) = omega arith in
         let f : p + 16 * i + 16 ≡ p + 16 * (i + 1) = omega arith in
-        rw (e, number-at 4 2 (p + 16 * i) t, drop-drop 16 (p + 16 * i) t, f)
+        rw (e, drop-drop 16 (p + 16 * i) t, f)
 
-    pub symbol-hit : v ≡ le (part 4 (p + 16 * i + 2) t) → member v (valuesFrom t p n i) ≡ true
+    pub symbol-hit : v ≡ symbolValue (drop (p + 16 * i) t) → member v (valuesFrom t p n i) ≡ true
     unfolding member
     symbol-hit e = rw (values-more, eq-eqb _ _ e)
 
-    pub symbol-miss : (v ≡ le (part 4 (p + 16 * i + 2) t) → ⊥) → member v (valuesFrom t p n i) ≡ member v (valuesFrom t p n (i + 1))
+    pub symbol-miss : (v ≡ symbolValue (drop (p + 16 * i) t) → ⊥) → member v (valuesFrom t p n i) ≡ member v (valuesFrom t p n (i + 1))
     unfolding member
     symbol-miss e = rw (values-more, ne-eqb _ _ e)
 

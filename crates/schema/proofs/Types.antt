@@ -4,14 +4,13 @@ use mathlib.Core.Path.{_≡_, refl}
 use mathlib.Core.Bool.{true, false}
 use mathlib.Core.List.{List, [], _∷_}
 use native.Mathlib.Omega.{arith}
-use lib.ListN.{length, take, drop, getD, List·getD-eq-default}
+use lib.ListN.{length, take, getD, List·getD-eq-default}
 use lib.Dec.{ltb}
 use borrow.Author.Tests.{ne-eqb, le-leb, lt-leb}
 use Rattle.schema.specs.Schema.{Test, flag, below, symbol, plain, passes, testFault, member, Field, kindWidth, valueWidth, fieldWidth}
 use Rattle.wire.specs.Bytes.{part, le}
 use Rattle.wire.proofs.Laws.{drop-more}
 use Rattle.schema.specs.Table.{kindOf, fieldAt, fieldType, scalarWidth}
-use Rattle.schema.proofs.Records.{byte-at}
 use Rattle.schema.specs.FieldKinds.{kindFrom, textKind, testedKind, kindFault, plainField}
 use Rattle.schema.specs.declared.FieldKind.the-variants.{Plain, Number, Static, Dynamic}
 use Rattle.schema.specs.declared.Tested.the-variants.{Flag, Millis, Nanos, Symbol}
@@ -91,12 +90,11 @@ module _ (sw : ℕ → ℕ) (f : Field) where
   width-required e = rw e
 
 -- a required field of a type without a test
-pub plain-field : (es : List (List ℕ)) (t : List ℕ) (p w : ℕ) → w ≡ scalarWidth (getD t (p + 2) 0)
-    → (getD t (p + 3) 0 ≡ 1 → ⊥) → (getD t (p + 4) 0 ≡ 1 → ⊥) → (getD t (p + 2) 0 ≡ 11 → ⊥) → getD t (p + 2) 0 < 15 → fieldAt es (drop p t) ≡ plainField (fieldType (drop p t)) w
+pub plain-field : (es : List (List ℕ)) (s : List ℕ) (type w : ℕ) → type ≡ fieldType s → w ≡ scalarWidth type
+    → fieldAt es s .optional ≡ false → fieldAt es s .sequence ≡ false → (type ≡ 11 → ⊥) → type < 15 → fieldAt es s ≡ plainField (fieldType s) w
 unfolding fieldAt kindOf
-plain-field es t p w e o s a l =
-    let type = getD t (p + 2) 0 in
-    rw (byte-at t p 2, byte-at t p 3, byte-at t p 4, ne-eqb _ _ o, ne-eqb _ _ s, ne-eqb _ _ a, ne-eqb type 15 (omega arith), ne-eqb type 16 (omega arith), le-leb type 16 (omega arith), e)
+plain-field es s type w is e o q a l =
+    rw (o, q, ← is, ne-eqb _ _ a, ne-eqb type 15 (omega arith), ne-eqb type 16 (omega arith), le-leb type 16 (omega arith), e)
 
 -- TESTS
 

@@ -5,7 +5,7 @@ use mathlib.Core.List.{List, [], _∷_}
 use Prim.Native.Nat.{ℕ, _+_, _*_, _<_, _≤_}
 use lib.ListN.{length, drop, getD}
 use lib.Dec.{ltb}
-use Rattle.schema.specs.Schema.{Group, superOf, width, shallow}
+use Rattle.schema.specs.Schema.{superOf, width, shallow}
 use Rattle.schema.specs.Table.{fieldCount, valuesAt, groupAt, enums, schema}
 
 -- The index: 0.. the places of the groups' records, 64.. the groups' widths, 128.. the places of the enumerations' first symbols,
@@ -18,6 +18,9 @@ symbolPlace k e = getD k (128 + e) 0
 
 abbrev pub symbolTotal : List ℕ → ℕ → ℕ
 symbolTotal k e = getD k (192 + e) 0
+
+abbrev pub staticDepth : List ℕ → ℕ → ℕ
+staticDepth k g = getD k (256 + g) 0
 
 abbrev pub groupTotal : List ℕ → ℕ
 groupTotal k = getD k 320 0

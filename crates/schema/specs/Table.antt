@@ -1,7 +1,7 @@
 -- The schema table: its faults in document 01's order, and the schema that it holds.
 -- The table (document 01's word for the encoded schema) is records of 16 bytes. What is defined record by record takes what is left of the
 -- table's bytes, of which the first 16 are the record at hand, and the number of records left.
-use mathlib.Core.Bool.{Bool, true, false, not, cond, _&&_, _||_}
+use mathlib.Core.Bool.{Bool, false, not, cond, _&&_, _||_}
 use mathlib.Core.List.{List, [], _∷_}
 use Prim.Native.Nat.{ℕ, zero, suc, _+_, _-_, _/_, _%_}
 use lib.ListN.{length, take, drop, getD}
@@ -189,7 +189,8 @@ groupVerdict gs own p t =
 
 -- "String and binary: size 1..255 is inline, size 0 is indirect. Fixed: size 1..255 is the width. Other types have size 0."
 unfoldable pub sizeOk : ℕ → ℕ → Bool
-sizeOk type size = cond (eqb type 17 || eqb type 18) true (cond (eqb type 19) (leb 1 size) (eqb size 0))
+sizeOk type size =
+    cond (eqb type 17 || eqb type 18) (leb size 255) (cond (eqb type 19) (leb 1 size && leb size 255) (eqb size 0))
 
 -- "Reference: an enumeration for 20; a group for 21 (lower than the group's own number) and 22 (any); else 0."
 unfoldable pub referenceOk : ℕ → ℕ → ℕ → ℕ → ℕ → Bool

@@ -8,9 +8,9 @@ ghost use mathlib.Core.List.{List, []};
 ghost use Prim.Native.Nat.{ℕ, _+_, _*_, _<_, _≤_, _^_};
 ghost use lib.ListN.{length, take, drop, getD};
 ghost use lib.Dec.{eqb};
-ghost use Rattle.schema.specs.Schema.{member, find, allows, superOf, kindWidth, valueWidth, fieldWidth};
-ghost use Rattle.schema.specs.Table.{scalarWidth, fieldAt, fieldType, fieldCount, idFlag, typeId, superNumber, valuesAt, enums, schema};
-ghost use Rattle.schema.specs.Layout.{groupPlace, groupTotal, symbolPlace, symbolTotal, widthIn, Placed, Layout};
+ghost use Rattle.schema.specs.Schema.{member, find, allows, kindWidth, valueWidth, fieldWidth};
+ghost use Rattle.schema.specs.Table.{scalarWidth, symbolCount, symbolValue, typeId, idFlag, superNumber, fieldCount, fieldType, fieldSize, reference, fieldAt, enums, schema};
+ghost use Rattle.schema.specs.Layout.{groupPlace, groupTotal, enumTotal, symbolPlace, symbolTotal, staticDepth, widthIn, Placed, Layout};
 ghost use Rattle.schema.specs.FieldKinds.{kindFrom, textKind, testedKind, kindFault, plainField, Widths};
 
 // A check's answer: this number of document 01's, at this place.
@@ -38,12 +38,6 @@ pub enum FieldKind {
     Dynamic { allowed: usize },
 }
 
-fn wide(x: u8) -> usize
-    ensures { λ r. ⌜ (r ≡ x) × (r < 256) ⌝ }
-{
-    x as usize
-}
-
 fn wide16(x: u16) -> usize
     ensures { λ r. ⌜ (r ≡ x) × (r < 65536) ⌝ }
 {
@@ -68,6 +62,14 @@ pub fn group_total(index: &[u16]) -> usize
     wide16(index[320])
 }
 
+// How many enumerations there are.
+pub fn enum_total(index: &[u16]) -> usize
+    requires { ⌜ length (now index) ≡ 322 ⌝ }
+    ensures { λ r. ⌜ (r ≡ enumTotal (now (index .entry))) × (r < 65536) ⌝ }
+{
+    wide16(index[321])
+}
+
 // The width of a static group; a number past the last group is that of none.
 pub fn group_width(index: &[u16], group: usize) -> usize
     requires { ⌜ Widths (now index) ⌝ }
@@ -77,6 +79,14 @@ pub fn group_width(index: &[u16], group: usize) -> usize
         return wide16(index[64 + group]);
     }
     0
+}
+
+// The static depth of a group.
+pub fn static_depth(index: &[u16], group: usize) -> usize
+    requires { ⌜ (length (now index) ≡ 322) × (group < 64) ⌝ }
+    ensures { λ r. ⌜ (r ≡ staticDepth (now (index .entry)) group) × (r < 65536) ⌝ }
+{
+    wide16(index[256 + group])
 }
 
 fn symbol_place(index: &[u16], list: usize) -> usize
@@ -93,30 +103,65 @@ fn symbol_total(index: &[u16], list: usize) -> usize
     wide16(index[192 + list])
 }
 
+// AN ENUMERATION'S RECORDS
+
+// How many symbols the enumeration has whose record stands at `at`.
+pub fn symbol_count(table: &[u8], at: usize) -> usize
+    requires { ⌜ at + 16 ≤ length (now table) ⌝ }
+    ensures { λ r. ⌜ (r ≡ symbolCount (drop at (now (table .entry)))) × (r < 2 ^ 16) ⌝ }
+{
+    wire::read_u16(table, at + 2)
+}
+
+// The value of the symbol whose record stands at `at`, as unsigned.
+pub fn symbol_value(table: &[u8], at: usize) -> usize
+    requires { ⌜ at + 16 ≤ length (now table) ⌝ }
+    ensures { λ r. ⌜ (r ≡ symbolValue (drop at (now (table .entry)))) × (r < 2 ^ 32) ⌝ }
+{
+    wire::read_u32(table, at + 2)
+}
+
 // A GROUP'S RECORD
 
-// How many fields the group has whose record stands at `at`.
-pub fn field_count(table: &[u8], at: usize) -> usize
+pub fn type_id(table: &[u8], at: usize) -> u64
     requires { ⌜ at + 16 ≤ length (now table) ⌝ }
-    ensures { λ r. ⌜ (r ≡ fieldCount (drop at (now (table .entry)))) × (r < 256) ⌝ }
+    ensures { λ r. ⌜ r ≡ typeId (drop at (now (table .entry))) ⌝ }
 {
-    wide(table[at + 13])
+    wire::read_u64(table, at + 2)
+}
+
+pub fn has_id(table: &[u8], at: usize) -> bool
+    requires { ⌜ at + 16 ≤ length (now table) ⌝ }
+    ensures { λ r. ⌜ r ≡ eqb (idFlag (drop at (now (table .entry)))) 1 ⌝ }
+{
+    table[at + 10] == 1
 }
 
 // "super group number plus 1, or 0"
-fn super_number(table: &[u8], at: usize) -> usize
+pub fn super_number(table: &[u8], at: usize) -> usize
     requires { ⌜ at + 16 ≤ length (now table) ⌝ }
     ensures { λ r. ⌜ (r ≡ superNumber (drop at (now (table .entry)))) × (r < 2 ^ 16) ⌝ }
 {
     wire::read_u16(table, at + 11)
 }
 
-// Whether the group whose record stands at `at` has this id.
-fn has_id(table: &[u8], at: usize, id: u64) -> bool
+// How many fields the group has whose record stands at `at`.
+pub fn field_count(table: &[u8], at: usize) -> usize
+    requires { ⌜ at + 16 ≤ length (now table) ⌝ }
+    ensures { λ r. ⌜ (r ≡ fieldCount (drop at (now (table .entry)))) × (r < 256) ⌝ }
+{
+    wire::wide(table[at + 13])
+}
+
+// Whether the group whose record stands at `at` has this id. Of most groups the id's own test says no.
+fn is_named(table: &[u8], at: usize, id: u64) -> bool
     requires { ⌜ at + 16 ≤ length (now table) ⌝ }
     ensures { λ r. ⌜ r ≡ eqb (idFlag (drop at (now (table .entry)))) 1 && eqb (typeId (drop at (now (table .entry)))) id ⌝ }
 {
-    table[at + 10] == 1 && wire::read_u64(table, at + 2) == id
+    if type_id(table, at) != id {
+        return false;
+    }
+    has_id(table, at)
 }
 
 // The number of the group with this id among the first n; n where none of them has it.
@@ -126,7 +171,7 @@ pub fn find(table: &[u8], index: &[u16], n: usize, id: u64) -> usize
 {
     let mut i = 0;
     while i < n {
-        if has_id(table, group_place(index, i), id) {
+        if is_named(table, group_place(index, i), id) {
             return i;
         }
         i += 1;
@@ -163,7 +208,7 @@ pub fn has_symbol(table: &[u8], index: &[u16], list: usize, value: usize) -> boo
     let start = symbol_place(index, list);
     let mut i = 0;
     while i < n {
-        if value == wire::read_u32(table, start + 16 * i + 2) {
+        if value == symbol_value(table, start + 16 * i) {
             return true;
         }
         i += 1;
@@ -173,13 +218,36 @@ pub fn has_symbol(table: &[u8], index: &[u16], list: usize, value: usize) -> boo
 
 // A FIELD'S RECORD
 
+// The number of its type, in document 01.
+pub fn field_type(table: &[u8], at: usize) -> u8
+    requires { ⌜ at + 16 ≤ length (now table) ⌝ }
+    ensures { λ r. ⌜ r ≡ fieldType (drop at (now (table .entry))) ⌝ }
+{
+    table[at + 2]
+}
+
+pub fn field_size(table: &[u8], at: usize) -> u8
+    requires { ⌜ at + 16 ≤ length (now table) ⌝ }
+    ensures { λ r. ⌜ r ≡ fieldSize (drop at (now (table .entry))) ⌝ }
+{
+    table[at + 5]
+}
+
+// The number of the enumeration or group that it names.
+pub fn reference(table: &[u8], at: usize) -> usize
+    requires { ⌜ at + 16 ≤ length (now table) ⌝ }
+    ensures { λ r. ⌜ (r ≡ reference (drop at (now (table .entry)))) × (r < 2 ^ 16) ⌝ }
+{
+    wire::read_u16(table, at + 6)
+}
+
 const SCALAR_WIDTHS: [u8; 17] = [1, 1, 1, 2, 2, 4, 4, 8, 8, 8, 9, 1, 4, 8, 8, 4, 8];
 
 fn scalar_width(number: u8) -> u8
     requires { ⌜ number < 17 ⌝ }
     ensures { λ r. ⌜ r ≡ scalarWidth number ⌝ }
 {
-    SCALAR_WIDTHS[wide(number)]
+    SCALAR_WIDTHS[wire::wide(number)]
 }
 
 // A string's or binary's kind.
@@ -197,9 +265,9 @@ pub fn kind_at(table: &[u8], at: usize) -> FieldKind
     requires { ⌜ at + 16 ≤ length (now table) ⌝ }
     ensures { λ r. ⌜ ((es : List (List ℕ)) → kindFrom es r ≡ fieldAt es (drop at (now (table .entry))) .kind) ⌝ }
 {
-    let number = table[at + 2];
-    let size = table[at + 5];
-    let reference = wire::read_u16(table, at + 6);
+    let number = field_type(table, at);
+    let size = field_size(table, at);
+    let to = reference(table, at);
     match number {
         11 => FieldKind::Number {
             tested: Tested::Flag,
@@ -214,12 +282,10 @@ pub fn kind_at(table: &[u8], at: usize) -> FieldKind
         18 => text_kind(false, size),
         19 => FieldKind::Plain { width: size },
         20 => FieldKind::Number {
-            tested: Tested::Symbol { list: reference },
+            tested: Tested::Symbol { list: to },
         },
-        21 => FieldKind::Static { group: reference },
-        22 => FieldKind::Dynamic {
-            allowed: reference + 1,
-        },
+        21 => FieldKind::Static { group: to },
+        22 => FieldKind::Dynamic { allowed: to + 1 },
         _ => {
             if number < 17 {
                 return FieldKind::Plain {
@@ -250,11 +316,11 @@ pub fn plain_width(table: &[u8], at: usize) -> usize
     requires { ⌜ at + 16 ≤ length (now table) ⌝ }
     ensures { λ r. ⌜ ((r ≡ 0 → ⊥) → (es : List (List ℕ)) → fieldAt es (drop at (now (table .entry))) ≡ plainField (fieldType (drop at (now (table .entry)))) r) × (r < 256) ⌝ }
 {
-    let number = table[at + 2];
-    if table[at + 3] == 1 {
+    let number = field_type(table, at);
+    if is_optional(table, at) {
         return 0;
     }
-    if table[at + 4] == 1 {
+    if is_sequence(table, at) {
         return 0;
     }
     if number == 11 {
@@ -263,7 +329,7 @@ pub fn plain_width(table: &[u8], at: usize) -> usize
     if 15 <= number {
         return 0;
     }
-    wide(scalar_width(number))
+    wire::wide(scalar_width(number))
 }
 
 // WIDTHS
@@ -285,9 +351,9 @@ pub fn kind_width(index: &[u16], kind: FieldKind) -> usize
     ensures { λ r. ⌜ ((es : List (List ℕ)) → r ≡ kindWidth (widthIn (now (index .entry))) (kindFrom es kind)) × (r ≤ 4096) ⌝ }
 {
     match kind {
-        FieldKind::Plain { width } => wide(width),
-        FieldKind::Number { tested } => wide(tested_width(tested)),
-        FieldKind::Inline { utf8, capacity } => wide(capacity) + 1,
+        FieldKind::Plain { width } => wire::wide(width),
+        FieldKind::Number { tested } => wire::wide(tested_width(tested)),
+        FieldKind::Inline { utf8, capacity } => wire::wide(capacity) + 1,
         FieldKind::Indirect { utf8 } => 4,
         FieldKind::Static { group } => group_width(index, group),
         FieldKind::Dynamic { allowed } => 4,

@@ -5,3 +5,5 @@ pub mod Bodies
 pub mod Extension
 pub mod Groups
 pub mod RoundTrip
+pub mod ShowLaws
+pub mod ShowReaders

@@ -1,1 +1,402 @@
 // Sheets: a message's meaning, written out, and the message that a sheet makes.
+//
+// A sheet is written from a message that the check accepted, so nothing is tested here: every bound
+// comes from the reading that the caller has. `pos` is where the next record begins in `out`.
+ghost use mathlib.Core.Path.{_≡_};
+ghost use mathlib.Core.Bool.{true};
+ghost use mathlib.Core.List.{List, _++_};
+ghost use Prim.Native.Nat.{ℕ, _+_, _*_, _<_, _≤_};
+ghost use lib.ListN.{length, drop};
+ghost use Rattle.wire.specs.Bytes.{part, splice, bytesOf};
+ghost use Rattle.schema.specs.Schema.{known, kindWidth, valueWidth, fieldWidth, shallowKind, shallow};
+ghost use Rattle.schema.specs.Table.{fieldAt, enums, schema};
+ghost use Rattle.schema.specs.Layout.{Layout};
+ghost use Rattle.schema.specs.FieldKinds.{kindFrom};
+ghost use Rattle.message.specs.Sheet.{ST, markBytes};
+ghost use Rattle.message.specs.Walk.{done, byte, word, strict, itemsR, walk};
+ghost use Rattle.message.specs.Check.{widthOf, staticOf};
+ghost use Rattle.sheet.specs.Show.{passage, whole, plainOf, itemOf, valueOf, fieldOf, nestedOf, extensionOf, extendingOf, Fits, Shown};
+
+const VA: [u8; 2] = *b"VA";
+
+const ST: [u8; 2] = *b"ST";
+
+const SG: [u8; 2] = *b"SG";
+
+const SQ: [u8; 2] = *b"SQ";
+
+const GB: [u8; 2] = *b"GB";
+
+const XT: [u8; 2] = *b"XT";
+
+const XU: [u8; 2] = *b"XU";
+
+const NO: [u8; 2] = *b"NO";
+
+const GE: [u8; 2] = *b"GE";
+
+fn wide(x: u8) -> usize
+    ensures { λ r. ⌜ (r ≡ x) × (r < 256) ⌝ }
+{
+    x as usize
+}
+
+// RECORDS
+
+// A mark alone.
+fn show_mark(mark: [u8; 2], out: &mut [u8], pos: usize) -> usize
+    requires { ⌜ pos + 2 ≤ length (now out) ⌝ }
+    ensures { λ r. ⌜ (now (out .exit) ≡ splice 2 pos mark (now (out .entry))) × (r ≡ pos + 2) ⌝ }
+{
+    wire::write_mark(out, pos, mark);
+    pos + 2
+}
+
+// A mark and n bytes of the message.
+fn show_bytes(mark: [u8; 2], bytes: &[u8], at: usize, n: usize, out: &mut [u8], pos: usize) -> usize
+    requires { ⌜ (at + n ≤ length (now bytes)) × (pos + (2 + n) ≤ length (now out)) ⌝ }
+    ensures { λ r. ⌜ (now (out .exit) ≡ splice (2 + n) pos (mark ++ part n at (now (bytes .entry))) (now (out .entry))) × (r ≡ pos + (2 + n)) ⌝ }
+{
+    let end = at + n;
+    wire::write_mark(out, pos, mark);
+    wire::copy(out, pos + 2, &bytes[at..end]);
+    pos + (2 + n)
+}
+
+// Inline text: its count takes one byte in the message, and four in the sheet.
+fn show_inline(bytes: &[u8], at: usize, out: &mut [u8], pos: usize) -> usize
+    requires { ⌜ (at + 1 + byte at (now bytes) ≤ length (now bytes)) × (pos + (6 + byte at (now bytes)) ≤ length (now out)) ⌝ }
+    ensures { λ r. ⌜ (now (out .exit) ≡ splice (6 + byte at (now (bytes .entry))) pos (markBytes ST ++ (bytesOf 4 (byte at (now (bytes .entry))) ++ part (byte at (now (bytes .entry))) (at + 1) (now (bytes .entry)))) (now (out .entry))) × (r ≡ pos + (6 + byte at (now (bytes .entry)))) ⌝ }
+{
+    let count = wide(bytes[at]);
+    let start = at + 1;
+    let end = start + count;
+    wire::write_mark(out, pos, ST);
+    wire::write_u32(out, pos + 2, count);
+    wire::copy(out, pos + 6, &bytes[start..end]);
+    pos + (6 + count)
+}
+
+// So many plain values in a row, each its own record.
+fn show_plain(
+    bytes: &[u8],
+    at: usize,
+    width: usize,
+    total: usize,
+    out: &mut [u8],
+    pos: usize,
+) -> usize
+    requires { ⌜ (at + total * width ≤ length (now bytes)) × (Fits (passage (itemsR width (plainOf width) total) (now bytes) at) pos (now out)) ⌝ }
+    ensures { λ r. ⌜ Shown (passage (itemsR width (plainOf width) total) (now (bytes .entry)) at) pos (now (out .entry)) (now (out .exit)) r ⌝ }
+{
+    let mut i = 0;
+    let mut place = at;
+    let mut next = pos;
+    while i < total {
+        next = show_bytes(VA, bytes, place, width, out, next);
+        place += width;
+        i += 1;
+    }
+    next
+}
+
+// GROUPS, FIELDS AND ITEMS
+
+// The group that `bytes` are, with `levels` left for it, and behind it the mark that closes it.
+fn show_group(
+    table: &[u8],
+    index: &[u16],
+    bytes: &[u8],
+    levels: usize,
+    out: &mut [u8],
+    pos: usize,
+) -> usize
+    requires { ⌜ (Layout (now table) (now index)) × (length (now bytes) ≤ 65536) × ((allowed : ℕ) × Fits (whole (now table) levels allowed (now bytes)) pos (now out)) ⌝ }
+    ensures { λ r. ⌜ ((allowed : ℕ) → Shown (whole (now (table .entry)) levels allowed (now (bytes .entry))) pos (now (out .entry)) (now (out .exit)) r) ⌝ }
+{
+    let total = schema::group_total(index);
+    let group = schema::find(table, index, total, wire::read_u64(bytes, 4));
+    let deeper = levels - 1;
+    wire::copy(out, pos, &bytes[4..12]);
+    let fields = show_fields(table, index, bytes, deeper, 5, group, 16, out, pos + 8);
+    let extension = show_extension(table, index, bytes, deeper, out, fields);
+    show_mark(GE, out, extension)
+}
+
+// The fields of a group whose static depth is below `depth`. Required plain values are written here,
+// without a call.
+fn show_fields(
+    table: &[u8],
+    index: &[u16],
+    bytes: &[u8],
+    levels: usize,
+    depth: usize,
+    group: usize,
+    at: usize,
+    out: &mut [u8],
+    pos: usize,
+) -> usize
+    requires { ⌜ (Layout (now table) (now index)) × (length (now bytes) ≤ 65536) × (at + widthOf (now table) depth group ≤ length (now bytes)) × (group < length (schema (now table))) × (shallow (schema (now table)) depth group ≡ true) × (Fits (passage (staticOf (now table) levels depth group) (now bytes) at) pos (now out)) ⌝ }
+    ensures { λ r. ⌜ Shown (passage (staticOf (now (table .entry)) levels depth group) (now (bytes .entry)) at) pos (now (out .entry)) (now (out .exit)) r ⌝ }
+{
+    let start = schema::group_place(index, group);
+    let total = schema::field_count(table, start);
+    let deeper = depth - 1;
+    let mut i = 0;
+    let mut field = start + 16;
+    let mut place = at;
+    let mut next = pos;
+    while i < total {
+        let plain = schema::plain_width(table, field);
+        if plain != 0 {
+            next = show_bytes(VA, bytes, place, plain, out, next);
+            place += plain;
+            field += 16;
+            i += 1;
+            continue;
+        }
+        let width = schema::field_width(table, index, field);
+        next = show_field(table, index, bytes, levels, deeper, field, place, out, next);
+        place += width;
+        field += 16;
+        i += 1;
+    }
+    next
+}
+
+// The field whose record stands at `field` of the table.
+fn show_field(
+    table: &[u8],
+    index: &[u16],
+    bytes: &[u8],
+    levels: usize,
+    depth: usize,
+    field: usize,
+    at: usize,
+    out: &mut [u8],
+    pos: usize,
+) -> usize
+    requires { ⌜ (Layout (now table) (now index)) × (length (now bytes) ≤ 65536) × (field + 16 ≤ length (now table)) × (at + fieldWidth (widthOf (now table) depth) (fieldAt (enums (now table)) (drop field (now table))) ≤ length (now bytes)) × (shallowKind (shallow (schema (now table)) depth) (widthOf (now table) depth) (fieldAt (enums (now table)) (drop field (now table)) .kind) ≡ true) × (Fits (passage (fieldOf (now table) levels depth field) (now bytes) at) pos (now out)) ⌝ }
+    ensures { λ r. ⌜ Shown (passage (fieldOf (now (table .entry)) levels depth field) (now (bytes .entry)) at) pos (now (out .entry)) (now (out .exit)) r ⌝ }
+{
+    if schema::is_optional(table, field) {
+        if bytes[at] != 1 {
+            return show_mark(NO, out, pos);
+        }
+        return show_value(table, index, bytes, levels, depth, field, at + 1, out, pos);
+    }
+    show_value(table, index, bytes, levels, depth, field, at, out, pos)
+}
+
+fn show_value(
+    table: &[u8],
+    index: &[u16],
+    bytes: &[u8],
+    levels: usize,
+    depth: usize,
+    field: usize,
+    at: usize,
+    out: &mut [u8],
+    pos: usize,
+) -> usize
+    requires { ⌜ (Layout (now table) (now index)) × (length (now bytes) ≤ 65536) × (field + 16 ≤ length (now table)) × (at + valueWidth (widthOf (now table) depth) (fieldAt (enums (now table)) (drop field (now table))) ≤ length (now bytes)) × (shallowKind (shallow (schema (now table)) depth) (widthOf (now table) depth) (fieldAt (enums (now table)) (drop field (now table)) .kind) ≡ true) × (Fits (passage (valueOf (now table) levels depth field) (now bytes) at) pos (now out)) ⌝ }
+    ensures { λ r. ⌜ Shown (passage (valueOf (now (table .entry)) levels depth field) (now (bytes .entry)) at) pos (now (out .entry)) (now (out .exit)) r ⌝ }
+{
+    let kind = schema::kind_at(table, field);
+    if schema::is_sequence(table, field) {
+        let width = schema::kind_width(index, kind);
+        let place = at + wire::read_u32(bytes, at);
+        let count = wire::read_u32(bytes, place);
+        let next = show_bytes(SQ, bytes, place, 4, out, pos);
+        return show_items(
+            table,
+            index,
+            bytes,
+            levels,
+            depth,
+            kind,
+            width,
+            count,
+            place + 4,
+            out,
+            next,
+        );
+    }
+    show_item(table, index, bytes, levels, depth, kind, at, out, pos)
+}
+
+// So many items, each of `width` bytes.
+fn show_items(
+    table: &[u8],
+    index: &[u16],
+    bytes: &[u8],
+    levels: usize,
+    depth: usize,
+    kind: schema::FieldKind,
+    width: usize,
+    total: usize,
+    at: usize,
+    out: &mut [u8],
+    pos: usize,
+) -> usize
+    requires { ⌜ (Layout (now table) (now index)) × (length (now bytes) ≤ 65536) × (at + total * width ≤ length (now bytes)) × (width ≡ kindWidth (widthOf (now table) depth) (kindFrom (enums (now table)) kind)) × (shallowKind (shallow (schema (now table)) depth) (widthOf (now table) depth) (kindFrom (enums (now table)) kind) ≡ true) × (Fits (passage (itemsR width (itemOf (now table) levels depth kind) total) (now bytes) at) pos (now out)) ⌝ }
+    ensures { λ r. ⌜ Shown (passage (itemsR width (itemOf (now (table .entry)) levels depth kind) total) (now (bytes .entry)) at) pos (now (out .entry)) (now (out .exit)) r ⌝ }
+{
+    if let schema::FieldKind::Plain { width: plain } = kind {
+        return show_plain(bytes, at, wide(plain), total, out, pos);
+    }
+    let mut i = 0;
+    let mut place = at;
+    let mut next = pos;
+    while i < total {
+        next = show_item(table, index, bytes, levels, depth, kind, place, out, next);
+        place += width;
+        i += 1;
+    }
+    next
+}
+
+fn show_item(
+    table: &[u8],
+    index: &[u16],
+    bytes: &[u8],
+    levels: usize,
+    depth: usize,
+    kind: schema::FieldKind,
+    at: usize,
+    out: &mut [u8],
+    pos: usize,
+) -> usize
+    requires { ⌜ (Layout (now table) (now index)) × (length (now bytes) ≤ 65536) × (at + kindWidth (widthOf (now table) depth) (kindFrom (enums (now table)) kind) ≤ length (now bytes)) × (shallowKind (shallow (schema (now table)) depth) (widthOf (now table) depth) (kindFrom (enums (now table)) kind) ≡ true) × (Fits (passage (itemOf (now table) levels depth kind) (now bytes) at) pos (now out)) ⌝ }
+    ensures { λ r. ⌜ Shown (passage (itemOf (now (table .entry)) levels depth kind) (now (bytes .entry)) at) pos (now (out .entry)) (now (out .exit)) r ⌝ }
+{
+    match kind {
+        schema::FieldKind::Plain { width } => show_bytes(VA, bytes, at, wide(width), out, pos),
+        schema::FieldKind::Number { tested } => {
+            let width = wide(schema::tested_width(tested));
+            show_bytes(VA, bytes, at, width, out, pos)
+        }
+        schema::FieldKind::Inline { utf8, capacity } => show_inline(bytes, at, out, pos),
+        schema::FieldKind::Indirect { utf8 } => {
+            let place = at + wire::read_u32(bytes, at);
+            let count = wire::read_u32(bytes, place);
+            show_bytes(ST, bytes, place, 4 + count, out, pos)
+        }
+        schema::FieldKind::Static { group } => {
+            let next = show_mark(SG, out, pos);
+            show_fields(table, index, bytes, levels, depth, group, at, out, next)
+        }
+        schema::FieldKind::Dynamic { allowed } => {
+            let place = at + wire::read_u32(bytes, at);
+            show_nested(table, index, bytes, levels, place, out, pos)
+        }
+    }
+}
+
+// The dynamic group at `place`, which is its size word and so many bytes behind it.
+fn show_nested(
+    table: &[u8],
+    index: &[u16],
+    bytes: &[u8],
+    levels: usize,
+    place: usize,
+    out: &mut [u8],
+    pos: usize,
+) -> usize
+    requires { ⌜ (Layout (now table) (now index)) × (length (now bytes) ≤ 65536) × (place + (4 + word place (now bytes)) ≤ length (now bytes)) × ((allowed : ℕ) × Fits (passage (nestedOf (now table) levels allowed (word place (now bytes))) (now bytes) place) pos (now out)) ⌝ }
+    ensures { λ r. ⌜ ((allowed : ℕ) → Shown (passage (nestedOf (now (table .entry)) levels allowed (word place (now (bytes .entry)))) (now (bytes .entry)) place) pos (now (out .entry)) (now (out .exit)) r) ⌝ }
+{
+    let end = place + (4 + wire::read_u32(bytes, place));
+    let next = show_mark(GB, out, pos);
+    show_group(table, index, &bytes[place..end], levels, out, next)
+}
+
+// "An extension is a sequence of any groups", and one of no groups means the same as none.
+fn show_extension(
+    table: &[u8],
+    index: &[u16],
+    bytes: &[u8],
+    levels: usize,
+    out: &mut [u8],
+    pos: usize,
+) -> usize
+    requires { ⌜ (Layout (now table) (now index)) × (length (now bytes) ≤ 65536) × (16 ≤ length (now bytes)) × (Fits (passage (extensionOf (now table) levels) (now bytes) 12) pos (now out)) ⌝ }
+    ensures { λ r. ⌜ Shown (passage (extensionOf (now (table .entry)) levels) (now (bytes .entry)) 12) pos (now (out .entry)) (now (out .exit)) r ⌝ }
+{
+    let offset = wire::read_u32(bytes, 12);
+    if offset == 0 {
+        return pos;
+    }
+    let place = 12 + offset;
+    let count = wire::read_u32(bytes, place);
+    if count == 0 {
+        return pos;
+    }
+    let next = show_bytes(XT, bytes, place, 4, out, pos);
+    show_groups(table, index, bytes, levels, count, place + 4, out, next)
+}
+
+fn show_groups(
+    table: &[u8],
+    index: &[u16],
+    bytes: &[u8],
+    levels: usize,
+    total: usize,
+    at: usize,
+    out: &mut [u8],
+    pos: usize,
+) -> usize
+    requires { ⌜ (Layout (now table) (now index)) × (length (now bytes) ≤ 65536) × (at + total * 4 ≤ length (now bytes)) × (Fits (passage (itemsR 4 (extendingOf (now table) levels) total) (now bytes) at) pos (now out)) ⌝ }
+    ensures { λ r. ⌜ Shown (passage (itemsR 4 (extendingOf (now (table .entry)) levels) total) (now (bytes .entry)) at) pos (now (out .entry)) (now (out .exit)) r ⌝ }
+{
+    let mut i = 0;
+    let mut place = at;
+    let mut next = pos;
+    while i < total {
+        next = show_extending(table, index, bytes, levels, place, out, next);
+        place += 4;
+        i += 1;
+    }
+    next
+}
+
+// A group of the extension; one of unknown type is kept as bytes.
+fn show_extending(
+    table: &[u8],
+    index: &[u16],
+    bytes: &[u8],
+    levels: usize,
+    at: usize,
+    out: &mut [u8],
+    pos: usize,
+) -> usize
+    requires { ⌜ (Layout (now table) (now index)) × (length (now bytes) ≤ 65536) × (at + 4 ≤ length (now bytes)) × (Fits (passage (extendingOf (now table) levels) (now bytes) at) pos (now out)) ⌝ }
+    ensures { λ r. ⌜ Shown (passage (extendingOf (now (table .entry)) levels) (now (bytes .entry)) at) pos (now (out .entry)) (now (out .exit)) r ⌝ }
+{
+    let place = at + wire::read_u32(bytes, at);
+    if is_known(table, index, wire::read_u64(bytes, place + 4)) {
+        return show_nested(table, index, bytes, levels, place, out, pos);
+    }
+    let count = wire::read_u32(bytes, place);
+    show_bytes(XU, bytes, place, 4 + count, out, pos)
+}
+
+fn is_known(table: &[u8], index: &[u16], id: u64) -> bool
+    requires { ⌜ Layout (now table) (now index) ⌝ }
+    ensures { λ r. ⌜ r ≡ known (schema (now (table .entry))) id ⌝ }
+{
+    let total = schema::group_total(index);
+    schema::find(table, index, total, id) < total
+}
+
+// THE MESSAGE
+
+// The sheet of an accepted message, at the start of `sheet`: its length. What lies behind it is what
+// stood there.
+pub fn write_sheet(table: &[u8], index: &[u16], message: &[u8], sheet: &mut [u8]) -> usize
+    requires { ⌜ (Layout (now table) (now index)) × (length (now message) ≤ 65536) × ((s : List ℕ) × (m : List ℕ) × (walk strict (schema (now table)) (now message) ≡ done s m) × (length s ≤ length (now sheet))) ⌝ }
+    ensures { λ r. ⌜ ((s m : List ℕ) → walk strict (schema (now (table .entry))) (now (message .entry)) ≡ done s m → (now (sheet .exit) ≡ splice (length s) 0 s (now (sheet .entry))) × (r ≡ length s)) ⌝ }
+{
+    let next = show_mark(GB, sheet, 0);
+    show_group(table, index, message, 8, sheet, next)
+}

@@ -13,7 +13,7 @@ use Rattle.schema.specs.Table.{GR, SY, rank, recordVerdict, marked, idFlag, typ
 use Rattle.table.specs.Measure.{Sound}
 use Rattle.table.proofs.Laws.{record-group}
 use Rattle.table.proofs.Records.{drop-next, symbol-no-group, symbol-no-enum, field-no-group, field-no-enum, enum-no-group, group-no-enum, group-no-field, group-no-symbol}
-use Rattle.table.proofs.Widths.{and-both}
+use Rattle.schema.proofs.Depth.{and-both}
 use Rattle.table.proofs.Formed.{need-accepted, also-accepted, Formed, end, symbol, field, enum, group, formed, shallow-out, schema-sound, supers-low}
 
 -- HOW MANY

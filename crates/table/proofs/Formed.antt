@@ -10,14 +10,16 @@ use borrow.Author.Tests.{eqb-true, eqb-false, ltb-true, ltb-false, leb-true, le-
 use Rattle.schema.specs.declared.Verdict.{Verdict}
 use Rattle.schema.specs.declared.Verdict.the-variants.{Accepted, Refused}
 use Rattle.schema.specs.Faults.{need, also}
-use Rattle.schema.specs.Schema.{Kind, Group, fieldsWidth, fieldsOf, superOf, width, shallowFields, shallow}
+use Rattle.schema.specs.Schema.{Kind, Group, fieldsOf, superOf, width, shallowFields, shallow}
 use Rattle.schema.specs.Table.{EN, SY, GR, FD, marked, symbolCount, superNumber, fieldCount, fieldType, fieldSize, reference, scalarWidths, scalarWidth, kindOf, fieldAt, fieldsAt, groupAt, groupsFrom, recordCount, enums, schema, Due, isEnum, isDue, dueAfter, shapeFrom, shapeVerdict, sizeOk, referenceOk, fieldVerdict, groupVerdict, recordsFrom, recordsVerdict, anyId, idVerdict, widthsVerdict, tableVerdict}
 use Rattle.schema.specs.Layout.{widthIn, Layout}
 use Rattle.table.specs.Index.{Whole, Placing}
 use Rattle.table.specs.Measure.{soundKind, soundFields, Sound, Known}
-use Rattle.table.proofs.Laws.{need-yes, need-no, also-pass, also-stop, record-field, record-group}
+use Rattle.table.proofs.Laws.{cond-yes, need-yes, need-no, also-pass, also-stop, record-field, record-group}
 use Rattle.table.proofs.Records.{due-symbol, due-field, after-owed, after-enum, after-group, enum-is, enum-due, group-due, symbol-no-group, field-no-group, enum-no-group, group-no-field, group-no-symbol}
-use Rattle.table.proofs.Widths.{and-both}
+use Rattle.schema.proofs.Depth.{and-both}
+use Rattle.schema.proofs.Groups.{fields-past, width-past}
+use Rattle.table.proofs.Widths.{width-at}
 
 pub need-accepted : (c : Bool) (n p : ℕ) (k : Verdict) → need c (Refused n p) k ≡ Accepted → (c ≡ true) × (k ≡ Accepted)
 unfolding need
@@ -100,7 +102,11 @@ module _ (ne ng own : ℕ) (es : List (List ℕ)) (type size ref : ℕ) (z : siz
 
   fixed : eqb type 19 ≡ true → leb 1 size ≡ true
   unfolding sizeOk
-  fixed e = rw (eqb-true type 19 e) at z
+  fixed e = and-both (leb 1 size) (leb size 255) (rw (eqb-true type 19 e) at z) .0
+
+  capacity : (eqb type 17 || eqb type 18) ≡ true → eqb size 0 ≡ false → (leb 1 size && leb size 255) ≡ true
+  unfolding sizeOk
+  capacity t e = rw (nonzero size (eqb-false size 0 e)) (sym (cond-yes _ _ _ t) ∙ z)
 
   lower : eqb type 21 ≡ true → ltb ref own ≡ true
   unfolding referenceOk
@@ -114,7 +120,7 @@ module _ (ne ng own : ℕ) (es : List (List ℕ)) (type size ref : ℕ) (z : siz
   unfolding kindOf soundKind
   kind-sound =
       pick (eqb type 11) _ _ (λ _. refl) (λ _. pick (eqb type 15) _ _ (λ _. refl) (λ _. pick (eqb type 16) _ _ (λ _. refl)
-      (λ _. pick (leb type 16) _ _ (λ _. scalar-wide type) (λ _. pick (eqb type 17 || eqb type 18) _ _ (λ _. pick (eqb size 0) _ _ (λ _. refl) (λ e. nonzero size (eqb-false size 0 e)))
+      (λ _. pick (leb type 16) _ _ (λ _. scalar-wide type) (λ _. pick (eqb type 17 || eqb type 18) _ _ (λ t. pick (eqb size 0) _ _ (λ _. refl) (capacity t))
       (λ _. pick (eqb type 19) _ _ fixed (λ _. pick (eqb type 20) _ _ (λ _. refl)
       (λ _. pick (eqb type 21) _ _ lower (λ _. pick (eqb type 22) _ _ among (λ _. le-leb 0 ng (omega arith))))))))))
 
@@ -190,29 +196,14 @@ module _ (t : List ℕ) (s : shapeVerdict t ≡ Accepted) (r : recordsVerdict t 
 
 -- THE INDEX
 
-fields-out : (gs : List Group) (g : ℕ) → length gs ≤ g → fieldsOf gs g ≡ []
-unfolding fieldsOf
-fields-out [] g l = refl
-fields-out (x ∷ gs) zero l = absurd (omega arith)
-fields-out (x ∷ gs) (suc g) l = fields-out gs g (omega arith)
-
-width-out : (gs : List Group) (d g : ℕ) → length gs ≤ g → width gs d g ≡ 0
-unfolding width fieldsWidth
-width-out gs zero g l = refl
-width-out gs (suc d) g l = rw (fields-out gs g l)
-
 pub shallow-out : (gs : List Group) (d g : ℕ) → length gs ≤ g → shallow gs (suc d) g ≡ true
 unfolding shallow shallowFields
-shallow-out gs d g l = rw (fields-out gs g l)
+shallow-out gs d g l = rw (fields-past gs g l)
 
 module _ (t k : List ℕ) (p : Placing t k) (kn : Known t k (length (schema t))) where
-  width-at : (g : ℕ) → g < 64 → widthIn k g ≡ getD k (64 + g) 0
+  index-past : (g : ℕ) → length (schema t) ≤ g → widthIn k g ≡ 0
   unfolding widthIn
-  width-at g l = rw (lt-ltb g 64 l)
-
-  width-past : (g : ℕ) → length (schema t) ≤ g → widthIn k g ≡ 0
-  unfolding widthIn
-  width-past g l = go (ltb g 64) refl
+  index-past g l = go (ltb g 64) refl
     where
       go : (c : Bool) → ltb g 64 ≡ c → cond c (getD k (64 + g) 0) 0 ≡ 0
       go true e = kn .clear g l (ltb-true g 64 e)
@@ -235,12 +226,12 @@ module _ (t k : List ℕ) (p : Placing t k) (kn : Known t k (length (schema t)))
   }
     where
       wide : (d g : ℕ) (c : Bool) → ltb g (length (schema t)) ≡ c → shallow (schema t) d g ≡ true → widthIn k g ≡ width (schema t) d g
-      wide d g true e s = let l = ltb-true g (length (schema t)) e in width-at g (omega (arith, p .few)) ∙ sym (kn .measured g l .wide d s)
-      wide d g false e s = let l = ltb-false g (length (schema t)) e in width-past g l ∙ sym (width-out (schema t) d g l)
+      wide d g true e s = let l = ltb-true g (length (schema t)) e in width-at k g (omega (arith, p .few)) ∙ sym (kn .measured g l .wide d s)
+      wide d g false e s = let l = ltb-false g (length (schema t)) e in index-past g l ∙ sym (width-past (schema t) d g l)
 
       narrow : (g : ℕ) (c : Bool) → ltb g (length (schema t)) ≡ c → widthIn k g ≤ 4096
-      narrow g true e = let l = ltb-true g (length (schema t)) e in rw (width-at g (omega (arith, p .few))) (kn .narrow g l)
-      narrow g false e = rw (width-past g (ltb-false g (length (schema t)) e)) (omega arith)
+      narrow g true e = let l = ltb-true g (length (schema t)) e in rw (width-at k g (omega (arith, p .few))) (kn .narrow g l)
+      narrow g false e = rw (index-past g (ltb-false g (length (schema t)) e)) (omega arith)
 
       shallows : (g : ℕ) (c : Bool) → ltb g (length (schema t)) ≡ c → shallow (schema t) 5 g ≡ true
       shallows g true e =

@@ -1,17 +1,19 @@
 -- Tests in a row, and what stands in a record.
-use mathlib.Core.Path.{_≡_}
-use mathlib.Core.Bool.{Bool, true, false, cond, _&&_}
-use mathlib.Core.List.{List, _∷_}
-use Prim.Native.Nat.{ℕ, _+_, _-_, _<_, _≤_}
+use mathlib.Core.Path.{_≡_, refl, sym, ap, _∙_}
+use mathlib.Core.Bool.{Bool, true, false, not, cond, _&&_}
+use mathlib.Core.List.{List, [], _∷_, _++_}
+use Prim.Native.Nat.{ℕ, _+_, _-_, _*_, _%_, _<_, _≤_}
 use native.Mathlib.Omega.{arith}
 use lib.ListN.{length, take, drop, drop-of-length-le}
-use lib.Seq.{length-take-le, drop-drop}
-use lib.Dec.{leb, ltb}
-use borrow.Author.Tests.{lt-ltb, le-ltb}
+use lib.Seq.{length-take-le}
+use lib.Dec.{leb, ltb, eqb}
+use borrow.Author.Tests.{ltb-true, ltb-false, eqb-true, eqb-false, eq-eqb, ne-eqb}
 use Rattle.schema.specs.Schema.{Group, find, known}
 use Rattle.schema.specs.Layout.{Placed}
-use Rattle.schema.specs.Table.{fieldType, fieldSize, reference, sizeOk, referenceOk, anyId, SY, GR, FD, marked, rank, recordVerdict, fieldVerdict, symbolVerdict, groupVerdict, enumVerdict}
-use Rattle.wire.specs.Bytes.{part, le}
+use Rattle.schema.specs.Table.{symbolValue, fieldType, fieldSize, reference, sizeOk, referenceOk, anyId, SY, GR, FD, marked, rank, recordVerdict, fieldVerdict, symbolVerdict, groupVerdict, enumVerdict}
+use Rattle.wire.specs.Bytes.{part, le, allZero}
+use Rattle.wire.proofs.Laws.{part-add}
+use Rattle.schema.proofs.Records.{number-at}
 use Rattle.schema.specs.declared.Verdict.{Verdict}
 use Rattle.schema.specs.declared.Verdict.the-variants.{Accepted, Refused}
 use Rattle.schema.specs.Faults.{need, also}
@@ -39,15 +41,48 @@ cond-yes c x y e = rw e
 pub cond-no : {X : Type 0} (c : Bool) (x y : X) → c ≡ false → cond c x y ≡ y
 cond-no c x y e = rw e
 
--- a symbol's rank by its value's bytes
-module _ (p v : ℕ) (t : List ℕ) (is : v ≡ le (part 4 (p + 2) t)) where
-  pub rank-low : v < 0x80000000 → v + 0x80000000 ≡ rank (drop p t)
-  unfolding rank
-  rank-low h = rw (drop-drop 2 p t, ← is, lt-ltb v 0x80000000 h)
+-- a symbol's rank by its value
+pub rank-is : (v : ℕ) (t : List ℕ) → v ≡ symbolValue t → v < 0x100000000 → (v + 0x80000000) % 0x100000000 ≡ rank t
+unfolding rank
+rank-is v t is l = rw (← is) (go (ltb v 0x80000000) refl)
+  where
+    go : (c : Bool) → ltb v 0x80000000 ≡ c → (v + 0x80000000) % 0x100000000 ≡ cond c (v + 0x80000000) (v - 0x80000000)
+    go true e = omega (arith, ltb-true v 0x80000000 e)
+    go false e = omega (arith, ltb-false v 0x80000000 e)
 
-  pub rank-high : 0x80000000 ≤ v → v - 0x80000000 ≡ rank (drop p t)
-  unfolding rank
-  rank-high h = rw (drop-drop 2 p t, ← is, le-ltb v 0x80000000 h)
+-- ZEROS (for wire/proofs/Laws.antt)
+
+-- bytes are zero where their number is
+pub zero-le : (s : List ℕ) → allZero s ≡ eqb (le s) 0
+unfolding allZero le
+zero-le [] = refl
+zero-le (x ∷ s) = rw (zero-le s) (go (eqb x 0) (eqb (le s) 0) refl refl)
+  where
+    go : (c d : Bool) → eqb x 0 ≡ c → eqb (le s) 0 ≡ d → (c && d) ≡ eqb (x + 256 * le s) 0
+    go true true p q = sym (eq-eqb (x + 256 * le s) 0 (omega (arith, eqb-true x 0 p, eqb-true (le s) 0 q)))
+    go true false p q = sym (ne-eqb (x + 256 * le s) 0 (λ e. eqb-false (le s) 0 q (omega (arith, e))))
+    go false d p q = sym (ne-eqb (x + 256 * le s) 0 (λ e. eqb-false x 0 p (omega (arith, e))))
+
+pub zero-append : (xs ys : List ℕ) → allZero (xs ++ ys) ≡ (allZero xs && allZero ys)
+unfolding allZero
+zero-append [] ys = refl
+zero-append (x ∷ xs) ys = go (eqb x 0) (zero-append xs ys)
+  where
+    go : (c : Bool) → allZero (xs ++ ys) ≡ (allZero xs && allZero ys) → (c && allZero (xs ++ ys)) ≡ ((c && allZero xs) && allZero ys)
+    go true e = e
+    go false e = refl
+
+pub zero-add : (m n at : ℕ) (s : List ℕ) → allZero (part (m + n) at s) ≡ (eqb (le (part m at s)) 0 && allZero (part n (at + m) s))
+zero-add m n at s = ap allZero (part-add m n at s) ∙ zero-append (part m at s) (part n (at + m) s) ∙ ap (λ (b : Bool). b && allZero (part n (at + m) s)) (zero-le (part m at s))
+
+-- a record's zeros by a number that the code reads
+pub zeros-at : (n i p v : ℕ) (t : List ℕ) → v ≡ le (part n (p + i) t) → allZero (part n i (drop p t)) ≡ eqb v 0
+zeros-at n i p v t is = zero-le (part n i (drop p t)) ∙ ap (λ (x : ℕ). eqb x 0) (number-at n i p t ∙ sym is)
+
+pub zeros-before : (m n i p v : ℕ) (z : Bool) (t : List ℕ) → v ≡ le (part m (p + i) t) → z ≡ allZero (part n (i + m) (drop p t))
+    → allZero (part (m + n) i (drop p t)) ≡ (eqb v 0 && z)
+zeros-before m n i p v z t is rest =
+    zero-add m n i (drop p t) ∙ ap (λ (x : ℕ). eqb x 0 && allZero (part n (i + m) (drop p t))) (number-at m i p t ∙ sym is) ∙ ap (λ (b : Bool). eqb v 0 && b) (sym rest)
 
 module _ (ne : ℕ) (gs : List Group) (next low p : ℕ) (t : List ℕ) where
   pub record-field : marked FD t ≡ true → recordVerdict ne gs next low p t ≡ fieldVerdict ne (length gs) (next - 1) p t
@@ -90,10 +125,11 @@ pub any-end : (gs : List Group) (g : ℕ) → length gs ≤ g → anyId (drop g 
 unfolding anyId
 any-end gs g h = rw (drop-of-length-le gs h)
 
--- the first n groups' ids, by the number that is found
-pub known-less : (gs : List Group) (n id f : ℕ) → n ≤ length gs → f ≡ find (take n gs) id → ltb f n ≡ known (take n gs) id
+-- a group's test of 34, by the number that is found among the first n
+pub id-test : (gs : List Group) (n id type f : ℕ) (has b : Bool) → n ≤ length gs → has ≡ true → id ≡ type → f ≡ find (take n gs) id → ltb f n ≡ b
+    → not (has && known (take n gs) type) ≡ not b
 unfolding known
-known-less gs n id f l e = rw (e, length-take-le n gs l)
+id-test gs n id type f has b l h d is e = rw (h, ← d, ← is, length-take-le n gs l, e)
 
 pub never : {n p : ℕ} → Refused n p ≡ Accepted → ⊥
 never e = let z : _≡_ {A = ℕ} 0 1 = cc in omega arith

@@ -15,8 +15,10 @@ use Rattle.schema.specs.Table.{EN, SY, GR, FD, marked, symbolCount, fieldCount,
 use Rattle.schema.specs.declared.Verdict.{Verdict}
 use Rattle.schema.specs.declared.Verdict.the-variants.{Accepted, Refused}
 use Rattle.schema.specs.Faults.{need, also}
+use Rattle.schema.proofs.Depth.{and-both}
 use Rattle.schema.specs.Layout.{groupPlace, symbolPlace, symbolTotal}
 use Rattle.table.specs.Index.{Whole, Begun, Placing, Shaped}
+use Rattle.table.proofs.Laws.{never}
 
 -- MARKS
 
@@ -25,11 +27,7 @@ unfolding same
 same-is [] [] e = refl
 same-is [] (y ∷ ys) e = absurd (let z : _≡_ {A = ℕ} 0 1 = cc in omega arith)
 same-is (x ∷ xs) [] e = absurd (let z : _≡_ {A = ℕ} 0 1 = cc in omega arith)
-same-is (x ∷ xs) (y ∷ ys) e = let h = both (eqb x y) (same xs ys) e in let f = eqb-true x y (h .0) in let r = same-is xs ys (h .1) in rw (f, r)
-  where
-    both : (c d : Bool) → (c && d) ≡ true → (c ≡ true) × (d ≡ true)
-    both true d e = (refl, e)
-    both false d e = absurd (let z : _≡_ {A = ℕ} 0 1 = cc in omega arith)
+same-is (x ∷ xs) (y ∷ ys) e = let h = and-both (eqb x y) (same xs ys) e in let f = eqb-true x y (h .0) in let r = same-is xs ys (h .1) in rw (f, r)
 
 -- a record has one mark
 pub other-mark : (t m n : List ℕ) → marked m t ≡ true → marked n t ≡ same m n
@@ -368,9 +366,6 @@ begun-all t k e g w b = record {
 
 pub stopped : (v : Verdict) (n p : ℕ) (t k : List ℕ) → Refused n p ≡ v → length k ≡ 322 → Shaped v (Refused n p) t k
 stopped v n p t k e l = record { verdict = e; long = l; placing = λ q. absurd (never q); blank = λ q. absurd (never q) }
-  where
-    never : Refused n p ≡ Accepted → ⊥
-    never q = let z : _≡_ {A = ℕ} 0 1 = cc in omega arith
 
 pub placed-all : (t k k′ k″ : List ℕ) (i e g o : ℕ) → Whole t → i ≡ recordCount t → o ≡ 0 → k′ ≡ set k 320 g → k″ ≡ set k′ 321 e → Begun t k i e g o
     → Accepted ≡ shapeVerdict t → Shaped (shapeVerdict t) Accepted t k″
@@ -386,10 +381,6 @@ placed-all t k k′ k″ i e g o w at none p q b v = record {
 
 -- what follows for a record that is due
 
-both : (c d : Bool) → (c && d) ≡ true → (c ≡ true) × (d ≡ true)
-both true d e = (refl, e)
-both false d e = absurd (let z : _≡_ {A = ℕ} 0 1 = cc in omega arith)
-
 module _ (d : Due) (t : List ℕ) where
   pub owed-marks : 0 < d .owed → isDue d t ≡ true → (marked GR t ≡ false) × (marked EN t ≡ false)
   owed-marks h e = go (eqb (d .groups) 0) refl
@@ -400,18 +391,18 @@ module _ (d : Due) (t : List ℕ) where
 
   pub enum-is : isEnum d t ≡ true → (d .groups ≡ 0) × (marked EN t ≡ true)
   unfolding isEnum
-  enum-is e = let b = both (eqb (d .groups) 0) (marked EN t) e in (eqb-true (d .groups) 0 (b .0), b .1)
+  enum-is e = let b = and-both (eqb (d .groups) 0) (marked EN t) e in (eqb-true (d .groups) 0 (b .0), b .1)
 
   pub enum-due : d .owed ≤ 0 → isEnum d t ≡ true → isDue d t ≡ true → (d .enumerations < 64) × (1 ≤ symbolCount t) × (symbolCount t ≤ 256)
   enum-due h e u =
-      let b = both _ _ (sym (due-enum d t h e) ∙ u) in
-      let f = both _ _ (b .1) in
+      let b = and-both _ _ (sym (due-enum d t h e) ∙ u) in
+      let f = and-both _ _ (b .1) in
       (ltb-true (d .enumerations) 64 (b .0), leb-true 1 (symbolCount t) (f .0), leb-true (symbolCount t) 256 (f .1))
 
   pub group-due : d .owed ≤ 0 → isEnum d t ≡ false → isDue d t ≡ true → (marked GR t ≡ true) × (d .groups < 64) × (fieldCount t ≤ 64)
   group-due h e u =
-      let b = both _ _ (sym (due-group d t h e) ∙ u) in
-      let f = both _ _ (b .1) in
+      let b = and-both _ _ (sym (due-group d t h e) ∙ u) in
+      let f = and-both _ _ (b .1) in
       (b .0, ltb-true (d .groups) 64 (f .0), leb-true (fieldCount t) 64 (f .1))
 
 -- THE VERDICT

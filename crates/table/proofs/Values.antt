@@ -1,20 +1,20 @@
--- An accepted table's enumerations rise, and a table of bytes has no capacity over 255.
+-- An accepted table's enumerations rise, and no capacity of it is over 255.
 use mathlib.Core.Path.{_≡_, refl, sym, ap, _∙_}
-use mathlib.Core.Bool.{Bool, true, false, cond, _&&_, _||_}
+use mathlib.Core.Bool.{true}
 use mathlib.Core.List.{List, [], _∷_}
-use Prim.Native.Nat.{ℕ, zero, suc, _+_, _-_, _<_, _≤_}
+use Prim.Native.Nat.{ℕ, zero, suc, _-_}
 use native.Mathlib.Omega.{arith}
 use lib.ListN.{length, drop, getD, List·getD-eq-default}
-use lib.Seq.{getD-drop}
-use lib.Dec.{leb, ltb, eqb}
-use borrow.Author.Tests.{lt-ltb}
+use lib.Dec.{leb}
+use borrow.Author.Tests.{leb-true, lt-ltb}
 use Rattle.schema.specs.declared.Verdict.the-variants.{Accepted}
-use Rattle.schema.specs.Schema.{Kind, Group, fieldsOf}
-use Rattle.schema.specs.Table.{EN, SY, GR, marked, symbolCount, symbolValue, fieldCount, fieldType, fieldSize, reference, kindOf, fieldAt, fieldsAt, valuesAt, groupAt, groupsFrom, enumsFrom, recordCount, enums, schema, shapeVerdict, rank, symbolVerdict, recordsFrom, recordsVerdict, tableVerdict}
-use Rattle.table.specs.Measure.{cappedKind, cappedFields, rankOf, risingFrom}
+use Rattle.schema.specs.Schema.{Kind, plain, inline, indirect, static, dynamic, Field, Group, fieldsOf}
+use Rattle.schema.specs.Table.{symbolCount, valuesAt, enumsFrom, recordCount, enums, schema, shapeVerdict, rank, symbolVerdict, recordsFrom, recordsVerdict, tableVerdict}
+use Rattle.table.specs.Measure.{soundKind, soundFields, cappedKind, cappedFields, rankOf, risingFrom}
 use Rattle.table.proofs.Laws.{record-symbol}
 use Rattle.table.proofs.Records.{symbol-no-group, symbol-no-enum, symbol-no-field, field-no-group, field-no-enum, enum-no-group, enum-no-symbol, group-no-enum}
-use Rattle.table.proofs.Widths.{and-both}
+use Rattle.schema.proofs.Depth.{and-both}
+use Rattle.table.proofs.Accepted.{accepted}
 use Rattle.table.proofs.Formed.{need-accepted, also-accepted, Formed, end, symbol, field, enum, group, formed}
 
 -- SYMBOLS
@@ -62,38 +62,20 @@ symbols-rise t h e =
 
 -- CAPACITIES
 
-pick : (c : Bool) (x y : Kind) → cappedKind x ≡ true → cappedKind y ≡ true → cappedKind (cond c x y) ≡ true
-pick true x y f g = f
-pick false x y f g = g
+kind-capped : (ng own : ℕ) (k : Kind) → soundKind ng own k ≡ true → cappedKind k ≡ true
+unfolding soundKind cappedKind
+kind-capped ng own (plain w t) e = refl
+kind-capped ng own (inline u c) e = lt-ltb c 256 (omega (arith, leb-true c 255 (and-both (leb 1 c) (leb c 255) e .1)))
+kind-capped ng own (indirect u) e = refl
+kind-capped ng own (static g) e = refl
+kind-capped ng own (dynamic n) e = refl
 
-kind-capped : (es : List (List ℕ)) (type size ref : ℕ) → size < 256 → cappedKind (kindOf es type size ref) ≡ true
-unfolding kindOf cappedKind
-kind-capped es type size ref l =
-    pick (eqb type 11) _ _ refl (pick (eqb type 15) _ _ refl (pick (eqb type 16) _ _ refl (pick (leb type 16) _ _ refl
-    (pick (eqb type 17 || eqb type 18) _ _ (pick (eqb size 0) _ _ refl (lt-ltb size 256 l)) (pick (eqb type 19) _ _ refl (pick (eqb type 20) _ _ refl
-    (pick (eqb type 21) _ _ refl (pick (eqb type 22) _ _ refl refl))))))))
+fields-capped : (ng own : ℕ) (fs : List Field) → soundFields ng own fs ≡ true → cappedFields fs ≡ true
+unfolding soundFields cappedFields
+fields-capped ng own [] e = refl
+fields-capped ng own (f ∷ fs) e =
+    let a = and-both (soundKind ng own (f .kind)) (soundFields ng own fs) e in
+    rw (kind-capped ng own (f .kind) (a .0)) (fields-capped ng own fs (a .1))
 
-abbrev Bytes : List ℕ → Type 0
-Bytes s = (i : ℕ) → getD s i 0 < 256
-
-behind : (p : ℕ) (s : List ℕ) → Bytes s → Bytes (drop p s)
-behind p s b i = rw (getD-drop p s i 0) (b (p + i))
-
-fields-capped : (es : List (List ℕ)) (n : ℕ) (s : List ℕ) → Bytes s → cappedFields (fieldsAt es n s) ≡ true
-unfolding fieldsAt fieldAt cappedFields
-fields-capped es zero s b = refl
-fields-capped es (suc n) s b = rw (kind-capped es (fieldType s) (fieldSize s) (reference s) (b 5)) (fields-capped es n (drop 16 s) (behind 16 s b))
-
-groups-capped : (es : List (List ℕ)) (n : ℕ) (s : List ℕ) → Bytes s → (g : ℕ) → cappedFields (fieldsOf (groupsFrom es n s) g) ≡ true
-unfolding groupsFrom fieldsOf cappedFields groupAt
-groups-capped es zero s b g = refl
-groups-capped es (suc n) s b g = go (marked GR s) (groupsFrom es n (drop 16 s)) g (groups-capped es n (drop 16 s) (behind 16 s b))
-  where
-    go : (c : Bool) (gs : List Group) (g : ℕ) → ((h : ℕ) → cappedFields (fieldsOf gs h) ≡ true) → cappedFields (fieldsOf (cond c (groupAt es s ∷ gs) gs) g) ≡ true
-    go true gs zero f = fields-capped es (fieldCount s) (drop 16 s) (behind 16 s b)
-    go true gs (suc g) f = f g
-    go false gs g f = f g
-
-pub capacities : (t : List ℕ) → Bytes t → (g : ℕ) → cappedFields (fieldsOf (schema t) g) ≡ true
-unfolding schema
-capacities t b g = groups-capped (enums t) (recordCount t) t b g
+pub capacities : (t : List ℕ) → tableVerdict t ≡ Accepted → (g : ℕ) → cappedFields (fieldsOf (schema t) g) ≡ true
+capacities t h g = fields-capped (length (schema t)) g (fieldsOf (schema t) g) (accepted t h .sound g)

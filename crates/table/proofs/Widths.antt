@@ -7,7 +7,7 @@ use native.Mathlib.Omega.{arith}
 use lib.ListN.{length, drop, getD, set, length-set}
 use lib.Seq.{drop-drop, drop-nil, getD-set-same, getD-set-other}
 use lib.Dec.{leb, ltb, eqb, leb·zero, leb·suc-zero, leb·suc-suc}
-use borrow.Author.Tests.{eqb-true, eqb-false, leb-true, leb-false, le-leb, lt-leb, ltb-true, ltb-false}
+use borrow.Author.Tests.{eqb-true, eqb-false, leb-true, leb-false, le-leb, lt-leb, ltb-true, ltb-false, lt-ltb}
 use Rattle.schema.specs.declared.Verdict.the-variants.{Accepted, Refused}
 use Rattle.schema.specs.Faults.{need}
 use Rattle.schema.specs.Schema.{Kind, plain, inline, indirect, static, dynamic, Field, Group, kindWidth, valueWidth, fieldWidth, fieldsWidth, fieldsOf, width, shallowKind, shallowFields, shallow}
@@ -316,3 +316,8 @@ widths-known t k n l kn = record { long = l; narrow = λ g. narrow g (ltb g n) r
         go false c p q = omega arith
         go true true p q = kn .narrow g (ltb-true g n q)
         go true false p q = omega (arith, kn .clear g (ltb-false g n q) (ltb-true g 64 p))
+
+-- a static group's width in the index
+pub width-at : (k : List ℕ) (g : ℕ) → g < 64 → widthIn k g ≡ getD k (64 + g) 0
+unfolding widthIn
+width-at k g l = rw (lt-ltb g 64 l)

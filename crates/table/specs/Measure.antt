@@ -9,13 +9,14 @@ use Rattle.schema.specs.declared.Verdict.{Verdict}
 use Rattle.schema.specs.declared.Verdict.the-variants.{Accepted}
 use Rattle.schema.specs.Schema.{Kind, plain, inline, indirect, static, dynamic, Field, Group, fieldsOf, fieldsWidth, width, shallowFields, shallow}
 use Rattle.schema.specs.Table.{schema, widthsVerdict}
+use Rattle.schema.specs.Layout.{staticDepth}
 use Rattle.table.specs.declared.Extent.{Extent}
 use Rattle.table.specs.Index.{Placing}
 
 -- What 33 leaves of a kind, in a group of number own of ng groups.
 unfoldable pub soundKind : ℕ → ℕ → Kind → Bool
 soundKind ng own (plain w t) = leb 1 w
-soundKind ng own (inline u c) = leb 1 c
+soundKind ng own (inline u c) = leb 1 c && leb c 255
 soundKind ng own (indirect u) = true
 soundKind ng own (static g) = ltb g own
 soundKind ng own (dynamic n) = leb n ng
@@ -27,7 +28,7 @@ soundFields ng own (f ∷ fs) = soundKind ng own (f .kind) && soundFields ng own
 abbrev pub Sound : List Group → Type 0
 Sound gs = (g : ℕ) → soundFields (length gs) g (fieldsOf gs g) ≡ true
 
--- What a byte leaves of a capacity.
+-- What 33 leaves of a capacity: a byte.
 unfoldable pub cappedKind : Kind → Bool
 cappedKind (plain w t) = true
 cappedKind (inline u c) = ltb c 256
@@ -54,13 +55,13 @@ pub record Measured (gs : List Group) (g : ℕ) (e : Extent) : Type 0 where
 
 -- What the index k has of group g.
 abbrev pub stored : List ℕ → ℕ → Extent
-stored k g = record { width = getD k (64 + g) 0; depth = getD k (256 + g) 0; filled = true }
+stored k g = record { width = getD k (64 + g) 0; depth = staticDepth k g; filled = true }
 
 -- The first n groups were looked at, and passed.
 pub record Known (t k : List ℕ) (n : ℕ) : Type 0 where
   pub measured : (h : ℕ) → h < n → Measured (schema t) h (stored k h)
   pub narrow : (h : ℕ) → h < n → getD k (64 + h) 0 ≤ 4096
-  pub low : (h : ℕ) → h < n → getD k (256 + h) 0 ≤ 4
+  pub low : (h : ℕ) → h < n → staticDepth k h ≤ 4
   pub clear : (h : ℕ) → n ≤ h → h < 64 → getD k (64 + h) 0 ≡ 0
 
 -- The answer for group g, when the groups below n were looked at.

@@ -2,17 +2,17 @@
 // records in order again.
 ghost use mathlib.Core.Path.{_≡_};
 ghost use mathlib.Core.Bool.{true, _&&_, _||_, cond};
-ghost use mathlib.Core.List.{List};
-ghost use Prim.Native.Nat.{ℕ, _+_, _-_, _*_, _%_, _<_, _≤_, _^_, max};
-ghost use lib.ListN.{length, getD, drop, take, set, replicate};
-ghost use lib.Dec.{ltb, leb, eqb};
-ghost use Rattle.wire.specs.Bytes.{part, le, allZero};
-ghost use Rattle.schema.specs.declared.Verdict.the-variants.{Accepted};
-ghost use Rattle.schema.specs.Schema.{valueWidth, fieldWidth};
-ghost use Rattle.schema.specs.Table.{SY, GR, marked, symbolCount, symbolValue, typeId, idFlag, superNumber, fieldCount, fieldType, optionalFlag, sequenceFlag, fieldSize, reference, Due, isDue, isEnum, shapeVerdict, rank, enumVerdict, symbolVerdict, groupVerdict, sizeOk, referenceOk, fieldVerdict, recordVerdict, recordsVerdict, anyId, widthsVerdict, enums, schema, fieldAt, tableVerdict};
+ghost use Prim.Native.Nat.{_+_, _-_, _*_, _%_, _<_, _≤_, _^_, max, ℕ};
+ghost use lib.ListN.{length, drop, set, replicate, getD, take};
+ghost use lib.Dec.{ltb, eqb, leb};
+ghost use Rattle.wire.specs.Bytes.{part, allZero, le};
+ghost use Rattle.schema.specs.Table.{SY, GR, marked, idFlag, optionalFlag, sequenceFlag, isDue, isEnum, shapeVerdict, rank, enumVerdict, symbolVerdict, groupVerdict, sizeOk, referenceOk, fieldVerdict, recordVerdict, recordsVerdict, anyId, enums, schema, tableVerdict, symbolCount, symbolValue, typeId, superNumber, fieldCount, fieldType, fieldSize, reference, Due, widthsVerdict, fieldAt};
 ghost use Rattle.schema.specs.Layout.{Placed, Layout};
 ghost use Rattle.table.specs.Index.{dueOf, Whole, Begun, Placing, Shaped, Taken, Checked};
-ghost use Rattle.table.specs.Measure.{Sound, Known, Answer, Judged};
+ghost use Rattle.table.specs.Measure.{Sound, Measured, Known, Judged, Answer};
+ghost use mathlib.Core.List.{List};
+ghost use Rattle.schema.specs.declared.Verdict.the-variants.{Accepted};
+ghost use Rattle.schema.specs.Schema.{valueWidth, fieldWidth};
 
 const EN: [u8; 2] = *b"EN";
 
@@ -21,57 +21,6 @@ const SY: [u8; 2] = *b"SY";
 const GR: [u8; 2] = *b"GR";
 
 const FD: [u8; 2] = *b"FD";
-
-// THE RECORDS' CONTENTS
-
-fn symbol_count(table: &[u8], p: usize) -> usize
-    requires { ⌜ p + 16 ≤ length (now table) ⌝ }
-    ensures { λ r. ⌜ (r ≡ symbolCount (drop p (now (table .entry)))) × (r < 2 ^ 16) ⌝ }
-{
-    wire::read_u16(table, p + 2)
-}
-
-fn type_id(table: &[u8], p: usize) -> u64
-    requires { ⌜ p + 16 ≤ length (now table) ⌝ }
-    ensures { λ r. ⌜ r ≡ typeId (drop p (now (table .entry))) ⌝ }
-{
-    wire::read_u64(table, p + 2)
-}
-
-fn has_id(table: &[u8], p: usize) -> bool
-    requires { ⌜ p + 16 ≤ length (now table) ⌝ }
-    ensures { λ r. ⌜ r ≡ eqb (idFlag (drop p (now (table .entry)))) 1 ⌝ }
-{
-    table[p + 10] == 1
-}
-
-fn super_number(table: &[u8], p: usize) -> usize
-    requires { ⌜ p + 16 ≤ length (now table) ⌝ }
-    ensures { λ r. ⌜ r ≡ superNumber (drop p (now (table .entry))) ⌝ }
-{
-    wire::read_u16(table, p + 11)
-}
-
-fn field_type(table: &[u8], p: usize) -> u8
-    requires { ⌜ p + 16 ≤ length (now table) ⌝ }
-    ensures { λ r. ⌜ r ≡ fieldType (drop p (now (table .entry))) ⌝ }
-{
-    table[p + 2]
-}
-
-fn reference(table: &[u8], p: usize) -> usize
-    requires { ⌜ p + 16 ≤ length (now table) ⌝ }
-    ensures { λ r. ⌜ r ≡ reference (drop p (now (table .entry))) ⌝ }
-{
-    wire::read_u16(table, p + 6)
-}
-
-fn all_zero(table: &[u8], p: usize, at: usize, n: usize) -> bool
-    requires { ⌜ (p + 16 ≤ length (now table)) × (at + n ≤ 16) ⌝ }
-    ensures { λ r. ⌜ r ≡ allZero (part n at (drop p (now (table .entry)))) ⌝ }
-{
-    wire::all_zero(table, p + at, n)
-}
 
 // 31
 
@@ -103,7 +52,7 @@ fn is_due(table: &[u8], p: usize, shape: Shape) -> bool
         return wire::has_mark(table, p, FD);
     }
     if is_enum(table, p, shape) {
-        let count = symbol_count(table, p);
+        let count = schema::symbol_count(table, p);
         return (shape.enumerations < 64) & ((1 <= count) & (count <= 256));
     }
     wire::has_mark(table, p, GR) & ((shape.groups < 64) & (schema::field_count(table, p) <= 64))
@@ -139,7 +88,7 @@ fn take_record(table: &[u8], index: &mut [u16], i: usize, shape: Shape) -> Shape
         };
     }
     if is_enum(table, p, shape) {
-        let count = symbol_count(table, p);
+        let count = schema::symbol_count(table, p);
         place_symbols(index, shape.enumerations, p + 16, count);
         return Shape {
             enumerations: shape.enumerations + 1,
@@ -189,11 +138,19 @@ fn check_shape(table: &[u8], index: &mut [u16]) -> schema::Verdict
 
 // 32, 33, 34
 
+// Whether the record's last eight bytes are zero.
+fn ends_zero(table: &[u8], p: usize) -> bool
+    requires { ⌜ p + 16 ≤ length (now table) ⌝ }
+    ensures { λ r. ⌜ r ≡ allZero (part 8 8 (drop p (now (table .entry)))) ⌝ }
+{
+    wire::read_u64(table, p + 8) == 0
+}
+
 fn check_enum(table: &[u8], p: usize) -> schema::Verdict
     requires { ⌜ p + 16 ≤ length (now table) ⌝ }
     ensures { λ r. ⌜ r ≡ enumVerdict p (drop p (now (table .entry))) ⌝ }
 {
-    if !all_zero(table, p, 4, 12) {
+    if !((wire::read_u32(table, p + 4) == 0) & ends_zero(table, p)) {
         return schema::Verdict::Refused {
             number: 32,
             place: p,
@@ -207,18 +164,14 @@ fn symbol_rank(table: &[u8], p: usize) -> usize
     requires { ⌜ p + 16 ≤ length (now table) ⌝ }
     ensures { λ r. ⌜ (r ≡ rank (drop p (now (table .entry)))) × (r < 2 ^ 32) ⌝ }
 {
-    let value = wire::read_u32(table, p + 2);
-    if value < 0x8000_0000 {
-        return value + 0x8000_0000;
-    }
-    value - 0x8000_0000
+    (schema::symbol_value(table, p) + 0x8000_0000) % 0x1_0000_0000
 }
 
 fn check_symbol(table: &[u8], p: usize, low: usize) -> schema::Verdict
     requires { ⌜ p + 16 ≤ length (now table) ⌝ }
     ensures { λ r. ⌜ r ≡ symbolVerdict low p (drop p (now (table .entry))) ⌝ }
 {
-    if !all_zero(table, p, 6, 10) {
+    if !((wire::read_u16(table, p + 6) == 0) & ends_zero(table, p)) {
         return schema::Verdict::Refused {
             number: 32,
             place: p,
@@ -239,7 +192,8 @@ fn group_zeros(table: &[u8], p: usize) -> bool
     ensures { λ r. ⌜ r ≡ ltb (idFlag (drop p (now (table .entry)))) 2 && ((eqb (idFlag (drop p (now (table .entry)))) 1 || allZero (part 8 2 (drop p (now (table .entry))))) && allZero (part 2 14 (drop p (now (table .entry))))) ⌝ }
 {
     (table[p + 10] < 2)
-        & ((has_id(table, p) | all_zero(table, p, 2, 8)) & all_zero(table, p, 14, 2))
+        & ((schema::has_id(table, p) | (schema::type_id(table, p) == 0))
+            & (wire::read_u16(table, p + 14) == 0))
 }
 
 fn check_group(table: &[u8], index: &[u16], p: usize, own: usize) -> schema::Verdict
@@ -252,13 +206,16 @@ fn check_group(table: &[u8], index: &[u16], p: usize, own: usize) -> schema::Ver
             place: p,
         };
     }
-    if own < super_number(table, p) {
+    if own < schema::super_number(table, p) {
         return schema::Verdict::Refused {
             number: 33,
             place: p,
         };
     }
-    if has_id(table, p) & (schema::find(table, index, own, type_id(table, p)) < own) {
+    if !schema::has_id(table, p) {
+        return schema::Verdict::Accepted;
+    }
+    if schema::find(table, index, own, schema::type_id(table, p)) < own {
         return schema::Verdict::Refused {
             number: 34,
             place: p,
@@ -271,7 +228,7 @@ fn field_zeros(table: &[u8], p: usize) -> bool
     requires { ⌜ p + 16 ≤ length (now table) ⌝ }
     ensures { λ r. ⌜ r ≡ ltb (optionalFlag (drop p (now (table .entry)))) 2 && (ltb (sequenceFlag (drop p (now (table .entry)))) 2 && allZero (part 8 8 (drop p (now (table .entry))))) ⌝ }
 {
-    (table[p + 3] < 2) & ((table[p + 4] < 2) & all_zero(table, p, 8, 8))
+    (table[p + 3] < 2) & ((table[p + 4] < 2) & ends_zero(table, p))
 }
 
 // "String and binary: size 1..255 is inline, size 0 is indirect. Fixed: size 1..255. Other types
@@ -315,9 +272,9 @@ fn check_field(
             place: p,
         };
     }
-    let ty = field_type(table, p);
-    let fits = size_ok(ty, table[p + 5])
-        & reference_ok(ty, reference(table, p), enumerations, groups, own);
+    let ty = schema::field_type(table, p);
+    let fits = size_ok(ty, schema::field_size(table, p))
+        & reference_ok(ty, schema::reference(table, p), enumerations, groups, own);
     if !((1 <= ty) & ((ty <= 23) & fits)) {
         return schema::Verdict::Refused {
             number: 33,
@@ -346,8 +303,8 @@ fn check_record(table: &[u8], index: &[u16], p: usize, next: usize, low: usize) 
         return check_field(
             table,
             p,
-            index[321] as usize,
-            index[320] as usize,
+            schema::enum_total(index),
+            schema::group_total(index),
             last(next),
         );
     }
@@ -410,10 +367,10 @@ fn any_id(table: &[u8], index: &[u16]) -> bool
     requires { ⌜ Placing (now table) (now index) ⌝ }
     ensures { λ r. ⌜ r ≡ anyId (schema (now (table .entry))) ⌝ }
 {
-    let groups = index[320] as usize;
+    let groups = schema::group_total(index);
     let mut g = 0;
     while g < groups {
-        if has_id(table, index[g] as usize) {
+        if schema::has_id(table, schema::group_place(index, g)) {
             return true;
         }
         g += 1;
@@ -484,11 +441,11 @@ fn group_width(table: &[u8], index: &[u16], known: usize, g: usize) -> Extent
     while i < count {
         let p = first + 16 * i;
         i += 1;
-        if field_type(table, p) != 21 {
+        if schema::field_type(table, p) != 21 {
             width += schema::field_width(table, index, p);
             continue;
         }
-        let inner = group_width(table, index, known, reference(table, p));
+        let inner = group_width(table, index, known, schema::reference(table, p));
         width += static_width(table, p, inner.width);
         depth = higher(depth, inner.depth + 1);
         filled = filled & (inner.filled & (1 <= inner.width));

@@ -11,8 +11,9 @@ ghost use Rattle.wire.specs.Bytes.{part, splice, le, bytesOf, signed, sa
 ghost use Rattle.wire.specs.Utf8.{utf8, begins, lowest, highest};
 ghost use Rattle.wire.specs.Scan.{Form, Ascii, next};
 
-// A byte, made wide. The bound stands in the contract so that callers' sums need no proof.
-fn wide(x: u8) -> usize
+// A byte, made wide. The bound stands in the contract so that callers' sums need no proof. The crates
+// above use it too.
+pub fn wide(x: u8) -> usize
     ensures { λ r. ⌜ (r ≡ x) × (r < 256) ⌝ }
 {
     x as usize

@@ -1,5 +1,5 @@
-use Rattle.message.specs.Sheet.{fieldMark}
 use borrow.Author.Needs.{needs}
+use Rattle.message.specs.Sheet.{fieldMark}
 use borrow.Author.Tests.{not-true, not-false}
 use Prim.Native.Nat.{ℕ, _+_, _-_, _*_, _^_, _<_, _≤_}
 use native.Mathlib.Omega.{arith}
@@ -7,7 +7,7 @@ use native.Mathlib.Nat.{add-sub-cancel-left, sub-zero, mul-one, mul-le-mul-right
 use mathlib.Core.Path.{_≡_, sym, _∙_, refl, ap}
 use mathlib.Core.Bool.{true}
 use mathlib.Core.List.{[]}
-use lib.ListN.{length, drop, replicate}
+use lib.ListN.{length, drop}
 use lib.Dec.{leb}
 use Rattle.schema.specs.Schema.{fieldsWidth, shallowFields, shallow, find}
 use Rattle.schema.specs.Table.{fieldAt, fieldsAt, enums, schema}
@@ -19,12 +19,12 @@ use Rattle.schema.proofs.Groups.{static-inside, placed-inside, find-whole, layo
 use Rattle.schema.proofs.Depth.{and-both, shallow-some, width-cons, shallow-cons, wide-kind, wide-value, wide-field}
 use Rattle.message.specs.Walk.{indirectR, innerR, itemsR, fieldsR, extendingR, extensionR, valueR}
 use Rattle.message.specs.Count.{count, counted}
-use Rattle.message.specs.Check.{after, within, itemR, innerOf, widthOf, staticOf}
+use Rattle.message.specs.Check.{marksOf, after, within, itemR, innerOf, widthOf, staticOf}
 use Rattle.message.proofs.Count.{count-next, count-inner}
 use Rattle.message.proofs.CheckAnswers.{refuses, counts, stays, goes-on, passed, stopped, bounded}
-use Rattle.message.proofs.CheckPlaces.{lands-inside, lands-taken, lands-count}
+use Rattle.message.proofs.CheckMarks.{retaken}
 use Rattle.message.proofs.CheckFields.{leads-nowhere, leads-to, fields-passed, fields-stopped, fields-end, plain-wide, fields-plain, field-required, field-optional, field-there, value-one, sequence-nowhere, sequence-found, items-passed, items-stopped, items-end, items-left, items-plain, item-plain, item-number, item-inline, item-indirect, item-static, item-dynamic, wide-number, wide-inline, wide-indirect, wide-static, wide-dynamic, kind-static, start-inside, start-static, start-width, start-shallow, ready}
-use Rattle.message.proofs.CheckGroups.{nested-passed, marks-again, extension-zero, extension-nowhere, extension-empty, extension-some, extending-short, extending-known, extending-kept, body-narrow, body-loose, body-stopped, body-passed, closing-clean, closing-dirty, group-short, group-unknown, group-other, group-deep, group-body}
+use Rattle.message.proofs.CheckGroups.{nested-passed, nothing-taken, extension-zero, extension-nowhere, extension-empty, extension-some, extending-short, extending-known, extending-kept, body-narrow, body-loose, body-stopped, body-passed, closing-clean, closing-dirty, group-short, group-unknown, group-other, group-deep, group-body}
 use borrow.Fn.Kinds.{In}
 use borrow.Fn.PlainCycle.{Measures, is, falls, and}
 use Rattle.message.proofs.check_body.Reads as check-body
@@ -66,17 +66,17 @@ use Rattle.message.proofs.+check_body+check_contents+check_dynamic+chec
 use Rattle.message.proofs.check_value.Reads as check-value
 use Rattle.message.proofs.check_value.Kinds as check-value-kinds
 use Rattle.message.proofs.+check_body+check_contents+check_dynamic+check_extending+check_extension+check_field+check_fields+check_group+check_groups+check_item+check_items+check_nested+check_value.Lts-check_value as check-value-lts
+use Rattle.message.proofs.are_pads_zero.Reads as are-pads-zero-reads
+use Rattle.message.proofs.bad_pad.Reads as bad-pad-reads
 use Rattle.message.proofs.check_absent.Reads as check-absent-reads
 use Rattle.message.proofs.check_inline.Reads as check-inline-reads
 use Rattle.message.proofs.check_number.Reads as check-number-reads
 use Rattle.message.proofs.check_text.Reads as check-text-reads
-use Rattle.message.proofs.clear.Reads as clear-reads
 use Rattle.message.proofs.extension_inside.Reads as extension-inside-reads
 use Rattle.message.proofs.is_known.Reads as is-known-reads
 use Rattle.message.proofs.locate.Reads as locate-reads
 use Rattle.message.proofs.longer.Reads as longer-reads
-use Rattle.message.proofs.pads_before.Reads as pads-before-reads
-use Rattle.message.proofs.pads_zero.Reads as pads-zero-reads
+use Rattle.message.proofs.retake.Reads as retake-reads
 use Rattle.message.proofs.wide.Reads as wide-reads
 use Rattle.schema.proofs.allows.Reads as allows-reads
 use Rattle.schema.proofs.field_count.Reads as field-count-reads
@@ -91,7 +91,6 @@ use Rattle.schema.proofs.kind_at.Reads as kind-at-reads
 use Rattle.schema.proofs.kind_width.Reads as kind-width-reads
 use Rattle.schema.proofs.plain_width.Reads as plain-width-reads
 use Rattle.schema.proofs.value_width.Reads as value-width-reads
-use Rattle.wire.proofs.fill.Reads as fill-reads
 use Rattle.wire.proofs.read_u32.Reads as read-u32-reads
 use Rattle.wire.proofs.read_u64.Reads as read-u64-reads
 use Rattle.message.proofs.+check_body+check_contents+check_dynamic+check_extending+check_extension+check_field+check_fields+check_group+check_groups+check_item+check_items+check_nested+check_value.{
@@ -285,36 +284,34 @@ check-value-below t =
     and 4 check-value-kinds.ps (falls 4 check-value-kinds.ps _<_ μ-check-value t) check-value.Pre
 
 abbrev check-body-claims : ℕ → check-body-lts.Claims
-check-body-claims t = (group-width-reads.Asked, group-width-reads.Learnt, extension-inside-reads.Asked, extension-inside-reads.Learnt, clear-reads.Asked, clear-reads.Learnt, longer-reads.Asked, longer-reads.Learnt, check-contents-below t, check-contents.Post, pads-zero-reads.Asked, pads-zero-reads.Learnt, pads-before-reads.Asked, pads-before-reads.Learnt)
+check-body-claims t = (group-width-reads.Asked, group-width-reads.Learnt, extension-inside-reads.Asked, extension-inside-reads.Learnt, longer-reads.Asked, longer-reads.Learnt, check-contents-below t, check-contents.Post, are-pads-zero-reads.Asked, are-pads-zero-reads.Learnt, bad-pad-reads.Asked, bad-pad-reads.Learnt)
 
 check-body-returns : (t : ℕ) → check-body-lts.Need-returns (check-body-claims t) (check-body-at t) check-body.Post
-check-body-returns t c = let a = c .before .before .before .before .before .before .args in let t = a .table .now in let w = c .before .group-width .ensures .0 ∙ layout-width t (a .index .now) (c .before .before .before .before .before .before .pre .1 .0 .layout) (a .group) in
+check-body-returns t c = let a = c .before .before .before .before .before .before .args in let t = a .table .now in let w = c .before .group-width .ensures .0 ∙ layout-width t (a .index .now) (c .before .before .before .before .before .before .pre .1 .0) (a .group) in
     refuses _ _ _ _ _ (body-narrow (schema t) (innerOf t (a .levels)) (a .group) (a .base) (a .bytes .now) _ (ap (λ (n : ℕ). 16 + n) w) (c .if1 .taken))
 
 check-body-returns-2 : (t : ℕ) → check-body-lts.Need-returns-2 (check-body-claims t) (check-body-at t) check-body.Post
-check-body-returns-2 t c = let a = c .before .before .before .before .before .before .before .before .args in let t = a .table .now in let w = c .before .before .before .group-width .ensures .0 ∙ layout-width t (a .index .now) (c .before .before .before .before .before .before .before .before .pre .1 .0 .layout) (a .group) in
-    refuses _ _ _ _ _ (body-loose (schema t) (innerOf t (a .levels)) (a .group) (a .base) (a .bytes .now) _ (ap (λ (n : ℕ). 16 + n) w) (c .before .before .if1 .left) (c .before .before .before .before .before .before .before .before .pre .1 .1) (sym (c .before .extension-inside .ensures (a .base)) ∙ not-true _ (c .if2 .taken)))
+check-body-returns-2 t c = let a = c .before .before .before .before .before .before .before .before .args in let t = a .table .now in let w = c .before .before .before .group-width .ensures .0 ∙ layout-width t (a .index .now) (c .before .before .before .before .before .before .before .before .pre .1 .0) (a .group) in
+    refuses _ _ _ _ _ (body-loose (schema t) (innerOf t (a .levels)) (a .group) (a .base) (a .bytes .now) _ (ap (λ (n : ℕ). 16 + n) w) (c .before .before .if1 .left) (c .before .before .before .before .before .before .before .before .pre .1 .3) (sym (c .before .extension-inside .ensures (a .base)) ∙ not-true _ (c .if2 .taken)))
 
 check-body-check-contents-requires : (t : ℕ) → check-body-lts.Need-check-contents-requires (check-body-claims t) (check-body-at t) check-body.Post
-check-body-check-contents-requires t c κs = let a = c .before .before .before .before .before .before .before .before .before .before .before .before .before .before .args in let t = a .table .now in let w = c .before .before .before .before .before .before .before .before .before .group-width .ensures .0 ∙ layout-width t (a .index .now) (c .before .before .before .before .before .before .before .before .before .before .before .before .before .before .pre .1 .0 .layout) (a .group) in
-    (search needs, (ready _ _ _ _ _ _ (c .before .before .before .before .before .before .before .before .before .before .before .before .before .before .pre .1 .0) (search needs), omega (arith, w, c .before .before .before .before .before .before .before .before .if1 .left), c .before .before .before .before .before .before .before .before .before .before .before .before .before .before .pre .1 .2))
+check-body-check-contents-requires t c κs = let a = c .before .before .before .before .before .before .before .before .before .before .args in let t = a .table .now in let w = c .before .before .before .before .before .group-width .ensures .0 ∙ layout-width t (a .index .now) (c .before .before .before .before .before .before .before .before .before .before .pre .1 .0) (a .group) in
+    (search needs, (record { layout = c .before .before .before .before .before .before .before .before .before .before .pre .1 .0; same = c .before .before .before .before .before .before .before .before .before .before .pre .1 .1; small = c .before .before .before .before .before .before .before .before .before .before .pre .1 .2; room = c .before .before .before .before .if1 .left }, omega (arith, w, c .before .before .before .before .if1 .left), c .before .before .before .before .before .before .before .before .before .before .pre .1 .4))
 
 check-body-returns-3 : (t : ℕ) → check-body-lts.Need-returns-3 (check-body-claims t) (check-body-at t) check-body.Post
-check-body-returns-3 t c = let a = c .before .before .before .before .before .before .before .before .before .before .before .before .before .before .before .before .before .before .before .before .before .before .before .before .args in let t = a .table .now in let w = c .before .before .before .before .before .before .before .before .before .before .before .before .before .before .before .before .before .before .before .group-width .ensures .0 ∙ layout-width t (a .index .now) (c .before .before .before .before .before .before .before .before .before .before .before .before .before .before .before .before .before .before .before .before .before .before .before .before .pre .1 .0 .layout) (a .group) in
-    counts _ _ _ _ _ (closing-clean (a .bytes .now) (a .base) _ _ (sym (c .before .before .pads-zero .ensures) ∙ c .before .if3 .taken)) (c .longer2 .ensures)
-    ∙ sym (body-passed (schema t) (innerOf t (a .levels)) (a .group) (a .base) (a .bytes .now) _ (ap (λ (n : ℕ). 16 + n) w) (c .before .before .before .before .before .before .before .before .before .before .before .before .before .before .before .before .before .before .if1 .left) (c .before .before .before .before .before .before .before .before .before .before .before .before .before .before .before .before .before .before .before .before .before .before .before .before .pre .1 .1) (sym (c .before .before .before .before .before .before .before .before .before .before .before .before .before .before .before .before .before .extension-inside .ensures (a .base)) ∙ not-false _ (c .before .before .before .before .before .before .before .before .before .before .before .before .before .before .before .before .if2 .left)) _ _ (c .before .before .before .before .before .before .before .before .before .before .longer .ensures) _ (c .before .before .before .before .before .before .before .before .before .before .before .before .before .before .clear .ensures ∙ ap (λ (n : ℕ). replicate n 0) (c .before .before .before .before .before .before .before .before .before .before .before .before .before .before .before .before .before .before .before .before .before .before .before .before .pre .1 .0 .same)) _ _ (c .before .before .before .before .before .before .before .before .before .check-contents .ensures) _ (c .before .before .before .before .before .contents .given .1))
+check-body-returns-3 t c = let a = c .before .before .before .before .before .before .before .before .before .before .before .before .before .before .before .before .before .before .before .before .args in let t = a .table .now in let w = c .before .before .before .before .before .before .before .before .before .before .before .before .before .before .before .group-width .ensures .0 ∙ layout-width t (a .index .now) (c .before .before .before .before .before .before .before .before .before .before .before .before .before .before .before .before .before .before .before .before .pre .1 .0) (a .group) in
+    counts _ _ _ _ _ _ (closing-clean (a .bytes .now) (a .base) _ _ (sym (c .before .before .are-pads-zero .ensures) ∙ c .before .if3 .taken)) (c .longer2 .ensures) ∙ sym (body-passed (schema t) (innerOf t (a .levels)) (a .group) (a .base) (a .bytes .now) _ (ap (λ (n : ℕ). 16 + n) w) (c .before .before .before .before .before .before .before .before .before .before .before .before .before .before .if1 .left) (c .before .before .before .before .before .before .before .before .before .before .before .before .before .before .before .before .before .before .before .before .pre .1 .3) (sym (c .before .before .before .before .before .before .before .before .before .before .before .before .before .extension-inside .ensures (a .base)) ∙ not-false _ (c .before .before .before .before .before .before .before .before .before .before .before .before .if2 .left)) _ _ (c .before .before .before .before .before .before .before .before .before .before .longer .ensures) _ (nothing-taken _ (a .marks .now) (a .bytes .now) (c .before .before .before .before .before .before .before .before .before .before .before .before .before .before .before .before .before .before .before .before .pre .1 .1)) _ _ (c .before .before .before .before .before .before .before .before .before .check-contents .ensures) _ _ (c .before .before .before .before .before .contents .given .1))
 
-check-body-add-t33 : (t : ℕ) → check-body-lts.Need-add-t33 (check-body-claims t) (check-body-at t) check-body.Post
-check-body-add-t33 t c = omega (arith, c .pads-before .ensures .1, c .before .before .before .before .before .before .before .before .before .before .before .before .before .before .before .before .before .before .before .before .before .before .before .before .before .pre .1 .0 .small)
+check-body-add-t32 : (t : ℕ) → check-body-lts.Need-add-t32 (check-body-claims t) (check-body-at t) check-body.Post
+check-body-add-t32 t c = omega (arith, c .before .before .bad-pad .ensures .1, c .before .before .before .before .before .before .before .before .before .before .before .before .before .before .before .before .before .before .before .before .before .before .before .pre .1 .2)
 
 check-body-returns-4 : (t : ℕ) → check-body-lts.Need-returns-4 (check-body-claims t) (check-body-at t) check-body.Post
-check-body-returns-4 t c = let a = c .before .before .before .before .before .before .before .before .before .before .before .before .before .before .before .before .before .before .before .before .before .before .before .before .before .args in let t = a .table .now in let w = c .before .before .before .before .before .before .before .before .before .before .before .before .before .before .before .before .before .before .before .before .group-width .ensures .0 ∙ layout-width t (a .index .now) (c .before .before .before .before .before .before .before .before .before .before .before .before .before .before .before .before .before .before .before .before .before .before .before .before .before .pre .1 .0 .layout) (a .group) in
-    refuses _ _ _ _ _ (closing-dirty (a .bytes .now) (a .base) _ _ _ (c .pads-before .ensures .0) (sym (c .before .before .before .pads-zero .ensures) ∙ c .before .before .if3 .left))
-    ∙ sym (body-passed (schema t) (innerOf t (a .levels)) (a .group) (a .base) (a .bytes .now) _ (ap (λ (n : ℕ). 16 + n) w) (c .before .before .before .before .before .before .before .before .before .before .before .before .before .before .before .before .before .before .before .if1 .left) (c .before .before .before .before .before .before .before .before .before .before .before .before .before .before .before .before .before .before .before .before .before .before .before .before .before .pre .1 .1) (sym (c .before .before .before .before .before .before .before .before .before .before .before .before .before .before .before .before .before .before .extension-inside .ensures (a .base)) ∙ not-false _ (c .before .before .before .before .before .before .before .before .before .before .before .before .before .before .before .before .before .if2 .left)) _ _ (c .before .before .before .before .before .before .before .before .before .before .before .longer .ensures) _ (c .before .before .before .before .before .before .before .before .before .before .before .before .before .before .before .clear .ensures ∙ ap (λ (n : ℕ). replicate n 0) (c .before .before .before .before .before .before .before .before .before .before .before .before .before .before .before .before .before .before .before .before .before .before .before .before .before .pre .1 .0 .same)) _ _ (c .before .before .before .before .before .before .before .before .before .before .check-contents .ensures) _ (c .before .before .before .before .before .before .contents .given .1))
+check-body-returns-4 t c = let a = c .before .before .before .before .before .before .before .before .before .before .before .before .before .before .before .before .before .before .before .before .before .before .before .args in let t = a .table .now in let w = c .before .before .before .before .before .before .before .before .before .before .before .before .before .before .before .before .before .before .group-width .ensures .0 ∙ layout-width t (a .index .now) (c .before .before .before .before .before .before .before .before .before .before .before .before .before .before .before .before .before .before .before .before .before .before .before .pre .1 .0) (a .group) in
+    refuses _ _ _ _ _ (closing-dirty (a .bytes .now) (a .base) _ _ _ (c .before .before .bad-pad .ensures .0) (sym (c .before .before .before .before .before .are-pads-zero .ensures) ∙ c .before .before .before .before .if3 .left)) ∙ sym (body-passed (schema t) (innerOf t (a .levels)) (a .group) (a .base) (a .bytes .now) _ (ap (λ (n : ℕ). 16 + n) w) (c .before .before .before .before .before .before .before .before .before .before .before .before .before .before .before .before .before .if1 .left) (c .before .before .before .before .before .before .before .before .before .before .before .before .before .before .before .before .before .before .before .before .before .before .before .pre .1 .3) (sym (c .before .before .before .before .before .before .before .before .before .before .before .before .before .before .before .before .extension-inside .ensures (a .base)) ∙ not-false _ (c .before .before .before .before .before .before .before .before .before .before .before .before .before .before .before .if2 .left)) _ _ (c .before .before .before .before .before .before .before .before .before .before .before .before .before .longer .ensures) _ (nothing-taken _ (a .marks .now) (a .bytes .now) (c .before .before .before .before .before .before .before .before .before .before .before .before .before .before .before .before .before .before .before .before .before .before .before .pre .1 .1)) _ _ (c .before .before .before .before .before .before .before .before .before .before .before .before .check-contents .ensures) _ _ (c .before .before .before .before .before .before .before .before .contents .given .1))
 
 check-body-returns-5 : (t : ℕ) → check-body-lts.Need-returns-5 (check-body-claims t) (check-body-at t) check-body.Post
-check-body-returns-5 t c = let a = c .before .before .before .before .before .before .before .before .before .before .before .before .before .before .before .before .before .before .before .before .args in let t = a .table .now in let w = c .before .before .before .before .before .before .before .before .before .before .before .before .before .before .before .group-width .ensures .0 ∙ layout-width t (a .index .now) (c .before .before .before .before .before .before .before .before .before .before .before .before .before .before .before .before .before .before .before .before .pre .1 .0 .layout) (a .group) in
-    body-stopped (schema t) (innerOf t (a .levels)) (a .group) (a .base) (a .bytes .now) _ (ap (λ (n : ℕ). 16 + n) w) (c .before .before .before .before .before .before .before .before .before .before .before .before .before .before .if1 .left) (c .before .before .before .before .before .before .before .before .before .before .before .before .before .before .before .before .before .before .before .before .pre .1 .1) (sym (c .before .before .before .before .before .before .before .before .before .before .before .before .before .extension-inside .ensures (a .base)) ∙ not-false _ (c .before .before .before .before .before .before .before .before .before .before .before .before .if2 .left)) _ _ (c .before .before .before .before .before .before .longer .ensures) _ (c .before .before .before .before .before .before .before .before .before .before .clear .ensures ∙ ap (λ (n : ℕ). replicate n 0) (c .before .before .before .before .before .before .before .before .before .before .before .before .before .before .before .before .before .before .before .before .pre .1 .0 .same)) _ _ (c .before .before .before .before .before .check-contents .ensures) _ _ (c .before .contents2 .given .1)
+check-body-returns-5 t c = let a = c .before .before .before .before .before .before .before .before .before .before .before .before .before .before .before .before .args in let t = a .table .now in let w = c .before .before .before .before .before .before .before .before .before .before .before .group-width .ensures .0 ∙ layout-width t (a .index .now) (c .before .before .before .before .before .before .before .before .before .before .before .before .before .before .before .before .pre .1 .0) (a .group) in
+    body-stopped (schema t) (innerOf t (a .levels)) (a .group) (a .base) (a .bytes .now) _ (ap (λ (n : ℕ). 16 + n) w) (c .before .before .before .before .before .before .before .before .before .before .if1 .left) (c .before .before .before .before .before .before .before .before .before .before .before .before .before .before .before .before .pre .1 .3) (sym (c .before .before .before .before .before .before .before .before .before .extension-inside .ensures (a .base)) ∙ not-false _ (c .before .before .before .before .before .before .before .before .if2 .left)) _ _ (c .before .before .before .before .before .before .longer .ensures) _ (nothing-taken _ (a .marks .now) (a .bytes .now) (c .before .before .before .before .before .before .before .before .before .before .before .before .before .before .before .before .pre .1 .1)) _ _ (c .before .before .before .before .before .check-contents .ensures) _ _ _ (c .before .contents2 .given .1)
 
 abbrev check-contents-claims : ℕ → check-contents-lts.Claims
 check-contents-claims t = (check-fields-below t, check-fields.Post, check-extension-below t, check-extension.Post)
@@ -333,116 +330,116 @@ check-contents-check-extension-requires t c κs = (search needs, (ready _ _ _ _ 
 
 check-contents-returns : (t : ℕ) → check-contents-lts.Need-returns (check-contents-claims t) (check-contents-at t) check-contents.Post
 check-contents-returns t c = let a = c .before .before .before .before .before .before .before .before .before .before .before .before .before .before .before .args in let t = a .table .now in let I = innerOf t (a .frame .levels) in let h = within (a .bytes .now) (a .frame) in
-    c .before .before .check-extension .ensures ∙ sym (ap (after (a .before)) (count-next (staticOf t (a .frame .levels) 5 (a .group) h 16 (a .marks .now)) (λ m. extensionR (schema t) I h 12 m)) ∙ passed (a .before) _ _ _ (c .before .before .before .before .before .before .before .before .before .check-fields .ensures) _ (λ m. count (extensionR (schema t) I h 12 m)) (c .before .before .before .before .before .fields .given .1))
+    c .before .before .check-extension .ensures ∙ sym (ap (after (a .before)) (count-next (staticOf t (a .frame .levels) 5 (a .group) h 16 (marksOf (a .frame .area) (a .taken) (a .marks .now))) (λ m. extensionR (schema t) I h 12 m)) ∙ passed _ (a .before) _ _ (c .before .before .before .before .before .before .before .before .before .check-fields .ensures) _ _ (λ m. count (extensionR (schema t) I h 12 m)) (c .before .before .before .before .before .fields .given .1))
 
 check-contents-returns-2 : (t : ℕ) → check-contents-lts.Need-returns-2 (check-contents-claims t) (check-contents-at t) check-contents.Post
 check-contents-returns-2 t c = let a = c .before .before .before .before .before .before .before .before .before .before .before .args in let t = a .table .now in let I = innerOf t (a .frame .levels) in let h = within (a .bytes .now) (a .frame) in
-    stopped (a .before) _ _ _ (c .before .before .before .before .before .check-fields .ensures) _ _ (λ m. count (extensionR (schema t) I h 12 m)) _ (c .before .fields2 .given .1) ∙ ap (after (a .before)) (sym (count-next (staticOf t (a .frame .levels) 5 (a .group) h 16 (a .marks .now)) (λ m. extensionR (schema t) I h 12 m)))
+    stopped _ (a .before) _ _ (c .before .before .before .before .before .check-fields .ensures) _ _ _ (λ m. count (extensionR (schema t) I h 12 m)) (c .before .fields2 .given .1) ∙ ap (after (a .before)) (sym (count-next (staticOf t (a .frame .levels) 5 (a .group) h 16 (marksOf (a .frame .area) (a .taken) (a .marks .now))) (λ m. extensionR (schema t) I h 12 m)))
 
 abbrev check-dynamic-claims : ℕ → check-dynamic-lts.Claims
 check-dynamic-claims t = (locate-reads.Asked, locate-reads.Learnt, check-nested-below t, check-nested.Post)
 
 check-dynamic-add-check-nested : (t : ℕ) → check-dynamic-lts.Need-add-check-nested (check-dynamic-claims t) (check-dynamic-at t) check-dynamic.Post
-check-dynamic-add-check-nested t c = omega (arith, rw mul-one at (lands-inside 1 _ _ (c .before .before .before .before .before .before .before .before .before .before .before .before .args .bytes .now) _ [] _ (c .before .before .found .given .1) (c .before .before .before .before .before .before .locate .ensures .1)))
+check-dynamic-add-check-nested t c = omega (arith, rw mul-one at (c .before .before .before .before .before .before .locate .ensures .1 .inside _ _ _ (c .before .before .found .given .1)))
 
 check-dynamic-check-nested-requires : (t : ℕ) → check-dynamic-lts.Need-check-nested-requires (check-dynamic-claims t) (check-dynamic-at t) check-dynamic.Post
 check-dynamic-check-nested-requires t c κs = let a = c .before .before .before .before .before .before .before .before .before .before .before .before .args in let g = c .before .before .found .given .1 in let L = c .before .before .before .before .before .before .locate .ensures .1 in
-    (search needs, (ready _ _ _ _ _ _ (c .before .before .before .before .before .before .before .before .before .before .before .before .pre .1 .0) (search needs), rw mul-one at (lands-inside 1 _ _ (a .bytes .now) _ [] _ g L), rw mul-one at (lands-taken 1 _ _ (a .bytes .now) _ [] _ g L)))
+    (search needs, (ready _ _ _ _ _ _ (c .before .before .before .before .before .before .before .before .before .before .before .before .pre .1 .0) (search needs), rw mul-one at (L .inside _ _ _ g), rw mul-one at (L .taken _ _ _ g)))
 
 check-dynamic-returns : (t : ℕ) → check-dynamic-lts.Need-returns (check-dynamic-claims t) (check-dynamic-at t) check-dynamic.Post
 check-dynamic-returns t c = let a = c .before .before .before .before .before .before .before .before .before .before .before .before .before .before .before .args in let t = a .table .now in let I = innerOf t (a .frame .levels) in
-    c .before .before .check-nested .ensures ∙ sym (ap (after (a .before)) (leads-to 26 1 (innerR I (a .allowed)) (within (a .bytes .now) (a .frame)) (a .at) (a .marks .now) _ _ (c .before .before .before .before .before .before .before .before .before .locate .ensures .0) _ _ (c .before .before .before .before .before .found .given .1) ∙ count-inner (within (a .bytes .now) (a .frame)) _ _ I (a .allowed) _))
+    c .before .before .check-nested .ensures ∙ sym (ap (after (a .before)) (leads-to 26 1 (innerR I (a .allowed)) (within (a .bytes .now) (a .frame)) (a .at) (marksOf (a .frame .area) (a .taken) (a .marks .now)) _ _ (c .before .before .before .before .before .before .before .before .before .locate .ensures .0) _ _ _ (c .before .before .before .before .before .found .given .1) ∙ count-inner (within (a .bytes .now) (a .frame)) _ _ I (a .allowed) _))
 
 check-dynamic-returns-2 : (t : ℕ) → check-dynamic-lts.Need-returns-2 (check-dynamic-claims t) (check-dynamic-at t) check-dynamic.Post
-check-dynamic-returns-2 t c = let a = c .before .before .before .before .before .before .before .before .before .before .before .args in refuses _ _ _ _ _ (leads-nowhere 26 1 (innerR (innerOf (a .table .now) (a .frame .levels)) (a .allowed)) (within (a .bytes .now) (a .frame)) (a .at) (a .marks .now) _ _ (c .before .before .before .before .before .locate .ensures .0) _ _ (c .before .found2 .given .1))
+check-dynamic-returns-2 t c = let a = c .before .before .before .before .before .before .before .before .before .before .before .args in refuses _ _ _ _ _ (leads-nowhere 26 1 (innerR (innerOf (a .table .now) (a .frame .levels)) (a .allowed)) (within (a .bytes .now) (a .frame)) (a .at) (marksOf (a .frame .area) (a .taken) (a .marks .now)) _ _ (c .before .before .before .before .before .locate .ensures .0) _ _ (c .before .found2 .given .1))
 
 abbrev check-extending-claims : ℕ → check-extending-lts.Claims
 check-extending-claims t = (locate-reads.Asked, locate-reads.Learnt, read-u64-reads.Asked, read-u64-reads.Learnt, is-known-reads.Asked, is-known-reads.Learnt, longer-reads.Asked, longer-reads.Learnt, check-nested-below t, check-nested.Post)
 
-check-extending-add-t17 : (t : ℕ) → check-extending-lts.Need-add-t17 (check-extending-claims t) (check-extending-at t) check-extending.Post
-check-extending-add-t17 t c = omega (arith, lands-inside 1 _ _ (c .before .before .before .before .before .before .before .before .before .before .before .before .before .args .bytes .now) _ [] _ (c .before .before .before .found .given .1) (c .before .before .before .before .before .before .before .locate .ensures .1), c .before .before .before .before .before .before .before .before .before .before .before .before .before .pre .1 .0 .small)
+check-extending-add-t19 : (t : ℕ) → check-extending-lts.Need-add-t19 (check-extending-claims t) (check-extending-at t) check-extending.Post
+check-extending-add-t19 t c = omega (arith, c .before .before .before .before .before .before .before .locate .ensures .1 .inside _ _ _ (c .before .before .before .found .given .1), c .before .before .before .before .before .before .before .before .before .before .before .before .before .pre .1 .0 .small)
 
 check-extending-returns : (t : ℕ) → check-extending-lts.Need-returns (check-extending-claims t) (check-extending-at t) check-extending.Post
-check-extending-returns t c = let a = c .before .before .before .before .before .before .before .before .before .before .before .before .before .args in refuses _ _ _ _ _ (extending-short (schema (a .table .now)) (innerOf (a .table .now) (a .frame .levels)) (within (a .bytes .now) (a .frame)) (a .at) (a .marks .now) _ _ (c .before .before .before .before .before .before .before .locate .ensures .0) _ _ (c .before .before .before .found .given .1) (c .before .if1 .taken))
+check-extending-returns t c = let a = c .before .before .before .before .before .before .before .before .before .before .before .before .before .args in refuses _ _ _ _ _ (extending-short (schema (a .table .now)) (innerOf (a .table .now) (a .frame .levels)) (within (a .bytes .now) (a .frame)) (a .at) (marksOf (a .frame .area) (a .taken) (a .marks .now)) _ _ (c .before .before .before .before .before .before .before .locate .ensures .0) _ _ _ (c .before .before .before .found .given .1) (c .before .if1 .taken))
 
 check-extending-add-read-u64 : (t : ℕ) → check-extending-lts.Need-add-read-u64 (check-extending-claims t) (check-extending-at t) check-extending.Post
-check-extending-add-read-u64 t c = omega (arith, lands-inside 1 _ _ (c .before .before .before .before .before .before .before .before .before .before .before .before .args .bytes .now) _ [] _ (c .before .before .found .given .1) (c .before .before .before .before .before .before .locate .ensures .1))
+check-extending-add-read-u64 t c = omega (arith, c .before .before .before .before .before .before .locate .ensures .1 .inside _ _ _ (c .before .before .found .given .1))
 
 check-extending-read-u64-requires : (t : ℕ) → check-extending-lts.Need-read-u64-requires (check-extending-claims t) (check-extending-at t) check-extending.Post
-check-extending-read-u64-requires t c κs = omega (arith, rw mul-one at (lands-inside 1 _ _ (c .before .before .before .before .before .before .before .before .before .before .before .before .args .bytes .now) _ [] _ (c .before .before .found .given .1) (c .before .before .before .before .before .before .locate .ensures .1)), c .if1 .left)
+check-extending-read-u64-requires t c κs = omega (arith, rw mul-one at (c .before .before .before .before .before .before .locate .ensures .1 .inside _ _ _ (c .before .before .found .given .1)), c .if1 .left)
 
 check-extending-add-check-nested : (t : ℕ) → check-extending-lts.Need-add-check-nested (check-extending-claims t) (check-extending-at t) check-extending.Post
-check-extending-add-check-nested t c = omega (arith, rw mul-one at (lands-inside 1 _ _ (c .before .before .before .before .before .before .before .before .before .before .before .before .before .before .before .before .args .bytes .now) _ [] _ (c .before .before .before .before .before .before .found .given .1) (c .before .before .before .before .before .before .before .before .before .before .locate .ensures .1)))
+check-extending-add-check-nested t c = omega (arith, rw mul-one at (c .before .before .before .before .before .before .before .before .before .before .locate .ensures .1 .inside _ _ _ (c .before .before .before .before .before .before .found .given .1)))
 
 check-extending-check-nested-requires : (t : ℕ) → check-extending-lts.Need-check-nested-requires (check-extending-claims t) (check-extending-at t) check-extending.Post
 check-extending-check-nested-requires t c κs = let a = c .before .before .before .before .before .before .before .before .before .before .before .before .before .before .before .before .before .args in let g = c .before .before .before .before .before .before .before .found .given .1 in let L = c .before .before .before .before .before .before .before .before .before .before .before .locate .ensures .1 in
-    (search needs, (ready _ _ _ _ _ _ (c .before .before .before .before .before .before .before .before .before .before .before .before .before .before .before .before .before .pre .1 .0) (search needs), rw mul-one at (lands-inside 1 _ _ (a .bytes .now) _ [] _ g L), rw mul-one at (lands-taken 1 _ _ (a .bytes .now) _ [] _ g L)))
+    (search needs, (ready _ _ _ _ _ _ (c .before .before .before .before .before .before .before .before .before .before .before .before .before .before .before .before .before .pre .1 .0) (omega (arith, c .before .before .before .before .before .before .before .before .before .before .before .locate .kept, c .before .before .before .before .before .before .before .before .before .before .before .before .before .before .before .before .before .pre .1 .0 .same)), rw mul-one at (L .inside _ _ _ g), rw mul-one at (L .taken _ _ _ g)))
 
 check-extending-returns-2 : (t : ℕ) → check-extending-lts.Need-returns-2 (check-extending-claims t) (check-extending-at t) check-extending.Post
 check-extending-returns-2 t c = let a = c .before .before .before .before .before .before .before .before .before .before .before .before .before .before .before .before .before .before .before .before .args in
-    c .before .before .check-nested .ensures ∙ sym (goes-on (a .before) 2 _ _ _ (extending-known (schema (a .table .now)) (innerOf (a .table .now) (a .frame .levels)) (within (a .bytes .now) (a .frame)) (a .at) (a .marks .now) _ _ (c .before .before .before .before .before .before .before .before .before .before .before .before .before .before .locate .ensures .0) _ _ (c .before .before .before .before .before .before .before .before .before .before .found .given .1) (c .before .before .before .before .before .before .before .before .if1 .left) (rw (c .before .before .before .before .before .before .before .read-u64 .ensures) at (sym (c .before .before .before .before .before .before .is-known .ensures)) ∙ c .before .before .before .before .before .if2 .taken)) (c .before .before .before .longer .ensures))
+    c .before .before .check-nested .ensures ∙ sym (goes-on (a .before) 2 _ _ _ (extending-known (schema (a .table .now)) (innerOf (a .table .now) (a .frame .levels)) (within (a .bytes .now) (a .frame)) (a .at) (marksOf (a .frame .area) (a .taken) (a .marks .now)) _ _ (c .before .before .before .before .before .before .before .before .before .before .before .before .before .before .locate .ensures .0) _ _ _ (c .before .before .before .before .before .before .before .before .before .before .found .given .1) (c .before .before .before .before .before .before .before .before .if1 .left) (rw (c .before .before .before .before .before .before .before .read-u64 .ensures) at (sym (c .before .before .before .before .before .before .is-known .ensures)) ∙ c .before .before .before .before .before .if2 .taken)) (c .before .before .before .longer .ensures))
 
 check-extending-add-longer : (t : ℕ) → check-extending-lts.Need-add-longer (check-extending-claims t) (check-extending-at t) check-extending.Post
-check-extending-add-longer t c = omega (arith, rw mul-one at (lands-inside 1 _ _ (c .before .before .before .before .before .before .before .before .before .before .before .before .before .before .before .args .bytes .now) _ [] _ (c .before .before .before .before .before .found .given .1) (c .before .before .before .before .before .before .before .before .before .locate .ensures .1)))
+check-extending-add-longer t c = omega (arith, rw mul-one at (c .before .before .before .before .before .before .before .before .before .locate .ensures .1 .inside _ _ _ (c .before .before .before .before .before .found .given .1)))
 
 check-extending-returns-3 : (t : ℕ) → check-extending-lts.Need-returns-3 (check-extending-claims t) (check-extending-at t) check-extending.Post
 check-extending-returns-3 t c = let a = c .before .before .before .before .before .before .before .before .before .before .before .before .before .before .before .before .args in
-    counts _ _ _ _ _ (extending-kept (schema (a .table .now)) (innerOf (a .table .now) (a .frame .levels)) (within (a .bytes .now) (a .frame)) (a .at) (a .marks .now) _ _ (c .before .before .before .before .before .before .before .before .before .before .locate .ensures .0) _ _ (c .before .before .before .before .before .before .found .given .1) (c .before .before .before .before .if1 .left) (rw (c .before .before .before .read-u64 .ensures) at (sym (c .before .before .is-known .ensures)) ∙ c .before .if2 .left) (lands-inside 1 _ _ (a .bytes .now) _ [] _ (c .before .before .before .before .before .before .found .given .1) (c .before .before .before .before .before .before .before .before .before .before .locate .ensures .1))) (c .longer2 .ensures)
+    counts _ _ _ _ _ _ (extending-kept (schema (a .table .now)) (innerOf (a .table .now) (a .frame .levels)) (within (a .bytes .now) (a .frame)) (a .at) (marksOf (a .frame .area) (a .taken) (a .marks .now)) _ _ (c .before .before .before .before .before .before .before .before .before .before .locate .ensures .0) _ _ _ (c .before .before .before .before .before .before .found .given .1) (c .before .before .before .before .if1 .left) (rw (c .before .before .before .read-u64 .ensures) at (sym (c .before .before .is-known .ensures)) ∙ c .before .if2 .left) (c .before .before .before .before .before .before .before .before .before .before .locate .ensures .1 .inside _ _ _ (c .before .before .before .before .before .before .found .given .1))) (c .longer2 .ensures)
 
 check-extending-returns-4 : (t : ℕ) → check-extending-lts.Need-returns-4 (check-extending-claims t) (check-extending-at t) check-extending.Post
-check-extending-returns-4 t c = let a = c .before .before .before .before .before .before .before .before .before .before .before .args in refuses _ _ _ _ _ (leads-nowhere 26 1 (extendingR (schema (a .table .now)) (innerOf (a .table .now) (a .frame .levels))) (within (a .bytes .now) (a .frame)) (a .at) (a .marks .now) _ _ (c .before .before .before .before .before .locate .ensures .0) _ _ (c .before .found2 .given .1))
+check-extending-returns-4 t c = let a = c .before .before .before .before .before .before .before .before .before .before .before .args in refuses _ _ _ _ _ (leads-nowhere 26 1 (extendingR (schema (a .table .now)) (innerOf (a .table .now) (a .frame .levels))) (within (a .bytes .now) (a .frame)) (a .at) (marksOf (a .frame .area) (a .taken) (a .marks .now)) _ _ (c .before .before .before .before .before .locate .ensures .0) _ _ (c .before .found2 .given .1))
 
 abbrev check-extension-claims : ℕ → check-extension-lts.Claims
 check-extension-claims t = (read-u32-reads.Asked, read-u32-reads.Learnt, locate-reads.Asked, locate-reads.Learnt, longer-reads.Asked, longer-reads.Learnt, check-groups-below t, check-groups.Post)
 
 check-extension-returns : (t : ℕ) → check-extension-lts.Need-returns (check-extension-claims t) (check-extension-at t) check-extension.Post
-check-extension-returns t c = let a = c .before .before .before .before .before .before .args in stays (a .before) _ _ (extension-zero (schema (a .table .now)) (innerOf (a .table .now) (a .frame .levels)) (within (a .bytes .now) (a .frame)) 12 (a .marks .now) (sym (c .before .read-u32 .ensures .0) ∙ c .if1 .taken)) (search needs)
+check-extension-returns t c = let a = c .before .before .before .before .before .before .args in stays _ (a .before) _ _ (extension-zero (schema (a .table .now)) (innerOf (a .table .now) (a .frame .levels)) (within (a .bytes .now) (a .frame)) 12 (marksOf (a .frame .area) (a .taken) (a .marks .now)) (sym (c .before .read-u32 .ensures .0) ∙ c .if1 .taken)) (search needs)
 
 check-extension-returns-2 : (t : ℕ) → check-extension-lts.Need-returns-2 (check-extension-claims t) (check-extension-at t) check-extension.Post
-check-extension-returns-2 t c = let a = c .before .before .before .before .before .before .before .before .before .before .before .before .before .before .args in stays (a .before) _ _ (extension-empty (schema (a .table .now)) (innerOf (a .table .now) (a .frame .levels)) (within (a .bytes .now) (a .frame)) 12 (a .marks .now) (λ z. c .before .before .before .before .before .before .before .before .if1 .left (c .before .before .before .before .before .before .before .before .before .read-u32 .ensures .0 ∙ z)) _ _ (c .before .before .before .before .before .before .locate .ensures .0) _ _ (c .before .before .found .given .1) (c .if2 .taken)) (search needs)
+check-extension-returns-2 t c = let a = c .before .before .before .before .before .before .before .before .before .before .before .before .before .before .args in stays _ (a .before) _ _ (extension-empty (schema (a .table .now)) (innerOf (a .table .now) (a .frame .levels)) (within (a .bytes .now) (a .frame)) 12 (marksOf (a .frame .area) (a .taken) (a .marks .now)) (λ z. c .before .before .before .before .before .before .before .before .if1 .left (c .before .before .before .before .before .before .before .before .before .read-u32 .ensures .0 ∙ z)) _ _ (c .before .before .before .before .before .before .locate .ensures .0) _ _ _ (c .before .before .found .given .1) (c .if2 .taken)) (search needs)
 
 check-extension-add-check-groups : (t : ℕ) → check-extension-lts.Need-add-check-groups (check-extension-claims t) (check-extension-at t) check-extension.Post
-check-extension-add-check-groups t c = omega (arith, lands-inside 4 _ _ (c .before .before .before .before .before .before .before .before .before .before .before .before .before .before .before .args .bytes .now) _ [] _ (c .before .before .before .found .given .1) (c .before .before .before .before .before .before .before .locate .ensures .1))
+check-extension-add-check-groups t c = omega (arith, c .before .before .before .before .before .before .before .locate .ensures .1 .inside _ _ _ (c .before .before .before .found .given .1))
 
 check-extension-check-groups-requires : (t : ℕ) → check-extension-lts.Need-check-groups-requires (check-extension-claims t) (check-extension-at t) check-extension.Post
-check-extension-check-groups-requires t c κs = let a = c .before .before .before .before .before .before .before .before .before .before .before .before .before .before .before .before .args in let q = lands-inside 4 _ _ (a .bytes .now) _ [] _ (c .before .before .before .before .found .given .1) (c .before .before .before .before .before .before .before .before .locate .ensures .1) in
+check-extension-check-groups-requires t c κs = let a = c .before .before .before .before .before .before .before .before .before .before .before .before .before .before .before .before .args in let q = c .before .before .before .before .before .before .before .before .locate .ensures .1 .inside _ _ _ (c .before .before .before .before .found .given .1) in
     (search needs, (ready _ _ _ _ _ _ (c .before .before .before .before .before .before .before .before .before .before .before .before .before .before .before .before .pre .1 .0) (search needs), omega (arith, q)))
 
 check-extension-returns-3 : (t : ℕ) → check-extension-lts.Need-returns-3 (check-extension-claims t) (check-extension-at t) check-extension.Post
 check-extension-returns-3 t c = let a = c .before .before .before .before .before .before .before .before .before .before .before .before .before .before .before .before .before .before .before .args in
-    c .before .before .check-groups .ensures ∙ sym (goes-on (a .before) 6 _ _ _ (extension-some (schema (a .table .now)) (innerOf (a .table .now) (a .frame .levels)) (within (a .bytes .now) (a .frame)) 12 (a .marks .now) (λ z. c .before .before .before .before .before .before .before .before .before .before .before .before .before .if1 .left (c .before .before .before .before .before .before .before .before .before .before .before .before .before .before .read-u32 .ensures .0 ∙ z)) _ _ (c .before .before .before .before .before .before .before .before .before .before .before .locate .ensures .0) _ _ (c .before .before .before .before .before .before .before .found .given .1) (c .before .before .before .before .before .if2 .left) (omega (arith, lands-inside 4 _ _ (a .bytes .now) _ [] _ (c .before .before .before .before .before .before .before .found .given .1) (c .before .before .before .before .before .before .before .before .before .before .before .locate .ensures .1)))) (c .before .before .before .longer .ensures))
+    c .before .before .check-groups .ensures ∙ sym (goes-on (a .before) 6 _ _ _ (extension-some (schema (a .table .now)) (innerOf (a .table .now) (a .frame .levels)) (within (a .bytes .now) (a .frame)) 12 (marksOf (a .frame .area) (a .taken) (a .marks .now)) (λ z. c .before .before .before .before .before .before .before .before .before .before .before .before .before .if1 .left (c .before .before .before .before .before .before .before .before .before .before .before .before .before .before .read-u32 .ensures .0 ∙ z)) _ _ (c .before .before .before .before .before .before .before .before .before .before .before .locate .ensures .0) _ _ _ (c .before .before .before .before .before .before .before .found .given .1) (c .before .before .before .before .before .if2 .left) (omega (arith, c .before .before .before .before .before .before .before .before .before .before .before .locate .ensures .1 .inside _ _ _ (c .before .before .before .before .before .before .before .found .given .1)))) (c .before .before .before .longer .ensures))
 
 check-extension-returns-4 : (t : ℕ) → check-extension-lts.Need-returns-4 (check-extension-claims t) (check-extension-at t) check-extension.Post
-check-extension-returns-4 t c = let a = c .before .before .before .before .before .before .before .before .before .before .before .before .before .args in refuses _ _ _ _ _ (extension-nowhere (schema (a .table .now)) (innerOf (a .table .now) (a .frame .levels)) (within (a .bytes .now) (a .frame)) 12 (a .marks .now) (λ z. c .before .before .before .before .before .before .before .if1 .left (c .before .before .before .before .before .before .before .before .read-u32 .ensures .0 ∙ z)) _ _ (c .before .before .before .before .before .locate .ensures .0) _ _ (c .before .found2 .given .1))
+check-extension-returns-4 t c = let a = c .before .before .before .before .before .before .before .before .before .before .before .before .before .args in refuses _ _ _ _ _ (extension-nowhere (schema (a .table .now)) (innerOf (a .table .now) (a .frame .levels)) (within (a .bytes .now) (a .frame)) 12 (marksOf (a .frame .area) (a .taken) (a .marks .now)) (λ z. c .before .before .before .before .before .before .before .if1 .left (c .before .before .before .before .before .before .before .before .read-u32 .ensures .0 ∙ z)) _ _ (c .before .before .before .before .before .locate .ensures .0) _ _ (c .before .found2 .given .1))
 
 abbrev check-field-claims : ℕ → check-field-lts.Claims
 check-field-claims t = (is-optional-reads.Asked, is-optional-reads.Learnt, value-width-reads.Asked, value-width-reads.Learnt, check-absent-reads.Asked, check-absent-reads.Learnt, check-value-below t, check-value.Post)
 
 check-field-shared-slice-read-if2 : (t : ℕ) → check-field-lts.Need-shared-slice-read-if2 (check-field-claims t) (check-field-at t) check-field.Post
-check-field-shared-slice-read-if2 t c = let a = c .before .before .before .before .before .before .before .before .args in let t = a .table .now in
-    let w = width-optional (widthOf t (a .depth)) (fieldAt (enums t) (drop (a .field) t)) (sym (c .before .before .before .is-optional .ensures (enums t)) ∙ c .before .before .if1 .taken) in omega (arith, w, c .before .before .before .before .before .before .before .before .pre .1 .2)
+check-field-shared-slice-read-if2 t c = let a = c .before .before .before .before .before .before .before .args in let t = a .table .now in
+    let w = width-optional (widthOf t (a .depth)) (fieldAt (enums t) (drop (a .field) t)) (sym (c .before .before .is-optional .ensures (enums t)) ∙ c .before .if1 .taken) in omega (arith, w, c .before .before .before .before .before .before .before .pre .1 .2)
 
 check-field-check-absent-requires : (t : ℕ) → check-field-lts.Need-check-absent-requires (check-field-claims t) (check-field-at t) check-field.Post
 check-field-check-absent-requires t c κs = let a = c .before .before .before .before .before .before .before .before .before .args in let t = a .table .now in
     let w = width-optional (widthOf t (a .depth)) (fieldAt (enums t) (drop (a .field) t)) (sym (c .before .before .before .before .is-optional .ensures (enums t)) ∙ c .before .before .before .if1 .taken) in
-    let v = c .before .before .value-width .ensures .0 (enums t) ∙ wide-value t (a .index .now) (c .before .before .before .before .before .before .before .before .before .pre .1 .0 .layout) (a .depth) _ (c .before .before .before .before .before .before .before .before .before .pre .1 .3) in
-    (c .if2 .taken, omega (arith, w, v, c .before .before .before .before .before .before .before .before .before .pre .1 .2), c .before .before .before .before .before .before .before .before .before .pre .1 .0 .small)
+    let v = c .value-width .ensures .0 (enums t) ∙ wide-value t (a .index .now) (c .before .before .before .before .before .before .before .before .before .pre .1 .0 .layout) (a .depth) _ (c .before .before .before .before .before .before .before .before .before .pre .1 .3) in
+    (c .before .if2 .taken, omega (arith, w, v, c .before .before .before .before .before .before .before .before .before .pre .1 .2), c .before .before .before .before .before .before .before .before .before .pre .1 .0 .small)
 
 check-field-returns : (t : ℕ) → check-field-lts.Need-returns (check-field-claims t) (check-field-at t) check-field.Post
 check-field-returns t c = let a = c .before .before .before .before .before .before .before .before .before .before .args in let t = a .table .now in
     let f = fieldAt (enums t) (drop (a .field) t) in let I = innerOf t (a .frame .levels) in let S = staticOf t (a .frame .levels) (a .depth) in let sw = widthOf t (a .depth) in
-    let v = c .before .before .before .value-width .ensures .0 (enums t) ∙ wide-value t (a .index .now) (c .before .before .before .before .before .before .before .before .before .before .pre .1 .0 .layout) (a .depth) _ (c .before .before .before .before .before .before .before .before .before .before .pre .1 .3) in
-    rw v at (c .check-absent .ensures (fieldMark f) (valueR I sw S f) (a .frame .area) (a .marks .now)) ∙ ap (λ x. after (a .before) (count x)) (sym (field-optional I sw S f (within (a .bytes .now) (a .frame)) (a .at) (a .marks .now) (sym (c .before .before .before .before .before .is-optional .ensures (enums t)) ∙ c .before .before .before .before .if1 .taken)))
+    let v = c .before .value-width .ensures .0 (enums t) ∙ wide-value t (a .index .now) (c .before .before .before .before .before .before .before .before .before .before .pre .1 .0 .layout) (a .depth) _ (c .before .before .before .before .before .before .before .before .before .before .pre .1 .3) in
+    rw v at (c .check-absent .ensures (fieldMark f) (valueR I sw S f) (a .frame .area) (λ s. marksOf (a .frame .area) s (a .marks .now))) ∙ ap (λ x. after (a .before) (count x)) (sym (field-optional I sw S f (within (a .bytes .now) (a .frame)) (a .at) (marksOf (a .frame .area) (a .taken) (a .marks .now)) (sym (c .before .before .before .before .before .is-optional .ensures (enums t)) ∙ c .before .before .before .before .if1 .taken)))
 
 check-field-check-value-requires : (t : ℕ) → check-field-lts.Need-check-value-requires (check-field-claims t) (check-field-at t) check-field.Post
-check-field-check-value-requires t c κs = let a = c .before .before .before .before .before .before .before .before .before .before .args in let t = a .table .now in
-    let w = width-optional (widthOf t (a .depth)) (fieldAt (enums t) (drop (a .field) t)) (sym (c .before .before .before .before .before .is-optional .ensures (enums t)) ∙ c .before .before .before .before .if1 .taken) in
-    (search needs, (c .before .before .before .before .before .before .before .before .before .before .pre .1 .0, c .before .before .before .before .before .before .before .before .before .before .pre .1 .1, omega (arith, w, c .before .before .before .before .before .before .before .before .before .before .pre .1 .2), c .before .before .before .before .before .before .before .before .before .before .pre .1 .3))
+check-field-check-value-requires t c κs = let a = c .before .before .before .before .before .before .before .before .before .args in let t = a .table .now in
+    let w = width-optional (widthOf t (a .depth)) (fieldAt (enums t) (drop (a .field) t)) (sym (c .before .before .before .before .is-optional .ensures (enums t)) ∙ c .before .before .before .if1 .taken) in
+    (search needs, (c .before .before .before .before .before .before .before .before .before .pre .1 .0, c .before .before .before .before .before .before .before .before .before .pre .1 .1, omega (arith, w, c .before .before .before .before .before .before .before .before .before .pre .1 .2), c .before .before .before .before .before .before .before .before .before .pre .1 .3))
 
 check-field-returns-2 : (t : ℕ) → check-field-lts.Need-returns-2 (check-field-claims t) (check-field-at t) check-field.Post
-check-field-returns-2 t c = let a = c .before .before .before .before .before .before .before .before .before .before .before .before .before .args in let t = a .table .now in
+check-field-returns-2 t c = let a = c .before .before .before .before .before .before .before .before .before .before .before .before .args in let t = a .table .now in
     let f = fieldAt (enums t) (drop (a .field) t) in let I = innerOf t (a .frame .levels) in let S = staticOf t (a .frame .levels) (a .depth) in let sw = widthOf t (a .depth) in
-    c .before .before .check-value .ensures ∙ ap (λ x. after (a .before) (count x)) (sym (field-there I sw S f (within (a .bytes .now) (a .frame)) (a .at) (a .marks .now) (sym (c .before .before .before .before .before .before .before .before .is-optional .ensures (enums t)) ∙ c .before .before .before .before .before .before .before .if1 .taken) (c .before .before .before .before .if2 .left)))
+    c .before .before .check-value .ensures ∙ ap (λ x. after (a .before) (count x)) (sym (field-there I sw S f (within (a .bytes .now) (a .frame)) (a .at) (marksOf (a .frame .area) (a .taken) (a .marks .now)) (sym (c .before .before .before .before .before .before .before .is-optional .ensures (enums t)) ∙ c .before .before .before .before .before .before .if1 .taken) (c .before .before .before .before .if2 .left)))
 
 check-field-check-value-requires-2 : (t : ℕ) → check-field-lts.Need-check-value-requires-2 (check-field-claims t) (check-field-at t) check-field.Post
 check-field-check-value-requires-2 t c κs = let a = c .before .before .before .before .before .before .before .args in let t = a .table .now in
@@ -452,18 +449,18 @@ check-field-check-value-requires-2 t c κs = let a = c .before .before .before .
 check-field-returns-3 : (t : ℕ) → check-field-lts.Need-returns-3 (check-field-claims t) (check-field-at t) check-field.Post
 check-field-returns-3 t c = let a = c .before .before .before .before .before .before .before .before .before .before .args in let t = a .table .now in
     let f = fieldAt (enums t) (drop (a .field) t) in let I = innerOf t (a .frame .levels) in let S = staticOf t (a .frame .levels) (a .depth) in let sw = widthOf t (a .depth) in
-    c .before .before .check-value2 .ensures ∙ ap (λ x. after (a .before) (count x)) (sym (field-required I sw S f (within (a .bytes .now) (a .frame)) (a .at) (a .marks .now) (sym (c .before .before .before .before .before .is-optional .ensures (enums t)) ∙ c .before .before .before .before .if1 .left)))
+    c .before .before .check-value2 .ensures ∙ ap (λ x. after (a .before) (count x)) (sym (field-required I sw S f (within (a .bytes .now) (a .frame)) (a .at) (marksOf (a .frame .area) (a .taken) (a .marks .now)) (sym (c .before .before .before .before .before .is-optional .ensures (enums t)) ∙ c .before .before .before .before .if1 .left)))
 
 abbrev check-fields-Inv-loop : check-fields-lts.InvT-loop
-check-fields-Inv-loop table index bytes marks₀ frame depth group at before start total deeper i₀ field₀ place₀ sum₀ marks i field place sum =
+check-fields-Inv-loop table index bytes marks₀ frame depth group at before start total deeper i₀ field₀ place₀ sum₀ holds₀ marks i field place sum holds =
     (i ≤ total) × (length marks ≡ length marks₀) × (field + 16 * (total - i) ≤ length table)
     × (place + fieldsWidth (widthOf table deeper) (fieldsAt (enums table) (total - i) (drop field table)) ≤ length bytes)
     × (shallowFields (shallow (schema table) deeper) (widthOf table deeper) (fieldsAt (enums table) (total - i) (drop field table)) ≡ true) × (sum < 2 ^ 64)
-    × (after before (count (staticOf table (frame .levels) depth group (within bytes frame) at marks₀))
-    ≡ after sum (count (fieldsR (innerOf table (frame .levels)) (widthOf table deeper) (staticOf table (frame .levels) deeper) (fieldsAt (enums table) (total - i) (drop field table)) (within bytes frame) place marks)))
+    × (after before (count (staticOf table (frame .levels) depth group (within bytes frame) at (marksOf (frame .area) holds₀ marks₀)))
+    ≡ after sum (count (fieldsR (innerOf table (frame .levels)) (widthOf table deeper) (staticOf table (frame .levels) deeper) (fieldsAt (enums table) (total - i) (drop field table)) (within bytes frame) place (marksOf (frame .area) holds marks))))
 
 abbrev check-fields-μ-loop : check-fields-lts.MeasureT-loop
-check-fields-μ-loop table index bytes marks₀ frame depth group at before start total deeper i₀ field₀ place₀ sum₀ marks i field place sum =
+check-fields-μ-loop table index bytes marks₀ frame depth group at before start total deeper i₀ field₀ place₀ sum₀ holds₀ marks i field place sum holds =
     total - i
 
 abbrev check-fields-claims : ℕ → check-fields-lts.Claims
@@ -486,7 +483,7 @@ check-fields-loop-holds t c = let a = c .before .before .before .before .before 
       omega (arith, w, r .1),
       start-shallow (a .table .now) (a .index .now) P (a .group) (r .2) _ _ s n (a .depth) d (r .3),
       search needs,
-      ap (λ x. after (a .before) (count x)) (start-static (a .table .now) (a .index .now) P (a .group) (r .2) _ _ s n (a .depth) d (innerOf (a .table .now) (a .frame .levels)) (within (a .bytes .now) (a .frame)) (a .at) (a .marks .now)),
+      ap (λ x. after (a .before) (count x)) (start-static (a .table .now) (a .index .now) P (a .group) (r .2) _ _ s n (a .depth) d (innerOf (a .table .now) (a .frame .levels)) (within (a .bytes .now) (a .frame)) (a .at) (marksOf (a .frame .area) (a .taken) (a .marks .now))),
     )
 
 check-fields-loop-again : (t : ℕ) → check-fields-lts.Need-loop-again (check-fields-claims t) (check-fields-at t) check-fields.Post check-fields-Inv-loop check-fields-μ-loop
@@ -501,7 +498,7 @@ check-fields-loop-again t c = let a = c .before .before .before .before .before 
       omega (arith, i .3, w, p),
       shallow-cons _ _ _ _ _ f (i .4) .1,
       search needs,
-      i .6 ∙ fields-plain (innerOf t (a .frame .levels)) sw (staticOf t (a .frame .levels) (a .depth - 1)) (enums t) t (a .bytes .now) (a .frame .base) (a .frame .area) (c .before .before .before .before .before .field-count .result) (c .before .before .before .before .loop .i) (c .before .before .before .before .loop .field) (c .before .before .before .before .loop .place) (c .before .before .before .before .loop .length) (c .before .before .before .before .loop .marks) _ _ _ (c .before .before .before .loop-test .taken) e (omega (arith, i .3, w, p)) (c .longer .ensures),
+      i .6 ∙ fields-plain (innerOf t (a .frame .levels)) sw (staticOf t (a .frame .levels) (a .depth - 1)) (enums t) t (a .bytes .now) (a .frame .base) (a .frame .area) (c .before .before .before .before .before .field-count .result) (c .before .before .before .before .loop .i) (c .before .before .before .before .loop .field) (c .before .before .before .before .loop .place) (c .before .before .before .before .loop .length) (marksOf (a .frame .area) (c .before .before .before .before .loop .holds) (c .before .before .before .before .loop .marks)) _ _ _ (c .before .before .before .loop-test .taken) e (omega (arith, i .3, w, p)) (c .longer .ensures),
     )
 
 check-fields-check-field-requires : (t : ℕ) → check-fields-lts.Need-check-field-requires (check-fields-claims t) (check-fields-at t) check-fields.Post check-fields-Inv-loop check-fields-μ-loop
@@ -512,7 +509,10 @@ check-fields-check-field-requires t c κs = let a = c .before .before .before .b
 
 check-fields-returns : (t : ℕ) → check-fields-lts.Need-returns (check-fields-claims t) (check-fields-at t) check-fields.Post check-fields-Inv-loop check-fields-μ-loop
 check-fields-returns t c = let a = c .before .before .before .before .before .before .before .before .before .before .before .before .before .before .before .before .before .before .args in let t = a .table .now in
-    fields-stopped (innerOf t (a .frame .levels)) (widthOf t (a .depth - 1)) (staticOf t (a .frame .levels) (a .depth - 1)) (enums t) t (within (a .bytes .now) (a .frame)) (c .before .before .before .before .before .before .before .before .before .before .before .before .field-count .result) (c .before .before .before .before .before .before .before .before .before .before .before .loop .i) (c .before .before .before .before .before .before .before .before .before .before .before .loop .field) (c .before .before .before .before .before .before .before .before .before .before .before .loop .place) (c .before .before .before .before .before .before .before .before .before .before .before .loop .length) (c .before .before .before .before .before .before .before .before .before .before .before .loop .marks) _ _ (c .before .before .before .before .before .check-field .ensures) (c .before .before .before .before .before .before .before .before .before .before .loop-test .taken) _ _ _ (c .before .answer2 .given .1) ∙ sym (c .before .before .before .before .before .before .before .before .before .before .before .loop .inv .6)
+    fields-stopped (innerOf t (a .frame .levels)) (widthOf t (a .depth - 1)) (staticOf t (a .frame .levels) (a .depth - 1)) (enums t) t (within (a .bytes .now) (a .frame)) (c .before .before .before .before .before .before .before .before .before .before .before .before .field-count .result) (c .before .before .before .before .before .before .before .before .before .before .before .loop .i) (c .before .before .before .before .before .before .before .before .before .before .before .loop .field) (c .before .before .before .before .before .before .before .before .before .before .before .loop .place) (c .before .before .before .before .before .before .before .before .before .before .before .loop .length) (marksOf (a .frame .area) (c .before .before .before .before .before .before .before .before .before .before .before .loop .holds) (c .before .before .before .before .before .before .before .before .before .before .before .loop .marks)) _ _ (c .before .before .before .before .before .check-field .ensures) (c .before .before .before .before .before .before .before .before .before .before .loop-test .taken) _ _ _ (c .before .answer2 .given .1) ∙ sym (c .before .before .before .before .before .before .before .before .before .before .before .loop .inv .6)
+
+check-fields-add-place-2 : (t : ℕ) → check-fields-lts.Need-add-place-2 (check-fields-claims t) (check-fields-at t) check-fields.Post check-fields-Inv-loop check-fields-μ-loop
+check-fields-add-place-2 t c = let a = c .before .before .before .before .before .before .before .before .before .before .before .before .before .before .before .before .before .before .args in let t = a .table .now in omega (arith, c .before .before .before .before .before .before .before .before .before .before .before .loop .inv .3, c .before .before .before .before .before .before .before .field-width .ensures .1, c .before .before .before .before .before .before .before .before .before .before .before .before .before .before .before .before .before .before .pre .1 .0 .small)
 
 check-fields-loop-again-2 : (t : ℕ) → check-fields-lts.Need-loop-again-2 (check-fields-claims t) (check-fields-at t) check-fields.Post check-fields-Inv-loop check-fields-μ-loop
 check-fields-loop-again-2 t c = let a = c .before .before .before .before .before .before .before .before .before .before .before .before .before .before .before .before .before .before .args in let i = c .before .before .before .before .before .before .before .before .before .before .before .loop .inv in let t = a .table .now in let l = c .before .before .before .before .before .before .before .before .before .before .loop-test .taken in
@@ -526,13 +526,13 @@ check-fields-loop-again-2 t c = let a = c .before .before .before .before .befor
       omega (arith, i .2, l),
       omega (arith, i .3, w, v),
       q .1,
-      bounded _ _ _ _ (c .before .before .before .before .before .check-field .ensures) _ (c .before .answer .given .1),
-      i .6 ∙ fields-passed (innerOf t (a .frame .levels)) sw (staticOf t (a .frame .levels) (a .depth - 1)) (enums t) t (within (a .bytes .now) (a .frame)) (c .before .before .before .before .before .before .before .before .before .before .before .before .field-count .result) (c .before .before .before .before .before .before .before .before .before .before .before .loop .i) (c .before .before .before .before .before .before .before .before .before .before .before .loop .field) (c .before .before .before .before .before .before .before .before .before .before .before .loop .place) (c .before .before .before .before .before .before .before .before .before .before .before .loop .length) (c .before .before .before .before .before .before .before .before .before .before .before .loop .marks) _ _ (c .before .before .before .before .before .check-field .ensures) l _ _ (c .before .answer .given .1) v,
+      bounded _ _ _ _ (c .before .before .before .before .before .check-field .ensures) _ _ (c .before .answer .given .1),
+      i .6 ∙ fields-passed (innerOf t (a .frame .levels)) sw (staticOf t (a .frame .levels) (a .depth - 1)) (enums t) t (within (a .bytes .now) (a .frame)) (c .before .before .before .before .before .before .before .before .before .before .before .before .field-count .result) (c .before .before .before .before .before .before .before .before .before .before .before .loop .i) (c .before .before .before .before .before .before .before .before .before .before .before .loop .field) (c .before .before .before .before .before .before .before .before .before .before .before .loop .place) (c .before .before .before .before .before .before .before .before .before .before .before .loop .length) (marksOf (a .frame .area) (c .before .before .before .before .before .before .before .before .before .before .before .loop .holds) (c .before .before .before .before .before .before .before .before .before .before .before .loop .marks)) _ _ (c .before .before .before .before .before .check-field .ensures) l _ _ _ (c .before .answer .given .1) v,
     )
 
 check-fields-returns-2 : (t : ℕ) → check-fields-lts.Need-returns-2 (check-fields-claims t) (check-fields-at t) check-fields.Post check-fields-Inv-loop check-fields-μ-loop
 check-fields-returns-2 t c = let a = c .before .before .before .before .before .before .before .before .args in let t = a .table .now in
-    fields-end (innerOf t (a .frame .levels)) (widthOf t (a .depth - 1)) (staticOf t (a .frame .levels) (a .depth - 1)) (enums t) t (within (a .bytes .now) (a .frame)) (c .before .before .field-count .result) (c .before .loop .i) (c .before .loop .field) (c .before .loop .place) (c .before .loop .length) (c .before .loop .marks) (c .loop-test .left) (c .before .loop .inv .5) ∙ sym (c .before .loop .inv .6)
+    fields-end (innerOf t (a .frame .levels)) (widthOf t (a .depth - 1)) (staticOf t (a .frame .levels) (a .depth - 1)) (enums t) t (within (a .bytes .now) (a .frame)) (c .before .before .field-count .result) (c .before .loop .i) (c .before .loop .field) (c .before .loop .place) (c .before .loop .length) (marksOf (a .frame .area) (c .before .loop .holds) (c .before .loop .marks)) _ _ refl (c .loop-test .left) (c .before .loop .inv .5) ∙ sym (c .before .loop .inv .6)
 
 abbrev check-group-claims : ℕ → check-group-lts.Claims
 check-group-claims t = (group-total-reads.Asked, group-total-reads.Learnt, read-u64-reads.Asked, read-u64-reads.Learnt, find-reads.Asked, find-reads.Learnt, allows-reads.Asked, allows-reads.Learnt, check-body-below t, check-body.Post)
@@ -541,41 +541,41 @@ check-group-returns : (t : ℕ) → check-group-lts.Need-returns (check-group-cl
 check-group-returns t c = let a = c .before .before .before .before .before .args in refuses _ _ _ _ _ (group-short (schema (a .table .now)) (a .allowed) (a .base) (a .bytes .now) (a .levels) (c .if1 .taken))
 
 check-group-find-requires : (t : ℕ) → check-group-lts.Need-find-requires (check-group-claims t) (check-group-at t) check-group.Post
-check-group-find-requires t c κs = let P = c .before .before .before .before .before .before .before .pre .1 .layout in (rw (sym (c .before .group-total .ensures .0 ∙ P .total)) at (P .placed), P .long, omega (arith, c .before .group-total .ensures .0, P .total, P .few), P .small)
+check-group-find-requires t c κs = let P = c .before .before .before .before .before .before .before .pre .1 .0 in (rw (sym (c .before .group-total .ensures .0 ∙ P .total)) at (P .placed), P .long, omega (arith, c .before .group-total .ensures .0, P .total, P .few), P .small)
 
 check-group-returns-2 : (t : ℕ) → check-group-lts.Need-returns-2 (check-group-claims t) (check-group-at t) check-group.Post
-check-group-returns-2 t c = let a = c .before .before .before .before .before .before .before .before .before .args in let gs = schema (a .table .now) in let n = c .before .before .before .group-total .ensures .0 ∙ c .before .before .before .before .before .before .before .before .before .pre .1 .layout .total in
+check-group-returns-2 t c = let a = c .before .before .before .before .before .before .before .before .before .args in let gs = schema (a .table .now) in let n = c .before .before .before .group-total .ensures .0 ∙ c .before .before .before .before .before .before .before .before .before .pre .1 .0 .total in
     let g = c .before .find .ensures .0 ∙ find-whole gs _ _ n ∙ ap (find gs) (c .before .before .read-u64 .ensures) in
     refuses _ _ _ _ _ (group-unknown gs (a .allowed) (a .base) (a .bytes .now) (a .levels) (c .before .before .before .before .if1 .left) _ g (omega (arith, n, c .if2 .taken)))
 
 check-group-allows-requires : (t : ℕ) → check-group-lts.Need-allows-requires (check-group-claims t) (check-group-at t) check-group.Post
-check-group-allows-requires t c κs = (c .before .before .before .before .before .before .before .before .before .pre .1 .layout, omega (arith, c .before .before .before .group-total .ensures .0 ∙ c .before .before .before .before .before .before .before .before .before .pre .1 .layout .total, c .if2 .left))
+check-group-allows-requires t c κs = (c .before .before .before .before .before .before .before .before .before .pre .1 .0, omega (arith, c .before .before .before .group-total .ensures .0 ∙ c .before .before .before .before .before .before .before .before .before .pre .1 .0 .total, c .if2 .left))
 
 check-group-returns-3 : (t : ℕ) → check-group-lts.Need-returns-3 (check-group-claims t) (check-group-at t) check-group.Post
-check-group-returns-3 t c = let a = c .before .before .before .before .before .before .before .before .before .before .before .before .args in let gs = schema (a .table .now) in let n = c .before .before .before .before .before .before .group-total .ensures .0 ∙ c .before .before .before .before .before .before .before .before .before .before .before .before .pre .1 .layout .total in
+check-group-returns-3 t c = let a = c .before .before .before .before .before .before .before .before .before .before .before .before .args in let gs = schema (a .table .now) in let n = c .before .before .before .before .before .before .group-total .ensures .0 ∙ c .before .before .before .before .before .before .before .before .before .before .before .before .pre .1 .0 .total in
     let g = c .before .before .before .before .find .ensures .0 ∙ find-whole gs _ _ n ∙ ap (find gs) (c .before .before .before .before .before .read-u64 .ensures) in
     refuses _ _ _ _ _ (group-deep gs (a .allowed) (a .base) (a .bytes .now) (a .levels) (c .before .before .before .before .before .before .before .if1 .left) _ g (omega (arith, n, c .before .before .before .if2 .left)) (c .if4 .taken) (sym (c .before .before .allows .ensures) ∙ c .before .if3 .taken))
 
 check-group-check-body-requires : (t : ℕ) → check-group-lts.Need-check-body-requires (check-group-claims t) (check-group-at t) check-group.Post
-check-group-check-body-requires t c κs = (search needs, (c .before .before .before .before .before .before .before .before .before .before .before .before .before .pre .1, c .before .before .before .before .before .before .before .before .if1 .left, omega (arith, c .before .before .before .before .before .before .before .group-total .ensures .0 ∙ c .before .before .before .before .before .before .before .before .before .before .before .before .before .pre .1 .layout .total, c .before .before .before .before .if2 .left)))
+check-group-check-body-requires t c κs = (search needs, (c .before .before .before .before .before .before .before .before .before .before .before .before .before .pre .1 .0, c .before .before .before .before .before .before .before .before .before .before .before .before .before .pre .1 .1, c .before .before .before .before .before .before .before .before .before .before .before .before .before .pre .1 .2, c .before .before .before .before .before .before .before .before .if1 .left, omega (arith, c .before .before .before .before .before .before .before .group-total .ensures .0 ∙ c .before .before .before .before .before .before .before .before .before .before .before .before .before .pre .1 .0 .total, c .before .before .before .before .if2 .left)))
 
 check-group-returns-4 : (t : ℕ) → check-group-lts.Need-returns-4 (check-group-claims t) (check-group-at t) check-group.Post
-check-group-returns-4 t c = let a = c .before .before .before .before .before .before .before .before .before .before .before .before .before .before .before .before .args in let gs = schema (a .table .now) in let n = c .before .before .before .before .before .before .before .before .before .before .group-total .ensures .0 ∙ c .before .before .before .before .before .before .before .before .before .before .before .before .before .before .before .before .pre .1 .layout .total in
+check-group-returns-4 t c = let a = c .before .before .before .before .before .before .before .before .before .before .before .before .before .before .before .before .args in let gs = schema (a .table .now) in let n = c .before .before .before .before .before .before .before .before .before .before .group-total .ensures .0 ∙ c .before .before .before .before .before .before .before .before .before .before .before .before .before .before .before .before .pre .1 .0 .total in
     let g = c .before .before .before .before .before .before .before .before .find .ensures .0 ∙ find-whole gs _ _ n ∙ ap (find gs) (c .before .before .before .before .before .before .before .before .before .read-u64 .ensures) in
     c .before .before .check-body .ensures ∙ ap (λ x. after (a .before) (count x)) (sym (group-body gs (a .allowed) (a .base) (a .bytes .now) (a .levels) (c .before .before .before .before .before .before .before .before .before .before .before .if1 .left) _ g (omega (arith, n, c .before .before .before .before .before .before .before .if2 .left)) (c .before .before .before .before .if4 .left) (sym (c .before .before .before .before .before .before .allows .ensures) ∙ c .before .before .before .before .before .if3 .taken)))
 
 check-group-returns-5 : (t : ℕ) → check-group-lts.Need-returns-5 (check-group-claims t) (check-group-at t) check-group.Post
-check-group-returns-5 t c = let a = c .before .before .before .before .before .before .before .before .before .before .before .args in let gs = schema (a .table .now) in let n = c .before .before .before .before .before .group-total .ensures .0 ∙ c .before .before .before .before .before .before .before .before .before .before .before .pre .1 .layout .total in
+check-group-returns-5 t c = let a = c .before .before .before .before .before .before .before .before .before .before .before .args in let gs = schema (a .table .now) in let n = c .before .before .before .before .before .group-total .ensures .0 ∙ c .before .before .before .before .before .before .before .before .before .before .before .pre .1 .0 .total in
     let g = c .before .before .before .find .ensures .0 ∙ find-whole gs _ _ n ∙ ap (find gs) (c .before .before .before .before .read-u64 .ensures) in
     refuses _ _ _ _ _ (group-other gs (a .allowed) (a .base) (a .bytes .now) (a .levels) (c .before .before .before .before .before .before .if1 .left) _ g (omega (arith, n, c .before .before .if2 .left)) (sym (c .before .allows .ensures) ∙ c .if3 .left))
 
 abbrev check-groups-Inv-loop : check-groups-lts.InvT-loop
-check-groups-Inv-loop table index bytes marks₀ frame total at before i₀ place₀ sum₀ marks i place sum =
+check-groups-Inv-loop table index bytes marks₀ frame total at before i₀ place₀ sum₀ holds₀ marks i place sum holds =
     (i ≤ total) × (length marks ≡ length marks₀) × (place + (total - i) * 4 ≤ length bytes) × (sum < 2 ^ 64)
-    × (after before (count (itemsR 4 (indirectR 26 1 (extendingR (schema table) (innerOf table (frame .levels)))) total (within bytes frame) at marks₀)) ≡ after sum (count (itemsR 4 (indirectR 26 1 (extendingR (schema table) (innerOf table (frame .levels)))) (total - i) (within bytes frame) place marks)))
+    × (after before (count (itemsR 4 (indirectR 26 1 (extendingR (schema table) (innerOf table (frame .levels)))) total (within bytes frame) at (marksOf (frame .area) holds₀ marks₀))) ≡ after sum (count (itemsR 4 (indirectR 26 1 (extendingR (schema table) (innerOf table (frame .levels)))) (total - i) (within bytes frame) place (marksOf (frame .area) holds marks))))
 
 abbrev check-groups-μ-loop : check-groups-lts.MeasureT-loop
-check-groups-μ-loop table index bytes marks₀ frame total at before i₀ place₀ sum₀ marks i place sum =
+check-groups-μ-loop table index bytes marks₀ frame total at before i₀ place₀ sum₀ holds₀ marks i place sum holds =
     total - i
 
 abbrev check-groups-claims : ℕ → check-groups-lts.Claims
@@ -590,20 +590,20 @@ check-groups-check-extending-requires t c κs = let a = c .before .before .befor
 
 check-groups-returns : (t : ℕ) → check-groups-lts.Need-returns (check-groups-claims t) (check-groups-at t) check-groups.Post check-groups-Inv-loop check-groups-μ-loop
 check-groups-returns t c = let a = c .before .before .before .before .before .before .before .before .before .before .before .before .before .args in
-    items-stopped 4 _ (within (a .bytes .now) (a .frame)) (a .total) (c .before .before .before .before .before .before .before .before .loop .i) (c .before .before .before .before .before .before .before .before .loop .place) (c .before .before .before .before .before .before .before .before .loop .length) (c .before .before .before .before .before .before .before .before .loop .marks) _ _ (c .before .before .before .before .before .check-extending .ensures) (c .before .before .before .before .before .before .before .loop-test .taken) _ _ _ (c .before .group2 .given .1) ∙ sym (c .before .before .before .before .before .before .before .before .loop .inv .4)
+    items-stopped 4 _ (within (a .bytes .now) (a .frame)) (a .total) (c .before .before .before .before .before .before .before .before .loop .i) (c .before .before .before .before .before .before .before .before .loop .place) (c .before .before .before .before .before .before .before .before .loop .length) (marksOf (a .frame .area) (c .before .before .before .before .before .before .before .before .loop .holds) (c .before .before .before .before .before .before .before .before .loop .marks)) _ _ (c .before .before .before .before .before .check-extending .ensures) (c .before .before .before .before .before .before .before .loop-test .taken) _ _ _ (c .before .group2 .given .1) ∙ sym (c .before .before .before .before .before .before .before .before .loop .inv .4)
 
 check-groups-loop-again : (t : ℕ) → check-groups-lts.Need-loop-again (check-groups-claims t) (check-groups-at t) check-groups.Post check-groups-Inv-loop check-groups-μ-loop
 check-groups-loop-again t c = let a = c .before .before .before .before .before .before .before .before .before .before .before .before .before .args in let i = c .before .before .before .before .before .before .before .before .loop .inv in let w = items-left (a .total) (c .before .before .before .before .before .before .before .before .loop .i) 4 (c .before .before .before .before .before .before .before .loop-test .taken) in (
   search needs,
   search needs,
   omega (arith, i .2, w),
-  bounded _ _ _ _ (c .before .before .before .before .before .check-extending .ensures) _ (c .before .group .given .1),
-  i .4 ∙ items-passed 4 _ (within (a .bytes .now) (a .frame)) (a .total) (c .before .before .before .before .before .before .before .before .loop .i) (c .before .before .before .before .before .before .before .before .loop .place) (c .before .before .before .before .before .before .before .before .loop .length) (c .before .before .before .before .before .before .before .before .loop .marks) _ _ (c .before .before .before .before .before .check-extending .ensures) (c .before .before .before .before .before .before .before .loop-test .taken) _ (c .before .group .given .1),
+  bounded _ _ _ _ (c .before .before .before .before .before .check-extending .ensures) _ _ (c .before .group .given .1),
+  i .4 ∙ items-passed 4 _ (within (a .bytes .now) (a .frame)) (a .total) (c .before .before .before .before .before .before .before .before .loop .i) (c .before .before .before .before .before .before .before .before .loop .place) (c .before .before .before .before .before .before .before .before .loop .length) (marksOf (a .frame .area) (c .before .before .before .before .before .before .before .before .loop .holds) (c .before .before .before .before .before .before .before .before .loop .marks)) _ _ (c .before .before .before .before .before .check-extending .ensures) (c .before .before .before .before .before .before .before .loop-test .taken) _ _ (c .before .group .given .1),
 )
 
 check-groups-returns-2 : (t : ℕ) → check-groups-lts.Need-returns-2 (check-groups-claims t) (check-groups-at t) check-groups.Post check-groups-Inv-loop check-groups-μ-loop
 check-groups-returns-2 t c = let a = c .before .before .before .before .before .before .args in
-    items-end 4 _ (within (a .bytes .now) (a .frame)) (a .total) (c .before .loop .i) (c .before .loop .place) (c .before .loop .length) (c .before .loop .marks) (c .loop-test .left) (c .before .loop .inv .3) ∙ sym (c .before .loop .inv .4)
+    items-end 4 _ (within (a .bytes .now) (a .frame)) (a .total) (c .before .loop .i) (c .before .loop .place) (c .before .loop .length) (marksOf (a .frame .area) (c .before .loop .holds) (c .before .loop .marks)) _ _ refl (c .loop-test .left) (c .before .loop .inv .3) ∙ sym (c .before .loop .inv .4)
 
 abbrev check-item-claims : ℕ → check-item-lts.Claims
 check-item-claims t = (wide-reads.Asked, wide-reads.Learnt, longer-reads.Asked, longer-reads.Learnt, check-number-reads.Asked, check-number-reads.Learnt, check-inline-reads.Asked, check-inline-reads.Learnt, check-text-reads.Asked, check-text-reads.Learnt, check-fields-below t, check-fields.Post, check-dynamic-below t, check-dynamic.Post)
@@ -620,7 +620,7 @@ check-item-check-inline-requires t c κs = let a = c .before .before .before .be
 
 check-item-check-text-requires : (t : ℕ) → check-item-lts.Need-check-text-requires (check-item-claims t) (check-item-at t) check-item.Post
 check-item-check-text-requires t c κs = let a = c .before .before .before .before .before .before .before .before .args in let t = a .table .now in
-    let w = wide-indirect (widthOf t (a .depth)) (enums t) (a .kind) _ (c .before .before .kind4 .given .1) in (c .before .before .before .before .before .before .before .before .pre .1 .0 .same, c .before .before .before .before .before .before .before .before .pre .1 .0 .small, omega (arith, w, c .before .before .before .before .before .before .before .before .pre .1 .1))
+    let w = wide-indirect (widthOf t (a .depth)) (enums t) (a .kind) _ (c .before .before .kind4 .given .1) in (c .before .before .before .before .before .before .before .before .pre .1 .0 .same, c .before .before .before .before .before .before .before .before .pre .1 .0 .small, c .before .before .before .before .before .before .before .before .pre .1 .0 .room, omega (arith, w, c .before .before .before .before .before .before .before .before .pre .1 .1))
 
 check-item-check-fields-requires : (t : ℕ) → check-item-lts.Need-check-fields-requires (check-item-claims t) (check-item-at t) check-item.Post
 check-item-check-fields-requires t c κs = let a = c .before .before .before .before .before .before .before .before .before .args in let t = a .table .now in let sw = widthOf t (a .depth) in
@@ -633,36 +633,36 @@ check-item-check-dynamic-requires t c κs = let a = c .before .before .before .b
     let w = wide-dynamic (widthOf t (a .depth)) (enums t) (a .kind) _ (c .before .before .before .kind6 .given .1) in (search needs, (c .before .before .before .before .before .before .before .before .before .pre .1 .0, omega (arith, w, c .before .before .before .before .before .before .before .before .before .pre .1 .1)))
 
 check-item-returns : (t : ℕ) → check-item-lts.Need-returns (check-item-claims t) (check-item-at t) check-item.Post
-check-item-returns t c = let a = c .before .before .before .before .before .before .before .before .before .args in let t = a .table .now in
-    counts _ _ _ _ _ (item-plain (innerOf t (a .frame .levels)) (staticOf t (a .frame .levels) (a .depth)) (a .bytes .now) (a .frame .base) (a .frame .area) (a .marks .now) (enums t) (a .kind) (a .at) (widthOf t (a .depth)) _ (c .before .before .before .kind .given .1) (c .before .before .before .before .before .before .before .before .before .pre .1 .1)) (c .longer .ensures ∙ rw (c .before .wide .ensures .0))
+check-item-returns t c = let a = c .before .before .before .before .before .before .before .before .before .args in let t = a .table .now in let I = innerOf t (a .frame .levels) in let S = staticOf t (a .frame .levels) (a .depth) in
+    counts _ _ _ _ _ _ (item-plain I S (a .bytes .now) (a .frame .base) (a .frame .area) (marksOf (a .frame .area) (a .taken) (a .marks .now)) (enums t) (a .kind) (a .at) (widthOf t (a .depth)) _ (c .before .before .before .kind .given .1) (c .before .before .before .before .before .before .before .before .before .pre .1 .1)) (c .longer .ensures ∙ rw (c .before .wide .ensures .0))
 
 check-item-returns-2 : (t : ℕ) → check-item-lts.Need-returns-2 (check-item-claims t) (check-item-at t) check-item.Post
 check-item-returns-2 t c = let a = c .before .before .before .before .before .before .before .before .args in let t = a .table .now in let I = innerOf t (a .frame .levels) in let S = staticOf t (a .frame .levels) (a .depth) in
-    c .check-number .ensures I S (a .frame .area) _ ∙ ap (λ x. after (a .before) (count x)) (sym (item-number I S (a .bytes .now) (a .frame .base) (a .frame .area) (a .marks .now) (enums t) (a .kind) (a .at) _ (c .before .before .kind2 .given .1)))
+    c .check-number .ensures I S (a .frame .area) (λ s. marksOf (a .frame .area) s (a .marks .now)) ∙ ap (λ x. after (a .before) (count x)) (sym (item-number I S (a .bytes .now) (a .frame .base) (a .frame .area) (marksOf (a .frame .area) (a .taken) (a .marks .now)) (enums t) (a .kind) (a .at) _ (c .before .before .kind2 .given .1)))
 
 check-item-returns-3 : (t : ℕ) → check-item-lts.Need-returns-3 (check-item-claims t) (check-item-at t) check-item.Post
 check-item-returns-3 t c = let a = c .before .before .before .before .before .before .before .before .args in let t = a .table .now in let I = innerOf t (a .frame .levels) in let S = staticOf t (a .frame .levels) (a .depth) in
-    c .check-inline .ensures I S (a .frame .area) _ ∙ ap (λ x. after (a .before) (count x)) (sym (item-inline I S (a .bytes .now) (a .frame .base) (a .frame .area) (a .marks .now) (enums t) (a .kind) (a .at) _ _ (c .before .before .kind3 .given .1)))
+    c .check-inline .ensures I S (a .frame .area) (λ s. marksOf (a .frame .area) s (a .marks .now)) ∙ ap (λ x. after (a .before) (count x)) (sym (item-inline I S (a .bytes .now) (a .frame .base) (a .frame .area) (marksOf (a .frame .area) (a .taken) (a .marks .now)) (enums t) (a .kind) (a .at) _ _ (c .before .before .kind3 .given .1)))
 
 check-item-returns-4 : (t : ℕ) → check-item-lts.Need-returns-4 (check-item-claims t) (check-item-at t) check-item.Post
 check-item-returns-4 t c = let a = c .before .before .before .before .before .before .before .before .before .before .before .args in let t = a .table .now in let I = innerOf t (a .frame .levels) in let S = staticOf t (a .frame .levels) (a .depth) in
-    c .before .before .check-text .ensures ∙ ap (λ x. after (a .before) (count x)) (sym (item-indirect I S (a .bytes .now) (a .frame .base) (a .frame .area) (a .marks .now) (enums t) (a .kind) (a .at) _ (c .before .before .before .before .before .kind4 .given .1)))
+    c .before .before .check-text .ensures ∙ ap (λ x. after (a .before) (count x)) (sym (item-indirect I S (a .bytes .now) (a .frame .base) (a .frame .area) (marksOf (a .frame .area) (a .taken) (a .marks .now)) (enums t) (a .kind) (a .at) _ (c .before .before .before .before .before .kind4 .given .1)))
 
 check-item-returns-5 : (t : ℕ) → check-item-lts.Need-returns-5 (check-item-claims t) (check-item-at t) check-item.Post
 check-item-returns-5 t c = let a = c .before .before .before .before .before .before .before .before .before .before .before .before .args in let t = a .table .now in let I = innerOf t (a .frame .levels) in let S = staticOf t (a .frame .levels) (a .depth) in
-    c .before .before .check-fields .ensures ∙ sym (goes-on (a .before) 2 _ _ _ (item-static I S (a .bytes .now) (a .frame .base) (a .frame .area) (a .marks .now) (enums t) (a .kind) (a .at) _ (c .before .before .before .before .before .before .kind5 .given .1)) (c .before .before .before .longer2 .ensures))
+    c .before .before .check-fields .ensures ∙ sym (goes-on (a .before) 2 _ _ _ (item-static I S (a .bytes .now) (a .frame .base) (a .frame .area) (marksOf (a .frame .area) (a .taken) (a .marks .now)) (enums t) (a .kind) (a .at) _ (c .before .before .before .before .before .before .kind5 .given .1)) (c .before .before .before .longer2 .ensures))
 
 check-item-returns-6 : (t : ℕ) → check-item-lts.Need-returns-6 (check-item-claims t) (check-item-at t) check-item.Post
 check-item-returns-6 t c = let a = c .before .before .before .before .before .before .before .before .before .before .before .before .args in let t = a .table .now in let I = innerOf t (a .frame .levels) in let S = staticOf t (a .frame .levels) (a .depth) in
-    c .before .before .check-dynamic .ensures ∙ sym (goes-on (a .before) 2 _ _ _ (item-dynamic I S (a .bytes .now) (a .frame .base) (a .frame .area) (a .marks .now) (enums t) (a .kind) (a .at) _ (c .before .before .before .before .before .before .kind6 .given .1)) (c .before .before .before .longer3 .ensures))
+    c .before .before .check-dynamic .ensures ∙ sym (goes-on (a .before) 2 _ _ _ (item-dynamic I S (a .bytes .now) (a .frame .base) (a .frame .area) (marksOf (a .frame .area) (a .taken) (a .marks .now)) (enums t) (a .kind) (a .at) _ (c .before .before .before .before .before .before .kind6 .given .1)) (c .before .before .before .longer3 .ensures))
 
 abbrev check-items-Inv-loop : check-items-lts.InvT-loop
-check-items-Inv-loop table index bytes marks₀ frame depth kind width total at before i₀ place₀ sum₀ marks i place sum =
+check-items-Inv-loop table index bytes marks₀ frame depth kind width total at before i₀ place₀ sum₀ holds₀ marks i place sum holds =
     (i ≤ total) × (length marks ≡ length marks₀) × (place + (total - i) * width ≤ length bytes) × (sum < 2 ^ 64)
-    × (after before (count (itemsR width (itemR (innerOf table (frame .levels)) (staticOf table (frame .levels) depth) (kindFrom (enums table) kind)) total (within bytes frame) at marks₀)) ≡ after sum (count (itemsR width (itemR (innerOf table (frame .levels)) (staticOf table (frame .levels) depth) (kindFrom (enums table) kind)) (total - i) (within bytes frame) place marks)))
+    × (after before (count (itemsR width (itemR (innerOf table (frame .levels)) (staticOf table (frame .levels) depth) (kindFrom (enums table) kind)) total (within bytes frame) at (marksOf (frame .area) holds₀ marks₀))) ≡ after sum (count (itemsR width (itemR (innerOf table (frame .levels)) (staticOf table (frame .levels) depth) (kindFrom (enums table) kind)) (total - i) (within bytes frame) place (marksOf (frame .area) holds marks))))
 
 abbrev check-items-μ-loop : check-items-lts.MeasureT-loop
-check-items-μ-loop table index bytes marks₀ frame depth kind width total at before i₀ place₀ sum₀ marks i place sum =
+check-items-μ-loop table index bytes marks₀ frame depth kind width total at before i₀ place₀ sum₀ holds₀ marks i place sum holds =
     total - i
 
 abbrev check-items-claims : ℕ → check-items-lts.Claims
@@ -672,7 +672,7 @@ check-items-mul-longer : (t : ℕ) → check-items-lts.Need-mul-longer (check-it
 check-items-mul-longer t c = omega (arith, mul-le-mul-right {m = c .before .before .before .before .before .before .before .before .args .total} {n = 4294967296} (2 + c .wide .result) (omega (arith, c .before .before .before .before .before .before .before .before .pre .1 .2)), c .wide .ensures .1)
 
 check-items-returns : (t : ℕ) → check-items-lts.Need-returns (check-items-claims t) (check-items-at t) check-items.Post check-items-Inv-loop check-items-μ-loop
-check-items-returns t c = let a = c .before .before .before .before .before .before .before .before .before .args in let t = a .table .now in counts _ _ _ _ _ (items-plain (innerOf t (a .frame .levels)) (staticOf t (a .frame .levels) (a .depth)) (a .bytes .now) (a .frame .base) (a .frame .area) (a .marks .now) (enums t) (a .kind) (widthOf t (a .depth)) _ (a .width) (a .total) (a .at) (c .before .before .before .kind .given .1) (c .before .before .before .before .before .before .before .before .before .pre .1 .4) (c .before .before .before .before .before .before .before .before .before .pre .1 .1)) (c .longer .ensures ∙ rw (c .before .wide .ensures .0))
+check-items-returns t c = let a = c .before .before .before .before .before .before .before .before .before .args in let t = a .table .now in counts _ _ _ _ _ _ (items-plain (innerOf t (a .frame .levels)) (staticOf t (a .frame .levels) (a .depth)) (a .bytes .now) (a .frame .base) (a .frame .area) (marksOf (a .frame .area) (a .taken) (a .marks .now)) (enums t) (a .kind) (widthOf t (a .depth)) _ (a .width) (a .total) (a .at) (c .before .before .before .kind .given .1) (c .before .before .before .before .before .before .before .before .before .pre .1 .4) (c .before .before .before .before .before .before .before .before .before .pre .1 .1)) (c .longer .ensures ∙ rw (c .before .wide .ensures .0))
 
 check-items-loop-holds : (t : ℕ) → check-items-lts.Need-loop-holds (check-items-claims t) (check-items-at t) check-items.Post check-items-Inv-loop check-items-μ-loop
 check-items-loop-holds t c = let a = c .before .before .before .before .before .args in (search needs, search needs, rw sub-zero (c .before .before .before .before .before .pre .1 .1), search needs, rw sub-zero refl)
@@ -683,32 +683,32 @@ check-items-check-item-requires t c κs = let a = c .before .before .before .bef
 
 check-items-returns-2 : (t : ℕ) → check-items-lts.Need-returns-2 (check-items-claims t) (check-items-at t) check-items.Post check-items-Inv-loop check-items-μ-loop
 check-items-returns-2 t c = let a = c .before .before .before .before .before .before .before .before .before .before .before .before .before .before .args in
-    items-stopped (a .width) _ (within (a .bytes .now) (a .frame)) (a .total) (c .before .before .before .before .before .before .before .before .loop .i) (c .before .before .before .before .before .before .before .before .loop .place) (c .before .before .before .before .before .before .before .before .loop .length) (c .before .before .before .before .before .before .before .before .loop .marks) _ _ (c .before .before .before .before .before .check-item .ensures) (c .before .before .before .before .before .before .before .loop-test .taken) _ _ _ (c .before .item2 .given .1) ∙ sym (c .before .before .before .before .before .before .before .before .loop .inv .4)
+    items-stopped (a .width) _ (within (a .bytes .now) (a .frame)) (a .total) (c .before .before .before .before .before .before .before .before .loop .i) (c .before .before .before .before .before .before .before .before .loop .place) (c .before .before .before .before .before .before .before .before .loop .length) (marksOf (a .frame .area) (c .before .before .before .before .before .before .before .before .loop .holds) (c .before .before .before .before .before .before .before .before .loop .marks)) _ _ (c .before .before .before .before .before .check-item .ensures) (c .before .before .before .before .before .before .before .loop-test .taken) _ _ _ (c .before .item2 .given .1) ∙ sym (c .before .before .before .before .before .before .before .before .loop .inv .4)
 
 check-items-loop-again : (t : ℕ) → check-items-lts.Need-loop-again (check-items-claims t) (check-items-at t) check-items.Post check-items-Inv-loop check-items-μ-loop
 check-items-loop-again t c = let a = c .before .before .before .before .before .before .before .before .before .before .before .before .before .before .args in let i = c .before .before .before .before .before .before .before .before .loop .inv in let w = items-left (a .total) (c .before .before .before .before .before .before .before .before .loop .i) (a .width) (c .before .before .before .before .before .before .before .loop-test .taken) in (
   search needs,
   search needs,
   omega (arith, i .2, w),
-  bounded _ _ _ _ (c .before .before .before .before .before .check-item .ensures) _ (c .before .item .given .1),
-  i .4 ∙ items-passed (a .width) _ (within (a .bytes .now) (a .frame)) (a .total) (c .before .before .before .before .before .before .before .before .loop .i) (c .before .before .before .before .before .before .before .before .loop .place) (c .before .before .before .before .before .before .before .before .loop .length) (c .before .before .before .before .before .before .before .before .loop .marks) _ _ (c .before .before .before .before .before .check-item .ensures) (c .before .before .before .before .before .before .before .loop-test .taken) _ (c .before .item .given .1),
+  bounded _ _ _ _ (c .before .before .before .before .before .check-item .ensures) _ _ (c .before .item .given .1),
+  i .4 ∙ items-passed (a .width) _ (within (a .bytes .now) (a .frame)) (a .total) (c .before .before .before .before .before .before .before .before .loop .i) (c .before .before .before .before .before .before .before .before .loop .place) (c .before .before .before .before .before .before .before .before .loop .length) (marksOf (a .frame .area) (c .before .before .before .before .before .before .before .before .loop .holds) (c .before .before .before .before .before .before .before .before .loop .marks)) _ _ (c .before .before .before .before .before .check-item .ensures) (c .before .before .before .before .before .before .before .loop-test .taken) _ _ (c .before .item .given .1),
 )
 
 check-items-returns-3 : (t : ℕ) → check-items-lts.Need-returns-3 (check-items-claims t) (check-items-at t) check-items.Post check-items-Inv-loop check-items-μ-loop
 check-items-returns-3 t c = let a = c .before .before .before .before .before .before .before .args in
-    items-end (a .width) _ (within (a .bytes .now) (a .frame)) (a .total) (c .before .loop .i) (c .before .loop .place) (c .before .loop .length) (c .before .loop .marks) (c .loop-test .left) (c .before .loop .inv .3) ∙ sym (c .before .loop .inv .4)
+    items-end (a .width) _ (within (a .bytes .now) (a .frame)) (a .total) (c .before .loop .i) (c .before .loop .place) (c .before .loop .length) (marksOf (a .frame .area) (c .before .loop .holds) (c .before .loop .marks)) _ _ refl (c .loop-test .left) (c .before .loop .inv .3) ∙ sym (c .before .loop .inv .4)
 
 abbrev check-nested-claims : ℕ → check-nested-lts.Claims
-check-nested-claims t = (check-group-below t, check-group.Post, fill-reads.Asked, fill-reads.Learnt)
+check-nested-claims t = (check-group-below t, check-group.Post, retake-reads.Asked, retake-reads.Learnt)
 
 check-nested-check-group-requires : (t : ℕ) → check-nested-lts.Need-check-group-requires (check-nested-claims t) (check-nested-at t) check-nested.Post
-check-nested-check-group-requires t c κs = let a = c .before .before .before .before .before .before .before .args in (search needs, record { layout = c .before .before .before .before .before .before .before .pre .1 .0 .layout; same = search needs; small = search needs })
+check-nested-check-group-requires t c κs = let a = c .before .before .before .before .before .before .before .args in (search needs, (c .before .before .before .before .before .before .before .pre .1 .0 .layout, search needs, search needs))
 
 check-nested-returns : (t : ℕ) → check-nested-lts.Need-returns (check-nested-claims t) (check-nested-at t) check-nested.Post
-check-nested-returns t c = let a = c .before .before .before .before .before .before .before .before .before .before .before .before .before .before .before .before .before .args in nested-passed (a .before) _ _ _ (a .marks .now) _ (rw add-sub-cancel-left at (c .before .before .before .before .before .before .before .before .before .check-group .ensures)) (c .before .before .before .before .before .group .given .1) (marks-again (a .marks .now) _ (c .before .before .before .before .before .before .before .before .before .check-group .last .1 .1 .1 .0) (a .start) (a .size) (rw add-sub-cancel-left at (c .before .before .fill .ensures)) (c .before .before .before .before .before .before .before .before .before .before .before .before .before .before .before .before .before .pre .1 .2) (search needs) (search needs))
+check-nested-returns t c = let a = c .before .before .before .before .before .before .before .before .before .before .before .before .before .before .before .before .before .args in nested-passed _ (a .before) _ _ _ _ (a .taken) (marksOf (a .frame .area) (a .taken) (a .marks .now)) (rw add-sub-cancel-left at (c .before .before .before .before .before .before .before .before .before .check-group .ensures)) (c .before .before .before .before .before .group .given .1) (retaken (a .frame .area) (a .taken) (a .marks .now) _ _ (c .before .before .before .before .before .before .before .before .before .check-group .last .1 .1 .1 .0) (a .start) (a .size) (omega (arith, c .before .before .before .before .before .before .before .before .before .before .before .before .before .before .before .before .before .pre .1 .0 .room, c .before .before .before .before .before .before .before .before .before .before .before .before .before .before .before .before .before .pre .1 .0 .same)) (search needs) (search needs) refl (rw add-sub-cancel-left at (c .before .before .retake .ensures)) (c .before .before .before .before .before .before .before .before .before .before .before .before .before .before .before .before .before .pre .1 .2))
 
 check-nested-returns-2 : (t : ℕ) → check-nested-lts.Need-returns-2 (check-nested-claims t) (check-nested-at t) check-nested.Post
-check-nested-returns-2 t c = let a = c .before .before .before .before .before .before .before .before .before .before .before .before .before .args in stopped (a .before) _ _ [] (rw add-sub-cancel-left at (c .before .before .before .before .before .check-group .ensures)) _ _ (λ _. counted 0 (a .marks .now)) _ (c .before .group2 .given .1)
+check-nested-returns-2 t c = let a = c .before .before .before .before .before .before .before .before .before .before .before .before .before .args in stopped (λ _. []) (a .before) _ _ (rw add-sub-cancel-left at (c .before .before .before .before .before .check-group .ensures)) _ _ _ (λ _. counted 0 (marksOf (a .frame .area) (a .taken) (a .marks .now))) (c .before .group2 .given .1)
 
 abbrev check-value-claims : ℕ → check-value-lts.Claims
 check-value-claims t = (kind-at-reads.Asked, kind-at-reads.Learnt, is-sequence-reads.Asked, is-sequence-reads.Learnt, kind-width-reads.Asked, kind-width-reads.Learnt, locate-reads.Asked, locate-reads.Learnt, longer-reads.Asked, longer-reads.Learnt, check-items-below t, check-items.Post, check-item-below t, check-item.Post)
@@ -716,26 +716,26 @@ check-value-claims t = (kind-at-reads.Asked, kind-at-reads.Learnt, is-sequence-r
 check-value-locate-requires : (t : ℕ) → check-value-lts.Need-locate-requires (check-value-claims t) (check-value-at t) check-value.Post
 check-value-locate-requires t c κs = let a = c .before .before .before .before .before .before .before .before .before .args in let t = a .table .now in
     let w = width-sequence (widthOf t (a .depth)) (fieldAt (enums t) (drop (a .field) t)) (sym (c .before .before .before .is-sequence .ensures (enums t)) ∙ c .before .before .if1 .taken) in
-    (c .before .before .before .before .before .before .before .before .before .pre .1 .0 .same, c .before .before .before .before .before .before .before .before .before .pre .1 .0 .small, omega (arith, w, c .before .before .before .before .before .before .before .before .before .pre .1 .2), c .before .kind-width .ensures .1)
+    (c .before .before .before .before .before .before .before .before .before .pre .1 .0 .same, c .before .before .before .before .before .before .before .before .before .pre .1 .0 .small, c .before .before .before .before .before .before .before .before .before .pre .1 .0 .room, omega (arith, w, c .before .before .before .before .before .before .before .before .before .pre .1 .2), c .before .kind-width .ensures .1)
 
 check-value-add-check-items : (t : ℕ) → check-value-lts.Need-add-check-items (check-value-claims t) (check-value-at t) check-value.Post
-check-value-add-check-items t c = omega (arith, lands-inside (c .before .before .before .before .before .before .before .before .kind-width .result) _ _ (c .before .before .before .before .before .before .before .before .before .before .before .before .before .before .before .before .args .bytes .now) _ [] _ (c .before .before .found .given .1) (c .before .before .before .before .before .before .locate .ensures .1))
+check-value-add-check-items t c = omega (arith, c .before .before .before .before .before .before .locate .ensures .1 .inside _ _ _ (c .before .before .found .given .1))
 
 check-value-check-items-requires : (t : ℕ) → check-value-lts.Need-check-items-requires (check-value-claims t) (check-value-at t) check-value.Post
-check-value-check-items-requires t c κs = let a = c .before .before .before .before .before .before .before .before .before .before .before .before .before .before .before .before .before .args in let t = a .table .now in let q = lands-inside (c .before .before .before .before .before .before .before .before .before .kind-width .result) _ _ (a .bytes .now) _ [] _ (c .before .before .before .found .given .1) (c .before .before .before .before .before .before .before .locate .ensures .1) in
+check-value-check-items-requires t c κs = let a = c .before .before .before .before .before .before .before .before .before .before .before .before .before .before .before .before .before .args in let t = a .table .now in let q = c .before .before .before .before .before .before .before .locate .ensures .1 .inside _ _ _ (c .before .before .before .found .given .1) in
     let k = c .before .before .before .before .before .before .before .before .before .before .before .before .kind-at .ensures (enums t) in
     let d = rw (sym k) at (c .before .before .before .before .before .before .before .before .before .before .before .before .before .before .before .before .before .pre .1 .3) in
-    (search needs, (ready _ _ _ _ _ _ (c .before .before .before .before .before .before .before .before .before .before .before .before .before .before .before .before .before .pre .1 .0) (search needs), omega (arith, q), lands-count (c .before .before .before .before .before .before .before .before .before .kind-width .result) _ _ (a .bytes .now) _ [] _ (c .before .before .before .found .given .1) (c .before .before .before .before .before .before .before .locate .ensures .1), c .before .before .before .before .before .before .before .before .before .kind-width .ensures .1, c .before .before .before .before .before .before .before .before .before .kind-width .ensures .0 (enums t) ∙ wide-kind t (a .index .now) (c .before .before .before .before .before .before .before .before .before .before .before .before .before .before .before .before .before .pre .1 .0 .layout) (a .depth) _ d, d))
+    (search needs, (ready _ _ _ _ _ _ (c .before .before .before .before .before .before .before .before .before .before .before .before .before .before .before .before .before .pre .1 .0) (omega (arith, c .before .before .before .before .before .before .before .locate .kept, c .before .before .before .before .before .before .before .before .before .before .before .before .before .before .before .before .before .pre .1 .0 .same)), omega (arith, q), c .before .before .before .before .before .before .before .locate .ensures .1 .four _ _ _ (c .before .before .before .found .given .1), c .before .before .before .before .before .before .before .before .before .kind-width .ensures .1, c .before .before .before .before .before .before .before .before .before .kind-width .ensures .0 (enums t) ∙ wide-kind t (a .index .now) (c .before .before .before .before .before .before .before .before .before .before .before .before .before .before .before .before .before .pre .1 .0 .layout) (a .depth) _ d, d))
 
 check-value-returns : (t : ℕ) → check-value-lts.Need-returns (check-value-claims t) (check-value-at t) check-value.Post
 check-value-returns t c = let a = c .before .before .before .before .before .before .before .before .before .before .before .before .before .before .before .before .before .before .before .before .args in let t = a .table .now in
     let d = rw (sym (c .before .before .before .before .before .before .before .before .before .before .before .before .before .before .before .kind-at .ensures (enums t))) at (c .before .before .before .before .before .before .before .before .before .before .before .before .before .before .before .before .before .before .before .before .pre .1 .3) in
-    c .before .before .check-items .ensures ∙ sym (goes-on (a .before) 6 _ _ _ (sequence-found (innerOf t (a .frame .levels)) (widthOf t (a .depth)) (staticOf t (a .frame .levels) (a .depth)) (fieldAt (enums t) (drop (a .field) t)) (within (a .bytes .now) (a .frame)) (a .at) (a .marks .now) _ (c .before .before .before .before .before .before .before .before .before .before .before .before .before .before .before .kind-at .ensures (enums t)) (sym (c .before .before .before .before .before .before .before .before .before .before .before .before .before .before .is-sequence .ensures (enums t)) ∙ c .before .before .before .before .before .before .before .before .before .before .before .before .before .if1 .taken) (c .before .before .before .before .before .before .before .before .before .before .before .before .kind-width .result) (c .before .before .before .before .before .before .before .before .before .before .before .before .kind-width .ensures .0 (enums t) ∙ wide-kind t (a .index .now) (c .before .before .before .before .before .before .before .before .before .before .before .before .before .before .before .before .before .before .before .before .pre .1 .0 .layout) (a .depth) _ d) _ _ (c .before .before .before .before .before .before .before .before .before .before .locate .ensures .0) _ _ (c .before .before .before .before .before .before .found .given .1) (omega (arith, lands-inside (c .before .before .before .before .before .before .before .before .before .before .before .before .kind-width .result) _ _ (a .bytes .now) _ [] _ (c .before .before .before .before .before .before .found .given .1) (c .before .before .before .before .before .before .before .before .before .before .locate .ensures .1)))) (c .before .before .before .longer .ensures))
+    c .before .before .check-items .ensures ∙ sym (goes-on (a .before) 6 _ _ _ (sequence-found (innerOf t (a .frame .levels)) (widthOf t (a .depth)) (staticOf t (a .frame .levels) (a .depth)) (fieldAt (enums t) (drop (a .field) t)) (within (a .bytes .now) (a .frame)) (a .at) (marksOf (a .frame .area) (a .taken) (a .marks .now)) _ (c .before .before .before .before .before .before .before .before .before .before .before .before .before .before .before .kind-at .ensures (enums t)) (sym (c .before .before .before .before .before .before .before .before .before .before .before .before .before .before .is-sequence .ensures (enums t)) ∙ c .before .before .before .before .before .before .before .before .before .before .before .before .before .if1 .taken) (c .before .before .before .before .before .before .before .before .before .before .before .before .kind-width .result) (c .before .before .before .before .before .before .before .before .before .before .before .before .kind-width .ensures .0 (enums t) ∙ wide-kind t (a .index .now) (c .before .before .before .before .before .before .before .before .before .before .before .before .before .before .before .before .before .before .before .before .pre .1 .0 .layout) (a .depth) _ d) _ _ (c .before .before .before .before .before .before .before .before .before .before .locate .ensures .0) _ _ _ (c .before .before .before .before .before .before .found .given .1) (omega (arith, c .before .before .before .before .before .before .before .before .before .before .locate .ensures .1 .inside _ _ _ (c .before .before .before .before .before .before .found .given .1)))) (c .before .before .before .longer .ensures))
 
 check-value-returns-2 : (t : ℕ) → check-value-lts.Need-returns-2 (check-value-claims t) (check-value-at t) check-value.Post
 check-value-returns-2 t c = let a = c .before .before .before .before .before .before .before .before .before .before .before .before .before .before .before .args in let t = a .table .now in
     let d = rw (sym (c .before .before .before .before .before .before .before .before .before .before .kind-at .ensures (enums t))) at (c .before .before .before .before .before .before .before .before .before .before .before .before .before .before .before .pre .1 .3) in
-    refuses _ _ _ _ _ (sequence-nowhere (innerOf t (a .frame .levels)) (widthOf t (a .depth)) (staticOf t (a .frame .levels) (a .depth)) (fieldAt (enums t) (drop (a .field) t)) (within (a .bytes .now) (a .frame)) (a .at) (a .marks .now) _ (c .before .before .before .before .before .before .before .before .before .before .kind-at .ensures (enums t)) (sym (c .before .before .before .before .before .before .before .before .before .is-sequence .ensures (enums t)) ∙ c .before .before .before .before .before .before .before .before .if1 .taken) (c .before .before .before .before .before .before .before .kind-width .result) (c .before .before .before .before .before .before .before .kind-width .ensures .0 (enums t) ∙ wide-kind t (a .index .now) (c .before .before .before .before .before .before .before .before .before .before .before .before .before .before .before .pre .1 .0 .layout) (a .depth) _ d) _ _ (c .before .before .before .before .before .locate .ensures .0) _ _ (c .before .found2 .given .1))
+    refuses _ _ _ _ _ (sequence-nowhere (innerOf t (a .frame .levels)) (widthOf t (a .depth)) (staticOf t (a .frame .levels) (a .depth)) (fieldAt (enums t) (drop (a .field) t)) (within (a .bytes .now) (a .frame)) (a .at) (marksOf (a .frame .area) (a .taken) (a .marks .now)) _ (c .before .before .before .before .before .before .before .before .before .before .kind-at .ensures (enums t)) (sym (c .before .before .before .before .before .before .before .before .before .is-sequence .ensures (enums t)) ∙ c .before .before .before .before .before .before .before .before .if1 .taken) (c .before .before .before .before .before .before .before .kind-width .result) (c .before .before .before .before .before .before .before .kind-width .ensures .0 (enums t) ∙ wide-kind t (a .index .now) (c .before .before .before .before .before .before .before .before .before .before .before .before .before .before .before .pre .1 .0 .layout) (a .depth) _ d) _ _ (c .before .before .before .before .before .locate .ensures .0) _ _ (c .before .found2 .given .1))
 
 check-value-check-item-requires : (t : ℕ) → check-value-lts.Need-check-item-requires (check-value-claims t) (check-value-at t) check-value.Post
 check-value-check-item-requires t c κs = let a = c .before .before .before .before .before .before .before .before .args in let t = a .table .now in
@@ -745,7 +745,7 @@ check-value-check-item-requires t c κs = let a = c .before .before .before .bef
 
 check-value-returns-3 : (t : ℕ) → check-value-lts.Need-returns-3 (check-value-claims t) (check-value-at t) check-value.Post
 check-value-returns-3 t c = let a = c .before .before .before .before .before .before .before .before .before .before .before .args in let t = a .table .now in
-    c .before .before .check-item .ensures ∙ ap (λ x. after (a .before) (count x)) (sym (value-one (innerOf t (a .frame .levels)) (widthOf t (a .depth)) (staticOf t (a .frame .levels) (a .depth)) (fieldAt (enums t) (drop (a .field) t)) (within (a .bytes .now) (a .frame)) (a .at) (a .marks .now) _ (c .before .before .before .before .before .before .kind-at .ensures (enums t)) (sym (c .before .before .before .before .before .is-sequence .ensures (enums t)) ∙ c .before .before .before .before .if1 .left)))
+    c .before .before .check-item .ensures ∙ ap (λ x. after (a .before) (count x)) (sym (value-one (innerOf t (a .frame .levels)) (widthOf t (a .depth)) (staticOf t (a .frame .levels) (a .depth)) (fieldAt (enums t) (drop (a .field) t)) (within (a .bytes .now) (a .frame)) (a .at) (marksOf (a .frame .area) (a .taken) (a .marks .now)) _ (c .before .before .before .before .before .before .kind-at .ensures (enums t)) (sym (c .before .before .before .before .before .is-sequence .ensures (enums t)) ∙ c .before .before .before .before .if1 .left)))
 
 pub +check-body+check-contents+check-dynamic+check-extending+check-extension+check-field+check-fields+check-group+check-groups+check-item+check-items+check-nested+check-value-spec :
     {M : Type 1} → statement M
@@ -764,15 +764,15 @@ pub +check-body+check-contents+check-dynamic+check-extending+check-extension+che
     μ-check-items
     μ-check-nested
     μ-check-value (λ t. check-body-lts.spec (check-body-claims t) (check-body-at t)
-    check-body.Post (λ c κs. search needs) (λ c. search needs) (check-body-returns t) (λ c κs. search needs) (λ c. search needs) (check-body-returns-2 t) (λ c κs. search needs) (λ c κs. search needs) (check-body-check-contents-requires t) (λ c. search needs) (λ c κs. search needs) (λ c κs. search needs) (λ c. search needs) (check-body-returns-3 t) (λ c. search needs) (λ c κs. search needs) (check-body-add-t33 t) (λ c. search needs) (λ c. search needs) (check-body-returns-4 t) (λ c. search needs) (check-body-returns-5 t)) (λ t. check-contents-lts.spec (check-contents-claims t) (check-contents-at t)
+    check-body.Post (λ c κs. search needs) (λ c. search needs) (check-body-returns t) (λ c κs. search needs) (λ c. search needs) (check-body-returns-2 t) (λ c κs. search needs) (check-body-check-contents-requires t) (λ c. search needs) (λ c κs. search needs) (λ c κs. search needs) (λ c. search needs) (check-body-returns-3 t) (λ c. search needs) (λ c κs. search needs) (check-body-add-t32 t) (λ c. search needs) (λ c. search needs) (check-body-returns-4 t) (λ c. search needs) (check-body-returns-5 t)) (λ t. check-contents-lts.spec (check-contents-claims t) (check-contents-at t)
     check-contents.Post (check-contents-check-fields-requires t) (λ c. search needs) (check-contents-check-extension-requires t) (λ c. search needs) (λ c. search needs) (check-contents-returns t) (λ c. search needs) (check-contents-returns-2 t)) (λ t. check-dynamic-lts.spec (check-dynamic-claims t) (check-dynamic-at t)
     check-dynamic.Post (λ c κs. search needs) (λ c. search needs) (check-dynamic-add-check-nested t) (check-dynamic-check-nested-requires t) (λ c. search needs) (λ c. search needs) (check-dynamic-returns t) (λ c. search needs) (check-dynamic-returns-2 t)) (λ t. check-extending-lts.spec (check-extending-claims t) (check-extending-at t)
-    check-extending.Post (λ c κs. search needs) (λ c. search needs) (check-extending-add-t17 t) (λ c. search needs) (check-extending-returns t) (check-extending-add-read-u64 t) (check-extending-read-u64-requires t) (λ c κs. search needs) (check-extending-add-check-nested t) (λ c κs. search needs) (check-extending-check-nested-requires t) (λ c. search needs) (check-extending-returns-2 t) (check-extending-add-longer t) (λ c κs. search needs) (λ c. search needs) (λ c. search needs) (check-extending-returns-3 t) (λ c. search needs) (check-extending-returns-4 t)) (λ t. check-extension-lts.spec (check-extension-claims t) (check-extension-at t)
+    check-extending.Post (λ c κs. search needs) (λ c. search needs) (check-extending-add-t19 t) (λ c. search needs) (check-extending-returns t) (check-extending-add-read-u64 t) (check-extending-read-u64-requires t) (λ c κs. search needs) (check-extending-add-check-nested t) (λ c κs. search needs) (check-extending-check-nested-requires t) (λ c. search needs) (check-extending-returns-2 t) (check-extending-add-longer t) (λ c κs. search needs) (λ c. search needs) (λ c. search needs) (check-extending-returns-3 t) (λ c. search needs) (check-extending-returns-4 t)) (λ t. check-extension-lts.spec (check-extension-claims t) (check-extension-at t)
     check-extension.Post (λ c κs. search needs) (check-extension-returns t) (λ c κs. search needs) (λ c. search needs) (λ c. search needs) (check-extension-returns-2 t) (check-extension-add-check-groups t) (λ c κs. search needs) (check-extension-check-groups-requires t) (λ c. search needs) (λ c. search needs) (check-extension-returns-3 t) (λ c. search needs) (check-extension-returns-4 t)) (λ t. check-field-lts.spec (check-field-claims t) (check-field-at t)
-    check-field.Post (λ c κs. search needs) (λ c κs. search needs) (check-field-shared-slice-read-if2 t) (check-field-check-absent-requires t) (check-field-returns t) (λ c. search needs) (check-field-check-value-requires t) (λ c. search needs) (check-field-returns-2 t) (check-field-check-value-requires-2 t) (λ c. search needs) (check-field-returns-3 t)) (λ t. check-fields-lts.spec (check-fields-claims t) (check-fields-at t)
+    check-field.Post (λ c κs. search needs) (check-field-shared-slice-read-if2 t) (λ c κs. search needs) (check-field-check-absent-requires t) (check-field-returns t) (λ c. search needs) (check-field-check-value-requires t) (λ c. search needs) (check-field-returns-2 t) (check-field-check-value-requires-2 t) (λ c. search needs) (check-field-returns-3 t)) (λ t. check-fields-lts.spec (check-fields-claims t) (check-fields-at t)
     check-fields.Post
     check-fields-Inv-loop
-    check-fields-μ-loop (λ c κs. search needs) (check-fields-field-count-requires t) (check-fields-sub-deeper t) (λ c. search needs) (check-fields-loop-holds t) (λ c κs. search needs) (λ c. search needs) (λ c κs. search needs) (λ c. search needs) (λ c. search needs) (λ c. search needs) (λ c. search needs) (check-fields-loop-again t) (λ c κs. search needs) (check-fields-check-field-requires t) (λ c. search needs) (λ c. search needs) (λ c. search needs) (check-fields-returns t) (λ c. search needs) (λ c. search needs) (λ c. search needs) (λ c. search needs) (check-fields-loop-again-2 t) (λ c. search needs) (check-fields-returns-2 t)) (λ t. check-group-lts.spec (check-group-claims t) (check-group-at t)
+    check-fields-μ-loop (λ c κs. search needs) (check-fields-field-count-requires t) (check-fields-sub-deeper t) (λ c. search needs) (check-fields-loop-holds t) (λ c κs. search needs) (λ c. search needs) (λ c κs. search needs) (λ c. search needs) (λ c. search needs) (λ c. search needs) (λ c. search needs) (check-fields-loop-again t) (λ c κs. search needs) (check-fields-check-field-requires t) (λ c. search needs) (λ c. search needs) (λ c. search needs) (check-fields-returns t) (check-fields-add-place-2 t) (λ c. search needs) (λ c. search needs) (λ c. search needs) (check-fields-loop-again-2 t) (λ c. search needs) (check-fields-returns-2 t)) (λ t. check-group-lts.spec (check-group-claims t) (check-group-at t)
     check-group.Post (check-group-returns t) (λ c κs. search needs) (λ c κs. search needs) (check-group-find-requires t) (check-group-returns-2 t) (check-group-allows-requires t) (check-group-returns-3 t) (λ c. search needs) (check-group-check-body-requires t) (λ c. search needs) (check-group-returns-4 t) (check-group-returns-5 t)) (λ t. check-groups-lts.spec (check-extending-below t, check-extending.Post) (check-groups-at t)
     check-groups.Post
     check-groups-Inv-loop

@@ -1,4 +1,4 @@
-use mathlib.Core.Path.{_∙_, refl}
+use mathlib.Core.Path.{refl, _∙_}
 use borrow.Author.Needs.{needs}
 use Rattle.message.proofs.CheckGroups.{cleared}
 use Rattle.message.proofs.clear.Statement.{statement}

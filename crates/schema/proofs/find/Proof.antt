@@ -18,14 +18,14 @@ abbrev μ-loop : tie.MeasureT-loop
 loop-holds : tie.Need-loop-holds Inv-loop μ-loop
 loop-holds c = (search needs, find-all (schema (c .before .before .args .table .now)) (c .before .before .args .n) (c .before .before .args .id))
 
-has-id-requires : tie.Need-has-id-requires Inv-loop μ-loop
-has-id-requires c κs = let p = placed-inside _ _ _ (c .before .before .before .before .before .pre .0) _ (c .before .loop-test .taken) in omega (arith, p, c .group-place .ensures .0)
+is-named-requires : tie.Need-is-named-requires Inv-loop μ-loop
+is-named-requires c κs = let p = placed-inside _ _ _ (c .before .before .before .before .before .pre .0) _ (c .before .loop-test .taken) in omega (arith, p, c .group-place .ensures .0)
 
 returns : tie.Need-returns Inv-loop μ-loop
-returns c = (sym (c .before .before .before .before .loop .inv .1 ∙ find-hit _ _ _ (c .before .before .before .before .before .before .before .pre .0) _ _ (c .before .before .before .loop-test .taken) (rw (c .before .before .group-place .ensures .0) at (sym (c .before .has-id .ensures)) ∙ c .if1 .taken)), search needs)
+returns c = (sym (c .before .before .before .before .loop .inv .1 ∙ find-hit _ _ _ (c .before .before .before .before .before .before .before .pre .0) _ _ (c .before .before .before .loop-test .taken) (rw (c .before .before .group-place .ensures .0) at (sym (c .before .is-named .ensures)) ∙ c .if1 .taken)), search needs)
 
 loop-again : tie.Need-loop-again Inv-loop μ-loop
-loop-again c = (search needs, c .before .before .before .before .loop .inv .1 ∙ find-miss _ _ _ (c .before .before .before .before .before .before .before .pre .0) _ _ (c .before .before .before .loop-test .taken) (rw (c .before .before .group-place .ensures .0) at (sym (c .before .has-id .ensures)) ∙ c .if1 .left))
+loop-again c = (search needs, c .before .before .before .before .loop .inv .1 ∙ find-miss _ _ _ (c .before .before .before .before .before .before .before .pre .0) _ _ (c .before .before .before .loop-test .taken) (rw (c .before .before .group-place .ensures .0) at (sym (c .before .is-named .ensures)) ∙ c .if1 .left))
 
 returns-2 : tie.Need-returns-2 Inv-loop μ-loop
 returns-2 c = (sym (c .before .loop .inv .1 ∙ find-end _ _ _ _ (c .loop-test .left)), search needs)
@@ -38,7 +38,7 @@ find-spec =
     μ-loop
     loop-holds
     (λ c κs. search needs)
-    has-id-requires
+    is-named-requires
     returns
     (λ c. search needs)
     (λ c. search needs)

@@ -19,14 +19,14 @@ abbrev μ-loop : tie.MeasureT-loop
 loop-holds : tie.Need-loop-holds Inv-loop μ-loop
 loop-holds c = let a = c .before .before .before .before .args in (search needs, ap (member (a .value)) (c .before .before .before .before .pre .0 .symbols _ (c .before .before .before .before .pre .1) ∙ rw (← (c .before .symbol-total .ensures .0), ← (c .symbol-place .ensures .0))) ∙ symbol-all (a .table .now) (c .symbol-place .result) (c .before .symbol-total .result) (a .value))
 
-read-u32-requires : tie.Need-read-u32-requires Inv-loop μ-loop
-read-u32-requires c κs = omega (arith, c .before .before .before .before .before .before .pre .0 .held (c .before .before .before .before .before .before .args .list) (c .before .before .before .before .before .before .pre .1), c .before .before .before .symbol-total .ensures .0, c .before .before .symbol-place .ensures .0)
+symbol-value-requires : tie.Need-symbol-value-requires Inv-loop μ-loop
+symbol-value-requires c κs = omega (arith, c .before .before .before .before .before .before .pre .0 .held (c .before .before .before .before .before .before .args .list) (c .before .before .before .before .before .before .pre .1), c .before .before .before .symbol-total .ensures .0, c .before .before .symbol-place .ensures .0)
 
 returns : tie.Need-returns Inv-loop μ-loop
-returns c = sym (c .before .before .before .loop .inv .1 ∙ symbol-hit (c .before .before .before .before .before .before .before .before .args .table .now) _ _ _ _ (c .before .before .loop-test .taken) (c .if1 .taken ∙ c .before .read-u32 .ensures .0))
+returns c = sym (c .before .before .before .loop .inv .1 ∙ symbol-hit (c .before .before .before .before .before .before .before .before .args .table .now) _ _ _ _ (c .before .before .loop-test .taken) (c .if1 .taken ∙ c .before .symbol-value .ensures .0))
 
 loop-again : tie.Need-loop-again Inv-loop μ-loop
-loop-again c = (search needs, c .before .before .before .loop .inv .1 ∙ symbol-miss (c .before .before .before .before .before .before .before .before .args .table .now) _ _ _ _ (c .before .before .loop-test .taken) (λ e. c .if1 .left (e ∙ sym (c .before .read-u32 .ensures .0))))
+loop-again c = (search needs, c .before .before .before .loop .inv .1 ∙ symbol-miss (c .before .before .before .before .before .before .before .before .args .table .now) _ _ _ _ (c .before .before .loop-test .taken) (λ e. c .if1 .left (e ∙ sym (c .before .symbol-value .ensures .0))))
 
 returns-2 : tie.Need-returns-2 Inv-loop μ-loop
 returns-2 c = sym (c .before .loop .inv .1 ∙ symbol-end (c .before .before .before .before .before .before .args .table .now) _ _ _ _ (c .loop-test .left))
@@ -42,8 +42,7 @@ has-symbol-spec =
     loop-holds
     (λ c. search needs)
     (λ c. search needs)
-    (λ c. search needs)
-    read-u32-requires
+    symbol-value-requires
     returns
     (λ c. search needs)
     (λ c. search needs)

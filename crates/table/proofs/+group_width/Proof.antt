@@ -22,9 +22,9 @@ use Rattle.table.proofs.group_width.Kinds as group-width-kinds
 use Rattle.table.proofs.+group_width.Lts-group_width as group-width-lts
 use Rattle.schema.proofs.field_count.Reads as field-count-reads
 use Rattle.schema.proofs.field_width.Reads as field-width-reads
-use Rattle.table.proofs.field_type.Reads as field-type-reads
+use Rattle.schema.proofs.field_type.Reads as field-type-reads
 use Rattle.table.proofs.higher.Reads as higher-reads
-use Rattle.table.proofs.reference.Reads as reference-reads
+use Rattle.schema.proofs.reference.Reads as reference-reads
 use Rattle.table.proofs.static_width.Reads as static-width-reads
 use Rattle.table.proofs.+group_width.{statement}
 use Rattle.table.proofs.+group_width.Tie.{close}
@@ -143,10 +143,10 @@ group-width-reference-requires : (t : ℕ) → group-width-lts.Need-reference-re
 group-width-reference-requires t c κs = omega (arith, (c .before .before .before .before .before .before .before .before .before .before .pre .1 .0 .placed .inside (c .before .before .before .before .before .before .before .before .before .before .args .g) (c .before .before .before .before .before .before .before .before .before .before .pre .1 .4)), c .before .before .before .before .field-count .ensures .0, c .before .before .loop-test .taken)
 
 group-width-group-width-requires : (t : ℕ) → group-width-lts.Need-group-width-requires (group-width-claims t) (group-width-at t) group-width.Post group-width-Inv-loop group-width-μ-loop
-group-width-group-width-requires t c κs = let l = (sound-here (c .before .before .before .before .before .before .before .before .before .before .before .args .table .now) (enums (c .before .before .before .before .before .before .before .before .before .before .before .args .table .now)) (c .before .before .before .before .before .field-count .result) (getD (c .before .before .before .before .before .before .before .before .before .before .before .args .index .now) (c .before .before .before .before .before .before .before .before .before .before .before .args .g) 0 + 16) (c .before .before .before .before .loop .i) (c .before .before .before .loop-test .taken) (length (schema (c .before .before .before .before .before .before .before .before .before .before .before .args .table .now))) (c .before .before .before .before .before .before .before .before .before .before .before .args .g) (c .before .before .before .before .loop .inv .4) _ _ (c .before .before .field-type .ensures) (c .before .if2 .left) (c .reference .ensures)) in (omega (arith, l, c .before .before .before .before .before .before .before .before .before .before .before .pre .0), (c .before .before .before .before .before .before .before .before .before .before .before .pre .1 .0, c .before .before .before .before .before .before .before .before .before .before .before .pre .1 .1, c .before .before .before .before .before .before .before .before .before .before .before .pre .1 .2, omega (arith, l, c .before .before .before .before .before .before .before .before .before .before .before .pre .1 .3), omega (arith, l, c .before .before .before .before .before .before .before .before .before .before .before .pre .1 .4)))
+group-width-group-width-requires t c κs = let l = (sound-here (c .before .before .before .before .before .before .before .before .before .before .before .args .table .now) (enums (c .before .before .before .before .before .before .before .before .before .before .before .args .table .now)) (c .before .before .before .before .before .field-count .result) (getD (c .before .before .before .before .before .before .before .before .before .before .before .args .index .now) (c .before .before .before .before .before .before .before .before .before .before .before .args .g) 0 + 16) (c .before .before .before .before .loop .i) (c .before .before .before .loop-test .taken) (length (schema (c .before .before .before .before .before .before .before .before .before .before .before .args .table .now))) (c .before .before .before .before .before .before .before .before .before .before .before .args .g) (c .before .before .before .before .loop .inv .4) _ _ (c .before .before .field-type .ensures) (c .before .if2 .left) (c .reference .ensures .0)) in (omega (arith, l, c .before .before .before .before .before .before .before .before .before .before .before .pre .0), (c .before .before .before .before .before .before .before .before .before .before .before .pre .1 .0, c .before .before .before .before .before .before .before .before .before .before .before .pre .1 .1, c .before .before .before .before .before .before .before .before .before .before .before .pre .1 .2, omega (arith, l, c .before .before .before .before .before .before .before .before .before .before .before .pre .1 .3), omega (arith, l, c .before .before .before .before .before .before .before .before .before .before .before .pre .1 .4)))
 
 group-width-static-width-requires : (t : ℕ) → group-width-lts.Need-static-width-requires (group-width-claims t) (group-width-at t) group-width.Post group-width-Inv-loop group-width-μ-loop
-group-width-static-width-requires t c κs = let l = (sound-here (c .before .before .before .before .before .before .before .before .before .before .before .before .args .table .now) (enums (c .before .before .before .before .before .before .before .before .before .before .before .before .args .table .now)) (c .before .before .before .before .before .before .field-count .result) (getD (c .before .before .before .before .before .before .before .before .before .before .before .before .args .index .now) (c .before .before .before .before .before .before .before .before .before .before .before .before .args .g) 0 + 16) (c .before .before .before .before .before .loop .i) (c .before .before .before .before .loop-test .taken) (length (schema (c .before .before .before .before .before .before .before .before .before .before .before .before .args .table .now))) (c .before .before .before .before .before .before .before .before .before .before .before .before .args .g) (c .before .before .before .before .before .loop .inv .4) _ _ (c .before .before .before .field-type .ensures) (c .before .before .if2 .left) (c .before .reference .ensures)) in (omega (arith, (c .before .before .before .before .before .before .before .before .before .before .before .before .pre .1 .0 .placed .inside (c .before .before .before .before .before .before .before .before .before .before .before .before .args .g) (c .before .before .before .before .before .before .before .before .before .before .before .before .pre .1 .4)), c .before .before .before .before .before .before .field-count .ensures .0, c .before .before .before .before .loop-test .taken), sym (c .before .before .before .field-type .ensures) ∙ c .before .before .if2 .left, c .group-width .ensures .narrow (omega (arith, l, c .before .before .before .before .before .before .before .before .before .before .before .before .pre .1 .3)))
+group-width-static-width-requires t c κs = let l = (sound-here (c .before .before .before .before .before .before .before .before .before .before .before .before .args .table .now) (enums (c .before .before .before .before .before .before .before .before .before .before .before .before .args .table .now)) (c .before .before .before .before .before .before .field-count .result) (getD (c .before .before .before .before .before .before .before .before .before .before .before .before .args .index .now) (c .before .before .before .before .before .before .before .before .before .before .before .before .args .g) 0 + 16) (c .before .before .before .before .before .loop .i) (c .before .before .before .before .loop-test .taken) (length (schema (c .before .before .before .before .before .before .before .before .before .before .before .before .args .table .now))) (c .before .before .before .before .before .before .before .before .before .before .before .before .args .g) (c .before .before .before .before .before .loop .inv .4) _ _ (c .before .before .before .field-type .ensures) (c .before .before .if2 .left) (c .before .reference .ensures .0)) in (omega (arith, (c .before .before .before .before .before .before .before .before .before .before .before .before .pre .1 .0 .placed .inside (c .before .before .before .before .before .before .before .before .before .before .before .before .args .g) (c .before .before .before .before .before .before .before .before .before .before .before .before .pre .1 .4)), c .before .before .before .before .before .before .field-count .ensures .0, c .before .before .before .before .loop-test .taken), sym (c .before .before .before .field-type .ensures) ∙ c .before .before .if2 .left, c .group-width .ensures .narrow (omega (arith, l, c .before .before .before .before .before .before .before .before .before .before .before .before .pre .1 .3)))
 
 group-width-add-width-2 : (t : ℕ) → group-width-lts.Need-add-width-2 (group-width-claims t) (group-width-at t) group-width.Post group-width-Inv-loop group-width-μ-loop
 group-width-add-width-2 t c = omega (arith, c .static-width .ensures .1, c .before .before .before .before .before .before .loop .inv .1, c .before .before .before .before .before .before .before .field-count .ensures .1, c .before .before .before .before .before .loop-test .taken)
@@ -155,7 +155,7 @@ group-width-add-higher : (t : ℕ) → group-width-lts.Need-add-higher (group-wi
 group-width-add-higher t c = omega (arith, c .before .before .group-width .ensures .depth)
 
 group-width-loop-again-2 : (t : ℕ) → group-width-lts.Need-loop-again-2 (group-width-claims t) (group-width-at t) group-width.Post group-width-Inv-loop group-width-μ-loop
-group-width-loop-again-2 t c = let l = (sound-here (c .before .before .before .before .before .before .before .before .before .before .before .before .before .before .before .before .before .args .table .now) (enums (c .before .before .before .before .before .before .before .before .before .before .before .before .before .before .before .before .before .args .table .now)) (c .before .before .before .before .before .before .before .before .before .before .before .field-count .result) (getD (c .before .before .before .before .before .before .before .before .before .before .before .before .before .before .before .before .before .args .index .now) (c .before .before .before .before .before .before .before .before .before .before .before .before .before .before .before .before .before .args .g) 0 + 16) (c .before .before .before .before .before .before .before .before .before .before .loop .i) (c .before .before .before .before .before .before .before .before .before .loop-test .taken) (length (schema (c .before .before .before .before .before .before .before .before .before .before .before .before .before .before .before .before .before .args .table .now))) (c .before .before .before .before .before .before .before .before .before .before .before .before .before .before .before .before .before .args .g) (c .before .before .before .before .before .before .before .before .before .before .loop .inv .4) _ _ (c .before .before .before .before .before .before .before .before .field-type .ensures) (c .before .before .before .before .before .before .before .if2 .left) (c .before .before .before .before .before .before .reference .ensures)) in (search needs, omega (arith, c .before .before .before .before .static-width .ensures .1, c .before .before .before .before .before .before .before .before .before .before .loop .inv .1), omega (arith, c .before .before .higher .ensures, c .before .before .before .before .before .before .before .before .before .before .loop .inv .2, c .before .before .before .before .before .group-width .ensures .low (omega (arith, l, c .before .before .before .before .before .before .before .before .before .before .before .before .before .before .before .before .before .pre .1 .3))), static-turn (c .before .before .before .before .before .before .before .before .before .before .before .before .before .before .before .before .before .args .table .now) (enums (c .before .before .before .before .before .before .before .before .before .before .before .before .before .before .before .before .before .args .table .now)) (c .before .before .before .before .before .before .before .before .before .before .before .field-count .result) (getD (c .before .before .before .before .before .before .before .before .before .before .before .before .before .before .before .before .before .args .index .now) (c .before .before .before .before .before .before .before .before .before .before .before .before .before .before .before .before .before .args .g) 0 + 16) (c .before .before .before .before .before .before .before .before .before .before .loop .i) (c .before .before .before .before .before .before .before .before .before .loop-test .taken) (schema (c .before .before .before .before .before .before .before .before .before .before .before .before .before .before .before .before .before .args .table .now)) (fieldsOf (schema (c .before .before .before .before .before .before .before .before .before .before .before .before .before .before .before .before .before .args .table .now)) (c .before .before .before .before .before .before .before .before .before .before .before .before .before .before .before .before .before .args .g)) _ _ _ _ _ _ _ _ (c .before .before .before .before .before .before .before .before .field-type .ensures) (c .before .before .before .before .before .before .before .if2 .left) (c .before .before .before .before .before .before .reference .ensures) (c .before .before .before .before .before .group-width .ensures .measured) (c .before .before .before .before .static-width .ensures .0 (enums (c .before .before .before .before .before .before .before .before .before .before .before .before .before .before .before .before .before .args .table .now))) (c .before .before .higher .ensures) (c .before .before .before .before .before .before .before .before .before .before .loop .inv .3), sound-turn (c .before .before .before .before .before .before .before .before .before .before .before .before .before .before .before .before .before .args .table .now) (enums (c .before .before .before .before .before .before .before .before .before .before .before .before .before .before .before .before .before .args .table .now)) (c .before .before .before .before .before .before .before .before .before .before .before .field-count .result) (getD (c .before .before .before .before .before .before .before .before .before .before .before .before .before .before .before .before .before .args .index .now) (c .before .before .before .before .before .before .before .before .before .before .before .before .before .before .before .before .before .args .g) 0 + 16) (c .before .before .before .before .before .before .before .before .before .before .loop .i) (c .before .before .before .before .before .before .before .before .before .loop-test .taken) (length (schema (c .before .before .before .before .before .before .before .before .before .before .before .before .before .before .before .before .before .args .table .now))) (c .before .before .before .before .before .before .before .before .before .before .before .before .before .before .before .before .before .args .g) (c .before .before .before .before .before .before .before .before .before .before .loop .inv .4))
+group-width-loop-again-2 t c = let l = (sound-here (c .before .before .before .before .before .before .before .before .before .before .before .before .before .before .before .before .before .args .table .now) (enums (c .before .before .before .before .before .before .before .before .before .before .before .before .before .before .before .before .before .args .table .now)) (c .before .before .before .before .before .before .before .before .before .before .before .field-count .result) (getD (c .before .before .before .before .before .before .before .before .before .before .before .before .before .before .before .before .before .args .index .now) (c .before .before .before .before .before .before .before .before .before .before .before .before .before .before .before .before .before .args .g) 0 + 16) (c .before .before .before .before .before .before .before .before .before .before .loop .i) (c .before .before .before .before .before .before .before .before .before .loop-test .taken) (length (schema (c .before .before .before .before .before .before .before .before .before .before .before .before .before .before .before .before .before .args .table .now))) (c .before .before .before .before .before .before .before .before .before .before .before .before .before .before .before .before .before .args .g) (c .before .before .before .before .before .before .before .before .before .before .loop .inv .4) _ _ (c .before .before .before .before .before .before .before .before .field-type .ensures) (c .before .before .before .before .before .before .before .if2 .left) (c .before .before .before .before .before .before .reference .ensures .0)) in (search needs, omega (arith, c .before .before .before .before .static-width .ensures .1, c .before .before .before .before .before .before .before .before .before .before .loop .inv .1), omega (arith, c .before .before .higher .ensures, c .before .before .before .before .before .before .before .before .before .before .loop .inv .2, c .before .before .before .before .before .group-width .ensures .low (omega (arith, l, c .before .before .before .before .before .before .before .before .before .before .before .before .before .before .before .before .before .pre .1 .3))), static-turn (c .before .before .before .before .before .before .before .before .before .before .before .before .before .before .before .before .before .args .table .now) (enums (c .before .before .before .before .before .before .before .before .before .before .before .before .before .before .before .before .before .args .table .now)) (c .before .before .before .before .before .before .before .before .before .before .before .field-count .result) (getD (c .before .before .before .before .before .before .before .before .before .before .before .before .before .before .before .before .before .args .index .now) (c .before .before .before .before .before .before .before .before .before .before .before .before .before .before .before .before .before .args .g) 0 + 16) (c .before .before .before .before .before .before .before .before .before .before .loop .i) (c .before .before .before .before .before .before .before .before .before .loop-test .taken) (schema (c .before .before .before .before .before .before .before .before .before .before .before .before .before .before .before .before .before .args .table .now)) (fieldsOf (schema (c .before .before .before .before .before .before .before .before .before .before .before .before .before .before .before .before .before .args .table .now)) (c .before .before .before .before .before .before .before .before .before .before .before .before .before .before .before .before .before .args .g)) _ _ _ _ _ _ _ _ (c .before .before .before .before .before .before .before .before .field-type .ensures) (c .before .before .before .before .before .before .before .if2 .left) (c .before .before .before .before .before .before .reference .ensures .0) (c .before .before .before .before .before .group-width .ensures .measured) (c .before .before .before .before .static-width .ensures .0 (enums (c .before .before .before .before .before .before .before .before .before .before .before .before .before .before .before .before .before .args .table .now))) (c .before .before .higher .ensures) (c .before .before .before .before .before .before .before .before .before .before .loop .inv .3), sound-turn (c .before .before .before .before .before .before .before .before .before .before .before .before .before .before .before .before .before .args .table .now) (enums (c .before .before .before .before .before .before .before .before .before .before .before .before .before .before .before .before .before .args .table .now)) (c .before .before .before .before .before .before .before .before .before .before .before .field-count .result) (getD (c .before .before .before .before .before .before .before .before .before .before .before .before .before .before .before .before .before .args .index .now) (c .before .before .before .before .before .before .before .before .before .before .before .before .before .before .before .before .before .args .g) 0 + 16) (c .before .before .before .before .before .before .before .before .before .before .loop .i) (c .before .before .before .before .before .before .before .before .before .loop-test .taken) (length (schema (c .before .before .before .before .before .before .before .before .before .before .before .before .before .before .before .before .before .args .table .now))) (c .before .before .before .before .before .before .before .before .before .before .before .before .before .before .before .before .before .args .g) (c .before .before .before .before .before .before .before .before .before .before .loop .inv .4))
 
 group-width-returns-2 : (t : ℕ) → group-width-lts.Need-returns-2 (group-width-claims t) (group-width-at t) group-width.Post group-width-Inv-loop group-width-μ-loop
 group-width-returns-2 t c = record { measured = summed-all (schema (c .before .before .before .before .before .before .before .before .args .table .now)) (c .before .before .before .before .before .before .before .before .args .g) _ _ _ (rw (fields-none (enums (c .before .before .before .before .before .before .before .before .args .table .now)) (c .before .before .field-count .result) (c .before .loop .i) (drop ((getD (c .before .before .before .before .before .before .before .before .args .index .now) (c .before .before .before .before .before .before .before .before .args .g) 0 + 16) + 16 * c .before .loop .i) (c .before .before .before .before .before .before .before .before .args .table .now)) (c .loop-test .left)) at (c .before .loop .inv .3)); narrow = λ q. absurd (omega (arith, q, c .before .before .before .before .before .if1 .left)); low = λ q. absurd (omega (arith, q, c .before .before .before .before .before .if1 .left)); width = omega (arith, c .before .loop .inv .1, c .before .loop .inv .0, c .before .before .field-count .ensures .1); depth = c .before .loop .inv .2 }

@@ -16,16 +16,25 @@ abbrev μ-loop : tie.MeasureT-loop
 μ-loop table index records next₀ low₀ i₀ next low i = records - i
 
 loop-holds : tie.Need-loop-holds Inv-loop μ-loop
-loop-holds c = (search needs, left-start (c .before .before .args .table .now), records-start (c .before .before .args .table .now))
+loop-holds c = let a = c .before .before .args in
+    (search needs, left-start (a .table .now), records-start (a .table .now))
 
 returns : tie.Need-returns Inv-loop μ-loop
-returns c = sym (c .before .before .before .before .before .loop .inv .2 ∙ records-turn (c .before .before .before .before .before .before .before .before .args .table .now) (c .before .before .before .before .before .before .before .before .pre .0) (length (enums (c .before .before .before .before .before .before .before .before .args .table .now))) (schema (c .before .before .before .before .before .before .before .before .args .table .now)) (c .before .before .before .before .before .loop .next) (c .before .before .before .before .before .loop .low) (c .before .before .before .before .before .loop .i) (omega (arith, c .before .before .before .before .before .before .before .before .pre .0 .whole, c .before .before .before .before .loop-test .taken)) _ (c .before .before .before .check-record .ensures) ∙ also-stop _ _ _ _ (c .before .v .given .1))
+returns c = let a = c .before .before .before .before .before .before .before .before .args in
+    let pre = c .before .before .before .before .before .before .before .before .pre in
+    let l = c .before .before .before .before .before .loop in
+    sym (l .inv .2 ∙ records-turn (a .table .now) (pre .0) (length (enums (a .table .now))) (schema (a .table .now)) (l .next) (l .low) (l .i) (omega (arith, pre .0 .whole, c .before .before .before .before .loop-test .taken)) _ (c .before .before .before .check-record .ensures) ∙ also-stop _ _ _ _ (c .before .v .given .1))
 
 loop-again : tie.Need-loop-again Inv-loop μ-loop
-loop-again c = (search needs, rw (c .before .groups-after .ensures) (left-turn (c .before .before .before .before .before .before .before .before .before .args .table .now) (c .before .before .before .before .before .before .before .before .before .pre .0) (c .before .before .before .before .before .before .loop .next) (c .before .before .before .before .before .before .loop .i) (omega (arith, c .before .before .before .before .before .before .before .before .before .pre .0 .whole, c .before .before .before .before .before .loop-test .taken)) (c .before .before .before .before .before .before .loop .inv .1)), rw (c .before .groups-after .ensures, c .rising .ensures) (c .before .before .before .before .before .before .loop .inv .2 ∙ records-turn (c .before .before .before .before .before .before .before .before .before .args .table .now) (c .before .before .before .before .before .before .before .before .before .pre .0) (length (enums (c .before .before .before .before .before .before .before .before .before .args .table .now))) (schema (c .before .before .before .before .before .before .before .before .before .args .table .now)) (c .before .before .before .before .before .before .loop .next) (c .before .before .before .before .before .before .loop .low) (c .before .before .before .before .before .before .loop .i) (omega (arith, c .before .before .before .before .before .before .before .before .before .pre .0 .whole, c .before .before .before .before .before .loop-test .taken)) _ (c .before .before .before .before .check-record .ensures) ∙ also-pass _ _ (c .before .before .enum-told .given .1)))
+loop-again c = let a = c .before .before .before .before .before .before .before .before .before .args in
+    let pre = c .before .before .before .before .before .before .before .before .before .pre in
+    let l = c .before .before .before .before .before .before .loop in
+    (search needs, rw (c .before .groups-after .ensures) (left-turn (a .table .now) (pre .0) (l .next) (l .i) (omega (arith, pre .0 .whole, c .before .before .before .before .before .loop-test .taken)) (l .inv .1)), rw (c .before .groups-after .ensures, c .rising .ensures) (l .inv .2 ∙ records-turn (a .table .now) (pre .0) (length (enums (a .table .now))) (schema (a .table .now)) (l .next) (l .low) (l .i) (omega (arith, pre .0 .whole, c .before .before .before .before .before .loop-test .taken)) _ (c .before .before .before .before .check-record .ensures) ∙ also-pass _ _ (c .before .before .enum-told .given .1)))
 
 returns-2 : tie.Need-returns-2 Inv-loop μ-loop
-returns-2 c = sym (c .before .loop .inv .2 ∙ records-end (c .before .before .before .before .args .table .now) (length (enums (c .before .before .before .before .args .table .now))) (schema (c .before .before .before .before .args .table .now)) (c .before .loop .next) (c .before .loop .low) (c .before .loop .i) (omega (arith, c .loop-test .left)))
+returns-2 c = let a = c .before .before .before .before .args in
+    let l = c .before .loop in
+    sym (l .inv .2 ∙ records-end (a .table .now) (length (enums (a .table .now))) (schema (a .table .now)) (l .next) (l .low) (l .i) (omega (arith, c .loop-test .left)))
 
 pub check-records-spec : {M : Type 1} → statement M
 check-records-spec =

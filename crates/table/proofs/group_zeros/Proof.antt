@@ -1,10 +1,14 @@
 use lib.Seq.{getD-drop}
+use lib.ListN.{drop}
 use borrow.Author.Needs.{needs}
+use Rattle.table.proofs.Laws.{zero-le, zeros-at}
+use Rattle.wire.specs.Bytes.{part}
 use Rattle.table.proofs.group_zeros.Statement.{statement}
 use Rattle.table.proofs.group_zeros.Tie as tie
 
 returns : tie.Need-returns
-returns c = cc (getD-drop (c .before .before .before .before .before .args .p) (c .before .before .before .before .before .args .table .now) 10 0, c .before .all-zero .ensures, c .all-zero2 .ensures, c .before .before .has-id .ensures)
+returns c = let a = c .before .before .before .before .before .args in
+    cc (getD-drop (a .p) (a .table .now) 10 0, zero-le (part 8 2 (drop (a .p) (a .table .now))), c .before .type-id .ensures, zeros-at 2 14 (a .p) _ (a .table .now) (c .read-u16 .ensures .0), c .before .before .has-id .ensures)
 
 pub group-zeros-spec : {M : Type 1} → statement M
 group-zeros-spec =
@@ -14,5 +18,6 @@ group-zeros-spec =
     (λ c. search needs)
     (λ c κs. search needs)
     (λ c κs. search needs)
+    (λ c. search needs)
     (λ c κs. search needs)
     returns)

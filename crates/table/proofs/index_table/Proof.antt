@@ -29,10 +29,12 @@ returns-4 : tie.Need-returns-4
 returns-4 c = record { verdict = after-ids (c .before .before .before .before .before .before .before .before .before .before .before .before .before .before .before .before .args .table .now) (not-false _ (c .before .before .before .before .before .before .before .before .before .before .before .before .before .if1 .left)) (sym (c .before .before .before .before .before .before .before .before .before .before .before .check-shape .ensures .verdict) ∙ c .before .before .before .before .before .before .before .enum-told .given .1) (sym (c .before .before .before .before .before .check-records .ensures) ∙ c .before .before .before .enum-told2 .given .1) (sym (c .before .any-id .ensures) ∙ not-true _ (c .if2 .taken)); layout = λ q. absurd (never q) }
 
 check-widths-requires : tie.Need-check-widths-requires
-check-widths-requires c κs = ((c .before .before .before .before .before .before .before .before .before .before .before .before .check-shape .ensures .placing (c .before .before .before .before .before .before .before .before .enum-told .given .1)), known-none (c .before .before .before .before .before .before .before .before .before .before .before .before .before .before .before .before .before .args .table .now) _ (c .before .before .before .before .before .before .before .before .before .before .before .before .check-shape .ensures .blank (c .before .before .before .before .before .before .before .before .enum-told .given .1)), schema-sound (c .before .before .before .before .before .before .before .before .before .before .before .before .before .before .before .before .before .args .table .now) (sym (c .before .before .before .before .before .before .before .before .before .before .before .before .check-shape .ensures .verdict) ∙ c .before .before .before .before .before .before .before .before .enum-told .given .1) (sym (c .before .before .before .before .before .before .check-records .ensures) ∙ c .before .before .before .before .enum-told2 .given .1))
+check-widths-requires c κs = let a = c .before .before .before .before .before .before .before .before .before .before .before .before .before .before .before .before .before .args in
+    ((c .before .before .before .before .before .before .before .before .before .before .before .before .check-shape .ensures .placing (c .before .before .before .before .before .before .before .before .enum-told .given .1)), known-none (a .table .now) _ (c .before .before .before .before .before .before .before .before .before .before .before .before .check-shape .ensures .blank (c .before .before .before .before .before .before .before .before .enum-told .given .1)), schema-sound (a .table .now) (sym (c .before .before .before .before .before .before .before .before .before .before .before .before .check-shape .ensures .verdict) ∙ c .before .before .before .before .before .before .before .before .enum-told .given .1) (sym (c .before .before .before .before .before .before .check-records .ensures) ∙ c .before .before .before .before .enum-told2 .given .1))
 
 returns-5 : tie.Need-returns-5
-returns-5 c = record { verdict = c .before .before .check-widths .ensures .verdict ∙ after-35 (c .before .before .before .before .before .before .before .before .before .before .before .before .before .before .before .before .before .before .before .before .args .table .now) (not-false _ (c .before .before .before .before .before .before .before .before .before .before .before .before .before .before .before .before .before .if1 .left)) (sym (c .before .before .before .before .before .before .before .before .before .before .before .before .before .before .before .check-shape .ensures .verdict) ∙ c .before .before .before .before .before .before .before .before .before .before .before .enum-told .given .1) (sym (c .before .before .before .before .before .before .before .before .before .check-records .ensures) ∙ c .before .before .before .before .before .before .before .enum-told2 .given .1) (sym (c .before .before .before .before .before .any-id .ensures) ∙ not-false _ (c .before .before .before .before .if2 .left)); layout = λ q. layout-of (c .before .before .before .before .before .before .before .before .before .before .before .before .before .before .before .before .before .before .before .before .args .table .now) _ (c .before .before .check-widths .ensures .placing q) (c .before .before .check-widths .ensures .known q) (whole-of (c .before .before .before .before .before .before .before .before .before .before .before .before .before .before .before .before .before .before .before .before .args .table .now) (not-false _ (c .before .before .before .before .before .before .before .before .before .before .before .before .before .before .before .before .before .if1 .left))) (supers-low (c .before .before .before .before .before .before .before .before .before .before .before .before .before .before .before .before .before .before .before .before .args .table .now) (sym (c .before .before .before .before .before .before .before .before .before .before .before .before .before .before .before .check-shape .ensures .verdict) ∙ c .before .before .before .before .before .before .before .before .before .before .before .enum-told .given .1) (sym (c .before .before .before .before .before .before .before .before .before .check-records .ensures) ∙ c .before .before .before .before .before .before .before .enum-told2 .given .1)) }
+returns-5 c = let a = c .before .before .before .before .before .before .before .before .before .before .before .before .before .before .before .before .before .before .before .before .args in
+    record { verdict = c .before .before .check-widths .ensures .verdict ∙ after-35 (a .table .now) (not-false _ (c .before .before .before .before .before .before .before .before .before .before .before .before .before .before .before .before .before .if1 .left)) (sym (c .before .before .before .before .before .before .before .before .before .before .before .before .before .before .before .check-shape .ensures .verdict) ∙ c .before .before .before .before .before .before .before .before .before .before .before .enum-told .given .1) (sym (c .before .before .before .before .before .before .before .before .before .check-records .ensures) ∙ c .before .before .before .before .before .before .before .enum-told2 .given .1) (sym (c .before .before .before .before .before .any-id .ensures) ∙ not-false _ (c .before .before .before .before .if2 .left)); layout = λ q. layout-of (a .table .now) _ (c .before .before .check-widths .ensures .placing q) (c .before .before .check-widths .ensures .known q) (whole-of (a .table .now) (not-false _ (c .before .before .before .before .before .before .before .before .before .before .before .before .before .before .before .before .before .if1 .left))) (supers-low (a .table .now) (sym (c .before .before .before .before .before .before .before .before .before .before .before .before .before .before .before .check-shape .ensures .verdict) ∙ c .before .before .before .before .before .before .before .before .before .before .before .enum-told .given .1) (sym (c .before .before .before .before .before .before .before .before .before .check-records .ensures) ∙ c .before .before .before .before .before .before .before .enum-told2 .given .1)) }
 
 pub index-table-spec : {M : Type 1} → statement M
 index-table-spec =

@@ -7,16 +7,20 @@ use Rattle.table.proofs.is_due.Statement.{statement}
 use Rattle.table.proofs.is_due.Tie as tie
 
 returns : tie.Need-returns
-returns c = c .has-mark .ensures ∙ sym (due-symbol (dueOf (c .before .before .before .before .before .before .args .shape)) (drop (c .before .before .before .before .before .before .args .p) (c .before .before .before .before .before .before .args .table .now)) (c .before .before .before .if1 .taken) (c .before .if2 .taken))
+returns c = let a = c .before .before .before .before .before .before .args in
+    c .has-mark .ensures ∙ sym (due-symbol (dueOf (a .shape)) (drop (a .p) (a .table .now)) (c .before .before .before .if1 .taken) (c .before .if2 .taken))
 
 returns-2 : tie.Need-returns-2
-returns-2 c = c .has-mark2 .ensures ∙ sym (due-field (dueOf (c .before .before .before .before .before .before .args .shape)) (drop (c .before .before .before .before .before .before .args .p) (c .before .before .before .before .before .before .args .table .now)) (c .before .before .before .if1 .taken) (c .before .if2 .left))
+returns-2 c = let a = c .before .before .before .before .before .before .args in
+    c .has-mark2 .ensures ∙ sym (due-field (dueOf (a .shape)) (drop (a .p) (a .table .now)) (c .before .before .before .if1 .taken) (c .before .if2 .left))
 
 returns-3 : tie.Need-returns-3
-returns-3 c = let q = due-enum (dueOf (c .before .before .before .before .before .before .before .args .shape)) (drop (c .before .before .before .before .before .before .before .args .p) (c .before .before .before .before .before .before .before .args .table .now)) (c .before .before .before .before .if1 .left) (sym (c .before .before .before .is-enum .ensures) ∙ c .before .before .if3 .taken) in cc q
+returns-3 c = let a = c .before .before .before .before .before .before .before .args in
+    let q = due-enum (dueOf (a .shape)) (drop (a .p) (a .table .now)) (c .before .before .before .before .if1 .left) (sym (c .before .before .before .is-enum .ensures) ∙ c .before .before .if3 .taken) in cc q
 
 returns-4 : tie.Need-returns-4
-returns-4 c = let q = due-group (dueOf (c .before .before .before .before .before .before .before .before .args .shape)) (drop (c .before .before .before .before .before .before .before .before .args .p) (c .before .before .before .before .before .before .before .before .args .table .now)) (c .before .before .before .before .before .if1 .left) (sym (c .before .before .before .before .is-enum .ensures) ∙ c .before .before .before .if3 .left) in cc q
+returns-4 c = let a = c .before .before .before .before .before .before .before .before .args in
+    let q = due-group (dueOf (a .shape)) (drop (a .p) (a .table .now)) (c .before .before .before .before .before .if1 .left) (sym (c .before .before .before .before .is-enum .ensures) ∙ c .before .before .before .if3 .left) in cc q
 
 pub is-due-spec : {M : Type 1} → statement M
 is-due-spec =

@@ -9,16 +9,24 @@ use Rattle.table.proofs.take_record.Statement.{statement}
 use Rattle.table.proofs.take_record.Tie as tie
 
 returns : tie.Need-returns
-returns c = let m = owed-marks (dueOf (c .before .before .before .before .before .args .shape)) (drop (16 * c .before .before .before .before .before .args .i) (c .before .before .before .before .before .args .table .now)) (c .before .if1 .taken) (c .before .before .before .before .before .pre .3) in record { due = sym (after-owed (dueOf (c .before .before .before .before .before .args .shape)) (drop (16 * c .before .before .before .before .before .args .i) (c .before .before .before .before .before .args .table .now)) (c .before .if1 .taken)); begun = begun-owed (c .before .before .before .before .before .args .table .now) (c .before .before .before .before .before .pre .0) (c .before .before .before .before .before .args .i) (c .before .before .before .before .before .pre .1) _ _ _ _ (m .0) (m .1) (c .before .if1 .taken) (c .before .before .before .before .before .pre .2) }
+returns c = let a = c .before .before .before .before .before .args in
+    let pre = c .before .before .before .before .before .pre in
+    let m = owed-marks (dueOf (a .shape)) (drop (16 * a .i) (a .table .now)) (c .before .if1 .taken) (pre .3) in record { due = sym (after-owed (dueOf (a .shape)) (drop (16 * a .i) (a .table .now)) (c .before .if1 .taken)); begun = begun-owed (a .table .now) (pre .0) (a .i) (pre .1) _ _ _ _ (m .0) (m .1) (c .before .if1 .taken) (pre .2) }
 
 place-symbols-requires : tie.Need-place-symbols-requires
-place-symbols-requires c κs = let q = enum-due (dueOf (c .before .before .before .before .before .before .before .before .args .shape)) (drop (16 * c .before .before .before .before .before .before .before .before .args .i) (c .before .before .before .before .before .before .before .before .args .table .now)) (c .before .before .before .before .if1 .left) (sym (c .before .before .before .is-enum .ensures) ∙ c .before .before .if2 .taken) (c .before .before .before .before .before .before .before .before .pre .3) in (q .0, c .before .before .before .before .before .before .before .before .pre .2 .long, omega (arith, c .before .symbol-count .ensures .1))
+place-symbols-requires c κs = let a = c .before .before .before .before .before .before .before .before .args in
+    let pre = c .before .before .before .before .before .before .before .before .pre in
+    let q = enum-due (dueOf (a .shape)) (drop (16 * a .i) (a .table .now)) (c .before .before .before .before .if1 .left) (sym (c .before .before .before .is-enum .ensures) ∙ c .before .before .if2 .taken) (pre .3) in (q .0, pre .2 .long, omega (arith, c .before .symbol-count .ensures .1))
 
 returns-2 : tie.Need-returns-2
-returns-2 c = let q = enum-due (dueOf (c .before .before .before .before .before .before .before .before .before .before .before .before .args .shape)) (drop (16 * c .before .before .before .before .before .before .before .before .before .before .before .before .args .i) (c .before .before .before .before .before .before .before .before .before .before .before .before .args .table .now)) (c .before .before .before .before .before .before .before .before .if1 .left) (sym (c .before .before .before .before .before .before .before .is-enum .ensures) ∙ c .before .before .before .before .before .before .if2 .taken) (c .before .before .before .before .before .before .before .before .before .before .before .before .pre .3) in let m = enum-is (dueOf (c .before .before .before .before .before .before .before .before .before .before .before .before .args .shape)) (drop (16 * c .before .before .before .before .before .before .before .before .before .before .before .before .args .i) (c .before .before .before .before .before .before .before .before .before .before .before .before .args .table .now)) (sym (c .before .before .before .before .before .before .before .is-enum .ensures) ∙ c .before .before .before .before .before .before .if2 .taken) in record { due = ap (λ (n : ℕ). record { enumerations = c .before .before .before .before .before .before .before .before .before .before .before .before .args .shape .enumerations + 1; groups = c .before .before .before .before .before .before .before .before .before .before .before .before .args .shape .groups; owed = n }) (c .before .before .before .before .before .symbol-count .ensures .0) ∙ sym (after-enum (dueOf (c .before .before .before .before .before .before .before .before .before .before .before .before .args .shape)) (drop (16 * c .before .before .before .before .before .before .before .before .before .before .before .before .args .i) (c .before .before .before .before .before .before .before .before .before .before .before .before .args .table .now)) (c .before .before .before .before .before .before .before .before .if1 .left) (sym (c .before .before .before .before .before .before .before .is-enum .ensures) ∙ c .before .before .before .before .before .before .if2 .taken)); begun = begun-enum (c .before .before .before .before .before .before .before .before .before .before .before .before .args .table .now) (c .before .before .before .before .before .before .before .before .before .before .before .before .pre .0) (c .before .before .before .before .before .before .before .before .before .before .before .before .args .i) (c .before .before .before .before .before .before .before .before .before .before .before .before .pre .1) _ _ _ _ _ _ (m .1) (m .0) (q .0) (c .before .before .before .before .before .before .before .before .if1 .left) (c .before .before .before .before .before .symbol-count .ensures .0) (omega (arith, q .1, c .before .before .before .before .before .symbol-count .ensures .0)) (c .before .before .before .place-symbols .ensures) (c .before .before .before .before .before .before .before .before .before .before .before .before .pre .2) }
+returns-2 c = let a = c .before .before .before .before .before .before .before .before .before .before .before .before .args in
+    let pre = c .before .before .before .before .before .before .before .before .before .before .before .before .pre in
+    let q = enum-due (dueOf (a .shape)) (drop (16 * a .i) (a .table .now)) (c .before .before .before .before .before .before .before .before .if1 .left) (sym (c .before .before .before .before .before .before .before .is-enum .ensures) ∙ c .before .before .before .before .before .before .if2 .taken) (pre .3) in let m = enum-is (dueOf (a .shape)) (drop (16 * a .i) (a .table .now)) (sym (c .before .before .before .before .before .before .before .is-enum .ensures) ∙ c .before .before .before .before .before .before .if2 .taken) in record { due = ap (λ (n : ℕ). record { enumerations = a .shape .enumerations + 1; groups = a .shape .groups; owed = n }) (c .before .before .before .before .before .symbol-count .ensures .0) ∙ sym (after-enum (dueOf (a .shape)) (drop (16 * a .i) (a .table .now)) (c .before .before .before .before .before .before .before .before .if1 .left) (sym (c .before .before .before .before .before .before .before .is-enum .ensures) ∙ c .before .before .before .before .before .before .if2 .taken)); begun = begun-enum (a .table .now) (pre .0) (a .i) (pre .1) _ _ _ _ _ _ (m .1) (m .0) (q .0) (c .before .before .before .before .before .before .before .before .if1 .left) (c .before .before .before .before .before .symbol-count .ensures .0) (omega (arith, q .1, c .before .before .before .before .before .symbol-count .ensures .0)) (c .before .before .before .place-symbols .ensures) (pre .2) }
 
 returns-3 : tie.Need-returns-3
-returns-3 c = let q = group-due (dueOf (c .before .before .before .before .before .before .before .before .before .before .before .before .args .shape)) (drop (16 * c .before .before .before .before .before .before .before .before .before .before .before .before .args .i) (c .before .before .before .before .before .before .before .before .before .before .before .before .args .table .now)) (c .before .before .before .before .before .before .before .before .if1 .left) (sym (c .before .before .before .before .before .before .before .is-enum .ensures) ∙ c .before .before .before .before .before .before .if2 .left) (c .before .before .before .before .before .before .before .before .before .before .before .before .pre .3) in record { due = ap (λ (n : ℕ). record { enumerations = c .before .before .before .before .before .before .before .before .before .before .before .before .args .shape .enumerations; groups = c .before .before .before .before .before .before .before .before .before .before .before .before .args .shape .groups + 1; owed = n }) (c .field-count .ensures .0) ∙ sym (after-group (dueOf (c .before .before .before .before .before .before .before .before .before .before .before .before .args .shape)) (drop (16 * c .before .before .before .before .before .before .before .before .before .before .before .before .args .i) (c .before .before .before .before .before .before .before .before .before .before .before .before .args .table .now)) (c .before .before .before .before .before .before .before .before .if1 .left) (sym (c .before .before .before .before .before .before .before .is-enum .ensures) ∙ c .before .before .before .before .before .before .if2 .left)); begun = begun-group (c .before .before .before .before .before .before .before .before .before .before .before .before .args .table .now) (c .before .before .before .before .before .before .before .before .before .before .before .before .pre .0) (c .before .before .before .before .before .before .before .before .before .before .before .before .args .i) (c .before .before .before .before .before .before .before .before .before .before .before .before .pre .1) _ _ _ _ _ _ (q .0) (q .1) (c .before .before .before .before .before .before .before .before .if1 .left) (c .field-count .ensures .0) (c .before .before .before .before .place-group .ensures) (c .before .before .before .before .before .before .before .before .before .before .before .before .pre .2) }
+returns-3 c = let a = c .before .before .before .before .before .before .before .before .before .before .before .before .args in
+    let pre = c .before .before .before .before .before .before .before .before .before .before .before .before .pre in
+    let q = group-due (dueOf (a .shape)) (drop (16 * a .i) (a .table .now)) (c .before .before .before .before .before .before .before .before .if1 .left) (sym (c .before .before .before .before .before .before .before .is-enum .ensures) ∙ c .before .before .before .before .before .before .if2 .left) (pre .3) in record { due = ap (λ (n : ℕ). record { enumerations = a .shape .enumerations; groups = a .shape .groups + 1; owed = n }) (c .field-count .ensures .0) ∙ sym (after-group (dueOf (a .shape)) (drop (16 * a .i) (a .table .now)) (c .before .before .before .before .before .before .before .before .if1 .left) (sym (c .before .before .before .before .before .before .before .is-enum .ensures) ∙ c .before .before .before .before .before .before .if2 .left)); begun = begun-group (a .table .now) (pre .0) (a .i) (pre .1) _ _ _ _ _ _ (q .0) (q .1) (c .before .before .before .before .before .before .before .before .if1 .left) (c .field-count .ensures .0) (c .before .before .before .before .place-group .ensures) (pre .2) }
 
 pub take-record-spec : {M : Type 1} → statement M
 take-record-spec =

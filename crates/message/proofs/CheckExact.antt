@@ -1,0 +1,24 @@
+-- Nothing of a sheet's length is cut off: the check's count is the walk's.
+use mathlib.Core.Path.{_≡_, refl, ap}
+use mathlib.Core.List.{List}
+use Prim.Native.Nat.{ℕ, _+_, _%_, _^_, _≤_}
+use native.Mathlib.Omega.{arith}
+use native.Mathlib.Nat.{zero-add, mod-eq-of-lt}
+use lib.ListN.{length}
+use Rattle.schema.specs.Schema.{Group}
+use Rattle.message.specs.Walk.{Reading, refused, done, strict, walk}
+use Rattle.message.specs.Count.{count, counted}
+use Rattle.message.specs.Check.{after}
+use Rattle.message.specs.Proper.{Sized}
+use Rattle.message.proofs.Eleven.{eleven}
+
+pub after-exact : (gs : List Group) → Sized gs → (b : List ℕ) → length b ≤ 65536 → after 0 (count (walk strict gs b)) ≡ count (walk strict gs b)
+unfolding after count
+after-exact gs ok b h = go (walk strict gs b) refl
+  where
+    go : (r : Reading) → walk strict gs b ≡ r → after 0 (count r) ≡ count r
+    go (refused n p) e = refl
+    go (done s m) e =
+        let l = eleven gs ok strict b s m e in
+        let q : (0 + length s) % 2 ^ 64 ≡ length s = rw zero-add (mod-eq-of-lt (omega (arith, l, h))) in
+        ap (λ (k : ℕ). counted k m) q

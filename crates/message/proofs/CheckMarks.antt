@@ -1,0 +1,323 @@
+-- Marks that are kept as numbers: what is taken from the data area's start on, and what the scratch adds to it.
+use Prim.Native.Nat.{ℕ, zero, suc, _+_, _-_, _<_, _≤_, min, max}
+use mathlib.Core.Path.{_≡_, refl, sym, ap, _∙_}
+use mathlib.Core.Bool.{Bool, true, false, cond, _&&_}
+use mathlib.Core.List.{List, [], _∷_, _++_, append-assoc}
+use native.Mathlib.Omega.{arith}
+use lib.ListN.{length, getD, take, drop, replicate, length-take, length-drop, length-append, length-replicate, drop-of-length-le, List·getD-append, getD-replicate, replicate-append-replicate}
+use lib.Seq.{drop-drop, take-at, drop-at, take-all, getD-append-add, getD-take, getD-drop, ext-getD}
+use lib.Dec.{leb, ltb, eqb}
+use borrow.Author.Tests.{ltb-true, ltb-false, leb-true, leb-false, eqb-true}
+use Rattle.wire.specs.Bytes.{part, splice, allZero}
+use Rattle.wire.proofs.Laws.{drop-more, splice-append, splice-nil, length-splice}
+use Rattle.schema.proofs.Depth.{and-both}
+use Rattle.message.specs.Marks.{free, mark, padsZero}
+use Rattle.message.specs.Check.{marksOf}
+use Rattle.message.specs.declared.Taken.{Taken}
+
+-- for wire/proofs/Laws.antt: what stands in a place does not matter once it is written over
+pub splice-over : (n p : ℕ) (xs ys s : List ℕ) → length xs ≡ n → p + n ≤ length s → splice n p ys (splice n p xs s) ≡ splice n p ys s
+splice-over n p xs ys s h l =
+    let front : length (take p s) ≡ p = simp length-take (omega arith) in
+    let both : length (take p s ++ xs) ≡ p + n = simp (length-append, length-take) (omega (arith, h)) in
+    let left : take p (splice n p xs s) ≡ take p s = take-at (take p s) (xs ++ drop n (drop p s)) p front in
+    let right : drop n (drop p (splice n p xs s)) ≡ drop n (drop p s)
+    = drop-drop n p (splice n p xs s) ∙ ap (drop (p + n)) (sym (append-assoc (take p s) xs (drop n (drop p s)))) ∙ drop-at (take p s ++ xs) (drop n (drop p s)) (p + n) both in
+    rw (left, right)
+
+-- for wire/proofs/Laws.antt: what a splice left behind it
+drop-behind : (n p q : ℕ) (ys s : List ℕ) → p + n ≤ q → p + n ≤ length s → length ys ≡ n → drop q (splice n p ys s) ≡ drop q s
+drop-behind n p q ys s h l e =
+    let k : q ≡ p + n + (q - (p + n)) = omega arith in
+    let front : length (take p s ++ ys) ≡ p + n = simp (length-append, length-take) (omega (arith, e)) in
+    let tail : drop (p + n) (splice n p ys s) ≡ drop (p + n) s = ap (drop (p + n)) (sym (append-assoc (take p s) ys (drop n (drop p s)))) ∙ drop-at (take p s ++ ys) (drop n (drop p s)) (p + n) front ∙ drop-drop n p s in
+    ap (λ (j : ℕ). drop j (splice n p ys s)) k ∙ sym (drop-drop (q - (p + n)) (p + n) (splice n p ys s)) ∙ ap (drop (q - (p + n))) tail ∙ drop-drop (q - (p + n)) (p + n) s ∙ ap (λ (j : ℕ). drop j s) (sym k)
+
+-- MARKS
+
+module _ (p n : ℕ) (m : List ℕ) (l : p + n ≤ length m) where
+  pub length-marked : length (mark p n m) ≡ length m
+  unfolding mark
+  length-marked = length-splice n p (replicate n 1) m l (length-replicate n 1)
+
+  drop-marked : (q : ℕ) → p + n ≤ q → drop q (mark p n m) ≡ drop q m
+  unfolding mark
+  drop-marked q h = drop-behind n p q (replicate n 1) m h l (length-replicate n 1)
+
+  pub mark-twice : mark p n (mark p n m) ≡ mark p n m
+  unfolding mark
+  mark-twice = splice-over n p (replicate n 1) (replicate n 1) m (length-replicate n 1) l
+
+  -- each byte of a marked list
+  get-before : (i : ℕ) → i < p → getD (mark p n m) i 0 ≡ getD m i 0
+  unfolding mark
+  get-before i h = let f : length (take p m) ≡ p = simp length-take (omega arith) in
+      List·getD-append (take p m) (replicate n 1 ++ drop n (drop p m)) 0 i (omega (arith, f)) ∙ getD-take p m i 0 h
+
+  get-inside : (i : ℕ) → p ≤ i → i < p + n → getD (mark p n m) i 0 ≡ 1
+  unfolding mark
+  get-inside i h g = let f : length (take p m) ≡ p = simp length-take (omega arith) in
+      let k : i ≡ length (take p m) + (i - p) = omega (arith, f) in
+      ap (λ (j : ℕ). getD (take p m ++ (replicate n 1 ++ drop n (drop p m))) j 0) k
+      ∙ getD-append-add (take p m) (replicate n 1 ++ drop n (drop p m)) (i - p) 0
+      ∙ List·getD-append (replicate n 1) (drop n (drop p m)) 0 (i - p) (let q : length {A = ℕ} (replicate n 1) ≡ n = length-replicate n 1 in omega (arith, q))
+      ∙ getD-replicate n (i - p) 1 0 (omega arith)
+
+  get-behind : (i : ℕ) → p + n ≤ i → getD (mark p n m) i 0 ≡ getD m i 0
+  get-behind i h =
+      let e : i ≡ i + 0 = omega arith in
+      ap (λ (j : ℕ). getD (mark p n m) j 0) e ∙ sym (getD-drop i (mark p n m) 0 0) ∙ ap (λ (s : List ℕ). getD s 0 0) (drop-marked i h) ∙ getD-drop i m 0 0 ∙ ap (λ (j : ℕ). getD m j 0) (sym e)
+
+-- the order of two marks does not matter
+module _ (p n q k : ℕ) (m : List ℕ) (l : p + n ≤ length m) (g : q + k ≤ length m) where
+  abbrev lp : length (mark q k m) ≡ length m
+  lp = length-marked q k m g
+
+  abbrev lq : length (mark p n m) ≡ length m
+  lq = length-marked p n m l
+
+  swapped : (i : ℕ) → getD (mark p n (mark q k m)) i 0 ≡ getD (mark q k (mark p n m)) i 0
+  swapped i = go (leb p i) refl (ltb i (p + n)) refl (leb q i) refl (ltb i (q + k)) refl
+    where
+      outer : p + n ≤ length (mark q k m)
+      outer = omega (arith, lp)
+
+      inner : q + k ≤ length (mark p n m)
+      inner = omega (arith, lq)
+
+      -- inside either of them it is 1, and outside both it is m's
+      here′ : p ≤ i → i < p + n → getD (mark p n (mark q k m)) i 0 ≡ getD (mark q k (mark p n m)) i 0
+      here′ a b = get-inside p n (mark q k m) outer i a b ∙ sym (one (leb q i) refl (ltb i (q + k)) refl)
+        where
+          one : (x : Bool) → leb q i ≡ x → (y : Bool) → ltb i (q + k) ≡ y → getD (mark q k (mark p n m)) i 0 ≡ 1
+          one true x true y = get-inside q k (mark p n m) inner i (leb-true _ _ x) (ltb-true _ _ y)
+          one true x false y = get-behind q k (mark p n m) inner i (ltb-false _ _ y) ∙ get-inside p n m l i a b
+          one false x y z = get-before q k (mark p n m) inner i (leb-false _ _ x) ∙ get-inside p n m l i a b
+
+      there : (getD (mark p n (mark q k m)) i 0 ≡ getD (mark q k m) i 0) → (getD (mark p n m) i 0 ≡ getD m i 0) → getD (mark p n (mark q k m)) i 0 ≡ getD (mark q k (mark p n m)) i 0
+      there a b = a ∙ other (leb q i) refl (ltb i (q + k)) refl
+        where
+          other : (x : Bool) → leb q i ≡ x → (y : Bool) → ltb i (q + k) ≡ y → getD (mark q k m) i 0 ≡ getD (mark q k (mark p n m)) i 0
+          other true x true y = get-inside q k m g i (leb-true _ _ x) (ltb-true _ _ y) ∙ sym (get-inside q k (mark p n m) inner i (leb-true _ _ x) (ltb-true _ _ y))
+          other true x false y = get-behind q k m g i (ltb-false _ _ y) ∙ sym (get-behind q k (mark p n m) inner i (ltb-false _ _ y) ∙ b)
+          other false x y z = get-before q k m g i (leb-false _ _ x) ∙ sym (get-before q k (mark p n m) inner i (leb-false _ _ x) ∙ b)
+
+      go : (a : Bool) → leb p i ≡ a → (b : Bool) → ltb i (p + n) ≡ b → (c : Bool) → leb q i ≡ c → (d : Bool) → ltb i (q + k) ≡ d → getD (mark p n (mark q k m)) i 0 ≡ getD (mark q k (mark p n m)) i 0
+      go true a true b c e d f = here′ (leb-true _ _ a) (ltb-true _ _ b)
+      go true a false b c e d f = there (get-behind p n (mark q k m) outer i (ltb-false _ _ b)) (get-behind p n m l i (ltb-false _ _ b))
+      go false a b e c f d h = there (get-before p n (mark q k m) outer i (leb-false _ _ a)) (get-before p n m l i (leb-false _ _ a))
+
+  pub mark-swap : mark p n (mark q k m) ≡ mark q k (mark p n m)
+  mark-swap =
+      ext-getD 0 (mark p n (mark q k m)) (mark q k (mark p n m))
+      (length-marked p n (mark q k m) (omega (arith, lp)) ∙ lp ∙ sym (length-marked q k (mark p n m) (omega (arith, lq)) ∙ lq)) (λ i h. swapped i)
+
+-- one mark straight behind another
+mark-run : (a p n : ℕ) (m : List ℕ) → a ≤ p → p + n ≤ length m → mark p n (mark a (p - a) m) ≡ mark a (p + n - a) m
+unfolding mark
+mark-run a p n m h l =
+    let e : a + (p - a) ≡ p = omega arith in
+    let k : p - a + n ≡ p + n - a = omega arith in
+    let s = splice-append (p - a) n a (replicate (p - a) 1) (replicate n 1) m (length-replicate (p - a) 1) (omega arith) in
+    rw (e, replicate-append-replicate, k) at s
+
+-- a byte that is taken is not free
+taken-not-free : (a r p n : ℕ) (m : List ℕ) → a ≤ p → p < a + r → a + r ≤ length m → 1 ≤ n → free p n (mark a r m) ≡ false
+unfolding free allZero
+taken-not-free a r p n m h g l o =
+    let k : n ≡ suc (n - 1) = omega arith in
+    let q : p < length (mark a r m) = omega (arith, length-marked a r m l) in
+    rw (k, drop-more (mark a r m) p q, get-inside a r m l p h g)
+
+free-behind : (a r p n : ℕ) (m : List ℕ) → a + r ≤ p → a + r ≤ length m → free p n (mark a r m) ≡ allZero (part n p m)
+unfolding free
+free-behind a r p n m h l = rw (drop-marked a r m l p h)
+
+-- ZEROS
+
+zeros-drop : (p : ℕ) (s : List ℕ) → allZero s ≡ true → allZero (drop p s) ≡ true
+unfolding allZero
+zeros-drop zero s h = h
+zeros-drop (suc p) [] h = h
+zeros-drop (suc p) (x ∷ s) h = zeros-drop p s (and-both (eqb x 0) (allZero s) h .1)
+
+zeros-take : (n : ℕ) (s : List ℕ) → allZero s ≡ true → allZero (take n s) ≡ true
+unfolding allZero
+zeros-take zero s h = refl
+zeros-take (suc n) [] h = refl
+zeros-take (suc n) (x ∷ s) h = let q = and-both (eqb x 0) (allZero s) h in rw (q .0) (zeros-take n s (q .1))
+
+zeros-all : (n : ℕ) → allZero (replicate n 0) ≡ true
+unfolding allZero
+zeros-all zero = refl
+zeros-all (suc n) = zeros-all n
+
+zeros-free : (n p k : ℕ) → allZero (part k p (replicate n 0)) ≡ true
+zeros-free n p k = zeros-take k (drop p (replicate n 0)) (zeros-drop p (replicate n 0) (zeros-all n))
+
+-- CLAIMS
+
+abbrev under : ℕ → Taken → List ℕ → List ℕ
+under a s m = cond (s .scattered) m (replicate (length m) 0)
+
+under-length : (x : Bool) (m : List ℕ) → length (cond x m (replicate (length m) 0)) ≡ length m
+under-length true m = refl
+under-length false m = length-replicate (length m) 0
+
+module _ (a : ℕ) (s : Taken) (m : List ℕ) where
+  abbrev run : ℕ
+  run = min (s .packed) (length m) - a
+
+  is : marksOf a s m ≡ mark a run (under a s m)
+  unfolding marksOf
+  is = refl
+
+  module _ (p n : ℕ) (ap′ : a ≤ p) (one : 1 ≤ n) (l : p + n ≤ length m) where
+    u : length (under a s m) ≡ length m
+    u = under-length (s .scattered) m
+
+    pub claim-taken : p < s .packed → free p n (marksOf a s m) ≡ false
+    unfolding marksOf
+    claim-taken h = taken-not-free a run p n (under a s m) ap′ (omega (arith, h)) (omega (arith, u)) one
+
+    module _ (h : s .packed ≤ p) where
+      claim-behind : free p n (marksOf a s m) ≡ allZero (part n p (under a s m))
+      unfolding marksOf
+      claim-behind = free-behind a run p n (under a s m) (omega (arith, h)) (omega (arith, u))
+
+      pub claim-scattered : s .scattered ≡ true → free p n (marksOf a s m) ≡ allZero (part n p m)
+      claim-scattered e = claim-behind ∙ rw e
+
+      pub claim-packed : s .scattered ≡ false → free p n (marksOf a s m) ≡ true
+      claim-packed e = claim-behind ∙ rw e (zeros-free (length m) p n)
+
+      -- the marks with the value taken: in the scratch, by the end of the packed ones, and in a scratch that was cleared
+      claim-swap : mark p n (marksOf a s m) ≡ mark a run (mark p n (under a s m))
+      unfolding marksOf
+      claim-swap = mark-swap p n a run (under a s m) (omega (arith, u)) (omega (arith, u))
+
+    pub claimed-packed : p ≡ s .packed → s .scattered ≡ false → mark p n (marksOf a s m) ≡ marksOf a (record { packed = p + n; scattered = false }) m
+    unfolding marksOf
+    claimed-packed e f =
+        let x : min (s .packed) (length m) ≡ p = omega arith in
+        let y : min (p + n) (length m) ≡ p + n = omega arith in
+        let z : length {A = ℕ} (replicate (length m) 0) ≡ length m = length-replicate (length m) 0 in
+        rw (x, y, f) (mark-run a p n (replicate (length m) 0) ap′ (omega (arith, z, l)))
+
+-- the scratch after a value was marked in it: as it was, or cleared before
+pub claimed-scattered : (a : ℕ) (s : Taken) (m m′ : List ℕ) (p n : ℕ) → a ≤ p → 1 ≤ n → p + n ≤ length m → s .packed ≤ p → s .scattered ≡ true
+    → m′ ≡ splice n p (replicate n 1) m → mark p n (marksOf a s m) ≡ marksOf a s m′
+unfolding marksOf mark
+claimed-scattered a s m m′ p n h o l q e r =
+    let k : length m′ ≡ length m = ap length r ∙ length-splice n p (replicate n 1) m l (length-replicate n 1) in
+    claim-swap a s m p n h o l q ∙ rw (k, e, r)
+
+pub claimed-first : (a : ℕ) (s : Taken) (m o m′ : List ℕ) (p n : ℕ) → a ≤ p → 1 ≤ n → p + n ≤ length m → s .packed ≤ p → s .scattered ≡ false
+    → o ≡ replicate (length m) 0 → m′ ≡ splice n p (replicate n 1) o → mark p n (marksOf a s m) ≡ marksOf a (record { packed = s .packed; scattered = true }) m′
+unfolding marksOf mark
+claimed-first a s m o m′ p n h i l q e z r =
+    let j : length o ≡ length m = ap length z ∙ length-replicate (length m) 0 in
+    let k : length m′ ≡ length m = ap length r ∙ length-splice n p (replicate n 1) o (omega (arith, j, l)) (length-replicate n 1) ∙ j in
+    claim-swap a s m p n h i l q ∙ rw (k, e, r, z)
+
+-- A NESTED GROUP
+
+-- what a nested group left in the scratch is gone
+module _ (a : ℕ) (s : Taken) (m m′ m″ ys : List ℕ) (p n : ℕ) (h : a ≤ length m) (l : p + n ≤ length m) (y : length ys ≡ n)
+    (e : m′ ≡ splice n p ys m) (r : m″ ≡ cond (s .scattered) (splice n p (replicate n 1) m′) m′) (t : mark p n (marksOf a s m) ≡ marksOf a s m) where
+  retaken-length : length m′ ≡ length m
+  retaken-length = ap length e ∙ length-splice n p ys m l y
+
+  pub retaken : marksOf a s m″ ≡ marksOf a s m
+  unfolding marksOf mark
+  retaken = go (s .scattered) refl
+    where
+      go : (x : Bool) → s .scattered ≡ x → marksOf a s m″ ≡ marksOf a s m
+      go true x =
+          let z : m″ ≡ mark p n m = r ∙ rw (x, e) (splice-over n p ys (replicate n 1) m y l) in
+          let k : length m″ ≡ length m = ap length z ∙ length-marked p n m l in
+          let w : mark a (min (s .packed) (length m) - a) (mark p n m) ≡ mark p n (mark a (min (s .packed) (length m) - a) m) = mark-swap a (min (s .packed) (length m) - a) p n m (omega arith) l in
+          rw (k, x, z) (w ∙ rw x at t)
+      go false x =
+          let q : m″ ≡ m′ = r ∙ rw x in
+          let k : length m″ ≡ length m = ap length q ∙ retaken-length in
+          rw (k, x)
+
+-- PADS
+
+ones-pads : (r : ℕ) (xs bs : List ℕ) → padsZero (replicate r 1 ++ xs) bs ≡ padsZero xs (drop r bs)
+unfolding padsZero
+ones-pads zero xs bs = refl
+ones-pads (suc r) xs [] = sym (nothing xs)
+  where
+    nothing : (xs : List ℕ) → padsZero xs [] ≡ true
+    nothing [] = refl
+    nothing (x ∷ xs) = refl
+ones-pads (suc r) xs (b ∷ bs) = ones-pads r xs bs
+
+zeros-pads : (zs bs : List ℕ) → allZero zs ≡ true → length zs ≡ length bs → padsZero zs bs ≡ allZero bs
+unfolding padsZero allZero
+zeros-pads [] [] h e = refl
+zeros-pads [] (b ∷ bs) h e = absurd (omega arith)
+zeros-pads (z ∷ zs) [] h e = absurd (omega arith)
+zeros-pads (z ∷ zs) (b ∷ bs) h e =
+    let q = and-both (eqb z 0) (allZero zs) h in
+    let x : z ≡ 0 = eqb-true z 0 (q .0) in
+    rw x (ap (λ (c : Bool). eqb b 0 && c) (zeros-pads zs bs (q .1) (omega arith)))
+
+module _ (a : ℕ) (s : Taken) (m b : List ℕ) (same : length m ≡ length b) (room : a ≤ length b) where
+  run-pads : padsZero (drop a (marksOf a s m)) (drop a b) ≡ padsZero (drop (a + (min (s .packed) (length m) - a)) (under a s m)) (drop (a + (min (s .packed) (length m) - a)) b)
+  unfolding marksOf mark
+  run-pads =
+      let z = under a s m in
+      let r = min (s .packed) (length m) - a in
+      let f : length (take a z) ≡ a = length-take a z ∙ (let k : length z ≡ length m = under-length (s .scattered) m in omega (arith, k)) in
+      rw (drop-at (take a z) (replicate r 1 ++ drop r (drop a z)) a f, ones-pads r (drop r (drop a z)) (drop a b), drop-drop r a z, drop-drop r a b)
+
+  pub pads-from : (x : ℕ) → x ≡ max a (s .packed) → padsZero (drop a (marksOf a s m)) (drop a b) ≡ padsZero (drop x (under a s m)) (drop x b)
+  unfolding padsZero
+  pads-from x e = go (leb (s .packed) (length b)) refl
+    where
+      k : length (under a s m) ≡ length m
+      k = under-length (s .scattered) m
+
+      go : (t : Bool) → leb (s .packed) (length b) ≡ t → padsZero (drop a (marksOf a s m)) (drop a b) ≡ padsZero (drop x (under a s m)) (drop x b)
+      go true h = let q : s .packed ≤ length b = leb-true _ _ h in let y : a + (min (s .packed) (length m) - a) ≡ x = omega arith in run-pads ∙ rw y
+      go false h =
+          let q : length b < s .packed = leb-false _ _ h in
+          let y : length (under a s m) ≤ a + (min (s .packed) (length m) - a) = omega (arith, k) in
+          let z : length (under a s m) ≤ x = omega (arith, k) in
+          run-pads ∙ rw (drop-of-length-le (under a s m) y, drop-of-length-le (under a s m) z)
+
+  module _ (x : ℕ) (e : x ≡ max a (s .packed)) where
+    pub pads-scattered : s .scattered ≡ true → padsZero (drop x m) (drop x b) ≡ padsZero (drop a (marksOf a s m)) (drop a b)
+    pads-scattered f = sym (pads-from x e ∙ rw f)
+
+    pub pads-past : length b < x → true ≡ padsZero (drop a (marksOf a s m)) (drop a b)
+    unfolding padsZero
+    pads-past h = let k : length (under a s m) ≤ x = omega (arith, under-length (s .scattered) m) in sym (pads-from x e ∙ rw (drop-of-length-le (under a s m) k))
+
+    pub pads-packed : s .scattered ≡ false → x ≤ length b → allZero (part (length b - x) x b) ≡ padsZero (drop a (marksOf a s m)) (drop a b)
+    pads-packed f h =
+        let k : length {A = ℕ} (drop x (replicate (length m) 0)) ≡ length (drop x b) = simp (length-drop, length-replicate) (omega arith) in
+        let t : length (drop x b) ≤ length b - x = simp length-drop (omega arith) in
+        sym (pads-from x e ∙ rw (f, take-all (length b - x) (drop x b) t) (zeros-pads (drop x (replicate (length m) 0)) (drop x b) (zeros-drop x (replicate (length m) 0) (zeros-all (length m))) k))
+
+-- the marks, written out
+module _ (a : ℕ) (s : Taken) (m o : List ℕ) (e : o ≡ cond (s .scattered) m (replicate (length m) 0)) (y : ℕ) (iy : y ≡ min (s .packed) (length o)) where
+  o-length : length o ≡ length m
+  o-length = ap length e ∙ under-length (s .scattered) m
+
+  pub written-some : (m′ : List ℕ) → m′ ≡ splice (y - a) a (replicate (y - a) 1) o → m′ ≡ marksOf a s m
+  unfolding marksOf mark
+  written-some m′ r = let k : y ≡ min (s .packed) (length m) = iy ∙ rw o-length in r ∙ rw (k, e)
+
+  pub written-none : y ≤ a → o ≡ marksOf a s m
+  unfolding marksOf mark
+  written-none h = let k : min (s .packed) (length m) - a ≡ 0 = omega (arith, iy, o-length) in e ∙ sym (rw k (splice-nil a (cond (s .scattered) m (replicate (length m) 0))))
+
+pub marks-room : (a : ℕ) (s : Taken) (m : List ℕ) (p n : ℕ) → a ≤ p → p + n ≤ length m → p + n ≤ length (marksOf a s m)
+unfolding marksOf
+marks-room a s m p n h l =
+    let u = under-length (s .scattered) m in
+    let k = length-marked a (min (s .packed) (length m) - a) (under a s m) (omega (arith, u)) in omega (arith, k, u)

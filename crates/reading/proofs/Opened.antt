@@ -1,0 +1,165 @@
+-- An accepted message, opened: what its acceptance shows of its fields.
+use mathlib.Core.Path.{_≡_, refl, ap, _∙_}
+use mathlib.Core.Bool.{Bool, true, false, cond, and-eq-true-iff}
+use mathlib.Core.List.{List, [], _∷_, _++_, append-assoc}
+use Prim.Native.Nat.{ℕ, zero, suc, _+_, _<_, _≤_}
+use native.Mathlib.Omega.{arith}
+use lib.ListN.{length, replicate}
+use lib.Dec.{eqb, leb}
+use borrow.Author.Tests.{leb-true, ltb-true, eqb-true}
+use Rattle.wire.specs.Bytes.{part}
+use Rattle.schema.specs.Schema.{Kind, plain, inline, indirect, static, dynamic, Field, Group, kindWidth, valueWidth, fieldWidth, fieldsWidth, fieldsOf, width, shallowKind, shallowFields, shallow, find, known}
+use Rattle.schema.specs.Table.{schema}
+use Rattle.schema.specs.Layout.{Layout, widthIn}
+use Rattle.message.specs.Sheet.{GB, markBytes}
+use Rattle.message.specs.Walk.{strict, Inner, Here, here, done, Reader, byte, word, kindR, inlineR, indirectR, textR, innerR, fieldsR, staticR, behindR, bodyR, headR, groupR, walk}
+use Rattle.message.specs.Conforms.{typeId}
+use Rattle.reading.specs.Item.{itemFrom, itemOf, valueItem, sequenceItem, fieldItem}
+use Rattle.reading.specs.Laid.{Led, Laid, ItemLaid, PartLaid}
+use Rattle.reading.specs.Part.{partOf}
+use Rattle.reading.specs.declared.Part.the-variants.{Refusal, Lies}
+use Rattle.reading.proofs.Done.{need-done, padded-done, prefixed-done, next-done, indirect-done}
+use Rattle.reading.proofs.Read.{Read, ItemRead, item-in, fields-read}
+
+-- THE MESSAGE'S OWN GROUP
+
+module _ (gs : List Group) (b : List ℕ) where
+  -- the readers of a message's dynamic groups and of its static groups
+  abbrev pub inner : Inner
+  inner = groupR strict gs 7
+
+  abbrev pub statics : ℕ → Reader
+  statics = staticR gs inner 4
+
+  abbrev pub fieldsIn : List Field
+  fieldsIn = fieldsOf gs (find gs (typeId b))
+
+  abbrev pub top : Here
+  top = here strict b 0 (16 + width gs 5 (find gs (typeId b)))
+
+  pub record Opened (s : List ℕ) : Type 0 where
+    pub exact : length b ≡ 4 + word 0 b
+    pub long : 16 ≤ length b
+    pub named : find gs (typeId b) < length gs
+    pub fixed : 16 + fieldsWidth (width gs 4) fieldsIn ≤ length b
+    pub before : List ℕ
+    pub after : List ℕ
+    pub fields : List ℕ
+    pub rest : List ℕ
+    pub is : fieldsR inner (width gs 4) statics fieldsIn top 16 before ≡ done fields after
+    pub sheet : s ≡ (markBytes GB ++ part 8 4 b) ++ (fields ++ rest)
+
+  opened-body : (s m : List ℕ) → length b ≡ 4 + word 0 b → 16 ≤ length b → find gs (typeId b) < length gs
+      → bodyR strict gs inner (find gs (typeId b)) 0 b ≡ done s m → Opened (markBytes GB ++ s)
+  unfolding bodyR behindR staticR width
+  opened-body s m x l k e =
+      let q₁ = need-done _ _ _ _ e in
+      let q₂ = padded-done top _ (q₁ .1) in
+      let q₃ = prefixed-done (part 8 4 b) _ (q₂ .1) in
+      let q₄ = next-done _ _ (q₃ .is) in
+      let q₅ = need-done _ _ _ _ (q₄ .before) in
+      let q₆ = next-done _ _ (q₅ .1) in
+      record {
+        exact = x;
+        long = l;
+        named = k;
+        fixed = leb-true _ _ (q₁ .0);
+        before = replicate (length b) 0;
+        after = q₆ .between;
+        fields = q₆ .first;
+        rest = q₆ .second ++ q₄ .second;
+        is = q₆ .before;
+        sheet = ap (λ y. markBytes GB ++ y) (q₃ .whole ∙ ap (λ y. part 8 4 b ++ y) (q₄ .whole ∙ ap (λ y. y ++ q₄ .second) (q₆ .whole))) ∙ simp append-assoc;
+      }
+
+  pub opened : (s m : List ℕ) → walk strict gs b ≡ done s m → Opened s
+  unfolding walk groupR headR known
+  opened s m e =
+      let q₁ = need-done _ _ _ _ e in
+      let q₂ = prefixed-done _ _ (q₁ .1) in
+      let q₃ = need-done _ _ _ _ (q₂ .is) in
+      let q₄ = need-done _ _ _ _ (q₃ .1) in
+      let q₅ = need-done _ _ _ _ (q₄ .1) in
+      rw (q₂ .whole) (opened-body (q₂ .rest) m (eqb-true _ _ (and-eq-true-iff (leb 4 (length b)) _ .0 (q₁ .0) .1)) (leb-true _ _ (q₃ .0)) (ltb-true _ _ (q₄ .0)) (q₅ .1))
+
+  -- every item of an accepted message was read where it lies, and its record is part of the sheet
+  pub item-read : (s m : List ℕ) → walk strict gs b ≡ done s m → (n i : ℕ) → ItemRead inner (width gs 4) statics top (itemOf gs b n i) s
+  unfolding itemOf
+  item-read s m e n i =
+      let o = opened s m e in
+      item-in inner (width gs 4) statics top (itemFrom (width gs 4) fieldsIn b 16 n i) (o .fields) (fields-read inner (width gs 4) statics top fieldsIn 16 (o .before) n i (o .is) (o .fixed)) (markBytes GB ++ part 8 4 b) (o .rest) s (o .sheet)
+
+-- ONE KIND: WHERE ITS BYTES LIE
+
+module _ (I : Inner) (sw : ℕ → ℕ) (S : ℕ → Reader) (h : Here) where
+  led : (inside : ℕ → Reader) (p : ℕ) (m s m′ : List ℕ) → indirectR 26 1 inside h p m ≡ done s m′ → p + 4 ≤ length (h .bytes) → Led (h .bytes) p
+  led inside p m s m′ e l = record { offset = l; word = omega (arith, indirect-done 26 1 inside h p m e .whole) }
+
+  pub item-laid : (k : Kind) (p : ℕ) (s : List ℕ) → Read I sw S h k p s → ItemLaid (h .bytes) k p
+  unfolding kindR kindWidth
+  item-laid (plain w t) p s r = tt
+  item-laid (inline u c) p s r = omega (arith, r .inside)
+  item-laid (indirect u) p s r = led (textR u) p (r .before) (r .sheet) (r .after) (r .is) (r .inside)
+  item-laid (static g) p s r = tt
+  item-laid (dynamic g) p s r = led (innerR I g) p (r .before) (r .sheet) (r .after) (r .is) (r .inside)
+
+  inline-whole : (u : Bool) (c p : ℕ) (m s m′ : List ℕ) → inlineR u c h p m ≡ done s m′ → byte p (h .bytes) ≤ c
+  unfolding inlineR
+  inline-whole u c p m s m′ e = leb-true _ _ (need-done _ _ _ _ e .0)
+
+  fixed-laid : (c : Bool) (p w : ℕ) → p + w ≤ length (h .bytes) → PartLaid (h .bytes) (cond c (Lies p w) (Refusal 48))
+  fixed-laid true p w l = l
+  fixed-laid false p w l = tt
+
+  pub part-laid : (t : ℕ) (k : Kind) (p : ℕ) (s : List ℕ) → Read I sw S h k p s → PartLaid (h .bytes) (partOf t k (h .bytes) p)
+  unfolding kindR kindWidth partOf
+  part-laid t (plain w x) p s r = fixed-laid (eqb t 19) p w (r .inside)
+  part-laid t (inline u c) p s r = omega (arith, r .inside, inline-whole u c p (r .before) (r .sheet) (r .after) (r .is))
+  part-laid t (indirect u) p s r = omega (arith, indirect-done 26 1 (textR u) h p (r .before) (r .is) .whole)
+  part-laid t (static g) p s r = tt
+  part-laid t (dynamic g) p s r = omega (arith, indirect-done 26 1 (innerR I g) h p (r .before) (r .is) .whole)
+
+-- THE WIDTHS OF THE INDEX
+-- Those of the fields at hand are the walk's: no static group is deeper than its own.
+
+module _ (u v : ℕ → ℕ) where
+  abbrev Same : List Field → Type 0
+  Same [] = Unit
+  Same (f ∷ fs) = (kindWidth u (f .kind) ≡ kindWidth v (f .kind)) × Same fs
+
+  same-width : (f : Field) → kindWidth u (f .kind) ≡ kindWidth v (f .kind) → fieldWidth u f ≡ fieldWidth v f
+  unfolding fieldWidth valueWidth
+  same-width f e = rw e
+
+  same-field : (f : Field) (b : List ℕ) (at i : ℕ) → kindWidth u (f .kind) ≡ kindWidth v (f .kind) → fieldItem u f b at i ≡ fieldItem v f b at i
+  unfolding fieldItem valueItem sequenceItem
+  same-field f b at i e = rw e
+
+  pub same-item : (fs : List Field) (b : List ℕ) (at n i : ℕ) → Same fs → itemFrom u fs b at n i ≡ itemFrom v fs b at n i
+  unfolding itemFrom
+  same-item [] b at n i e = refl
+  same-item (f ∷ fs) b at zero i e = same-field f b at i (e .0)
+  same-item (f ∷ fs) b at (suc n) i e = rw (same-width f (e .0)) (same-item fs b _ n i (e .1))
+
+  pub same-laid : (fs : List Field) (b : List ℕ) (at : ℕ) → Same fs → Laid v b fs at → Laid u b fs at
+  same-laid [] b at e l = tt
+  same-laid (f ∷ fs) b at e l =
+      (record { inside = rw (same-width f (e .0)) (l .0 .inside); list = l .0 .list }, rw (same-width f (e .0)) (same-laid fs b _ (e .1) (l .1)))
+
+module _ (t k : List ℕ) (P : Layout t k) where
+  same-kind : (x : Kind) → shallowKind (shallow (schema t) 4) (width (schema t) 4) x ≡ true → kindWidth (widthIn k) x ≡ kindWidth (width (schema t) 4) x
+  unfolding kindWidth shallowKind
+  same-kind (plain w c) e = refl
+  same-kind (inline u c) e = refl
+  same-kind (indirect u) e = refl
+  same-kind (static g) e = P .wide 4 g (and-eq-true-iff (leb 1 (width (schema t) 4 g)) _ .0 e .1)
+  same-kind (dynamic g) e = refl
+
+  same-kinds : (fs : List Field) → shallowFields (shallow (schema t) 4) (width (schema t) 4) fs ≡ true → Same (widthIn k) (width (schema t) 4) fs
+  unfolding shallowFields
+  same-kinds [] e = tt
+  same-kinds (f ∷ fs) e = let q = and-eq-true-iff _ _ .0 e in (same-kind (f .kind) (q .0), same-kinds fs (q .1))
+
+  pub same-group : (g : ℕ) → Same (widthIn k) (width (schema t) 4) (fieldsOf (schema t) g)
+  unfolding shallow
+  same-group g = same-kinds (fieldsOf (schema t) g) (P .shallows g)

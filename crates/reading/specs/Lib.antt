@@ -1,0 +1,5 @@
+pub mod Item
+pub mod Number
+pub mod Part
+pub mod Laid
+pub mod Cases

@@ -1,0 +1,71 @@
+-- What the code that writes a sheet asks of its callers and what it leaves. It walks a message that the check accepted, so it tests nothing and keeps no marks:
+-- it speaks of what a reader gives for some marks, wherever its group starts in the message.
+use mathlib.Core.Path.{_≡_}
+use mathlib.Core.List.{List}
+use Prim.Native.Nat.{ℕ, _+_, _≤_}
+use lib.ListN.{length, drop}
+use Rattle.wire.specs.Bytes.{splice}
+use Rattle.schema.specs.Schema.{any}
+use Rattle.schema.specs.Table.{fieldAt, enums, schema}
+use Rattle.schema.specs.FieldKinds.{kindFrom}
+use Rattle.schema.specs.declared.FieldKind.{FieldKind}
+use Rattle.message.specs.Sheet.{VA, GB}
+use Rattle.message.specs.Walk.{Reading, done, here, strict, Reader, markedR, plainR, indirectR, innerR, fieldR, extendingR, extensionR, groupR}
+use Rattle.message.specs.Check.{itemR, markedValueR, innerOf, widthOf, staticOf}
+
+-- What is read at one place of a message, by the start of its group, the group's data area and its marks.
+abbrev pub Passage : Type 0
+Passage = ℕ → ℕ → List ℕ → Reading
+
+-- What R reads at `at` of a group's bytes b; and the whole group b, with so many levels left for it.
+abbrev pub passage : Reader → List ℕ → ℕ → Passage
+passage R b at base area m = R (here strict b base area) at m
+
+abbrev pub whole : List ℕ → ℕ → ℕ → List ℕ → Passage
+whole t levels allowed b base area m = groupR strict (schema t) levels allowed base b
+
+-- READERS, AS THE CODE CALLS THEM
+-- by the table t, the levels left below the group, the static depth below which it lies, and where the field's record stands
+
+abbrev pub plainOf : ℕ → Reader
+plainOf w = markedR VA (plainR w any)
+
+abbrev pub itemOf : List ℕ → ℕ → ℕ → FieldKind → Reader
+itemOf t levels depth kind = itemR (innerOf t levels) (staticOf t levels depth) (kindFrom (enums t) kind)
+
+abbrev pub valueOf : List ℕ → ℕ → ℕ → ℕ → Reader
+valueOf t levels depth field = markedValueR (innerOf t levels) (widthOf t depth) (staticOf t levels depth) (fieldAt (enums t) (drop field t))
+
+abbrev pub fieldOf : List ℕ → ℕ → ℕ → ℕ → Reader
+fieldOf t levels depth field = fieldR (innerOf t levels) (widthOf t depth) (staticOf t levels depth) (fieldAt (enums t) (drop field t))
+
+-- a dynamic group of 4 + n bytes; an extension, and one of its groups
+abbrev pub nestedOf : List ℕ → ℕ → ℕ → ℕ → Reader
+nestedOf t levels allowed n = markedR GB (innerR (innerOf t levels) allowed n)
+
+abbrev pub extensionOf : List ℕ → ℕ → Reader
+extensionOf t levels = extensionR (schema t) (innerOf t levels)
+
+abbrev pub extendingOf : List ℕ → ℕ → Reader
+extendingOf t levels = indirectR 26 1 (extendingR (schema t) (innerOf t levels))
+
+-- WHAT IS WRITTEN
+
+-- s is the sheet of the passage.
+pub record Reads (F : Passage) (s : List ℕ) : Type 0 where
+  pub base : ℕ
+  pub area : ℕ
+  pub marks : List ℕ
+  pub taken : List ℕ
+  pub is : F base area marks ≡ done s taken
+
+-- The passage has a sheet, and `out` has room for it from `pos` on.
+pub record Fits (F : Passage) (pos : ℕ) (out : List ℕ) : Type 0 where
+  pub sheet : List ℕ
+  pub reads : Reads F sheet
+  pub room : pos + length sheet ≤ length out
+
+-- Its sheet stands in `out` from `pos` on, which became `left`, and ends at `end`. All else is what stood there.
+pub record Shown (F : Passage) (pos : ℕ) (out left : List ℕ) (end : ℕ) : Type 0 where
+  pub bytes : (s : List ℕ) → Reads F s → pos + length s ≤ length out → left ≡ splice (length s) pos s out
+  pub ends : (s : List ℕ) → Reads F s → pos + length s ≤ length out → end ≡ pos + length s

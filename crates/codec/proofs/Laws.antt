@@ -11,11 +11,11 @@ use Rattle.schema.specs.declared.Verdict.the-variants.{Accepted, Refused}
 use Rattle.schema.specs.Faults.{need, also}
 use Rattle.schema.specs.Table.{schema, tableVerdict}
 use Rattle.schema.specs.Layout.{Layout}
-use Rattle.message.specs.declared.Checked.{Checked}
-use Rattle.message.specs.declared.Checked.the-variants.{Accepted as Passed, Refused as Failed}
+use Rattle.message.specs.declared.Walked.{Walked}
+use Rattle.message.specs.declared.Walked.the-variants.{Counted as Passed, Refused as Failed}
 use Rattle.message.specs.Walk.{Reading, refused, done, strict, walk, messageR}
 use Rattle.message.specs.Count.{count}
-use Rattle.message.specs.Check.{checkedOf, after}
+use Rattle.message.specs.Check.{countOf, after}
 use Rattle.reading.specs.declared.Number.the-variants.{Refused as NotRead}
 use Rattle.reading.specs.declared.Part.the-variants.{Refusal}
 use Rattle.reading.specs.Item.{itemOf}
@@ -41,13 +41,13 @@ module _ (t b s : List ℕ) (n p : ℕ) (e : Refused n p ≡ tableVerdict t) whe
   scratch-20 = rw (← e)
 
 -- what a check says of the walk
-passed-means : (x : Reading) (k : ℕ) → checkedOf (Passed k) ≡ after 0 (count x) → (s : List ℕ) × (m : List ℕ) × (x ≡ done s m)
-unfolding checkedOf after count
+passed-means : (x : Reading) (k : ℕ) → countOf (Passed k) [] ≡ after 0 (count x) → (s : List ℕ) × (m : List ℕ) × (x ≡ done s m)
+unfolding countOf after count
 passed-means (refused n p) k e = let z : _≡_ {A = ℕ} 0 1 = cc in absurd (omega arith)
 passed-means (done s m) k e = (s, m, refl)
 
-failed-refuses : (x : Reading) (n p : ℕ) → checkedOf (Failed n p) ≡ after 0 (count x) → verdictOf x ≡ Refused n p
-unfolding checkedOf after count verdictOf
+failed-refuses : (x : Reading) (n p : ℕ) → countOf (Failed n p) [] ≡ after 0 (count x) → verdictOf x ≡ Refused n p
+unfolding countOf after count verdictOf
 failed-refuses (refused n′ p′) n p e = cc
 failed-refuses (done s m) n p e = let z : _≡_ {A = ℕ} 0 1 = cc in absurd (omega arith)
 
@@ -79,13 +79,13 @@ module _ (t b s : List ℕ) (e : Accepted ≡ tableVerdict t) where
     unfolding messageR need
     walked = rw (le-leb _ _ fits, le-leb _ _ room)
 
-    pub opens : (k : List ℕ) → Layout t k → (n : ℕ) → checkedOf (Passed n) ≡ after 0 (count (walk strict (schema t) b)) → Opened t b (length s) k Accepted
+    pub opens : (k : List ℕ) → Layout t k → (n : ℕ) → countOf (Passed n) [] ≡ after 0 (count (walk strict (schema t) b)) → Opened t b (length s) k Accepted
     unfolding verdictOf
     opens k l n c =
         let w = passed-means (walk strict (schema t) b) n c in
         record { verdict = sym (under ∙ ap verdictOf (walked ∙ w .2)); layout = λ a. l; means = λ a. w }
 
-    pub verdict-refused : (n p : ℕ) → checkedOf (Failed n p) ≡ after 0 (count (walk strict (schema t) b)) → messageVerdict t b (length s) ≡ Refused n p
+    pub verdict-refused : (n p : ℕ) → countOf (Failed n p) [] ≡ after 0 (count (walk strict (schema t) b)) → messageVerdict t b (length s) ≡ Refused n p
     verdict-refused n p c = under ∙ ap verdictOf walked ∙ failed-refuses _ n p c
 
     pub scratch-cleared : scratchAfter t b s ≡ splice (length b) 0 (replicate (length b) 0) s

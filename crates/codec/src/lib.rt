@@ -118,7 +118,7 @@ fn open_under(table: &[u8], index: &[u16], message: &[u8], scratch: &mut [u8]) -
     }
     let checked = message::check(table, index, message, scratch);
     match checked {
-        message::Checked::Accepted { length } => Verdict::Accepted,
-        message::Checked::Refused { number, place } => Verdict::Refused { number, place },
+        message::Walked::Counted { length } => Verdict::Accepted,
+        message::Walked::Refused { number, place } => Verdict::Refused { number, place },
     }
 }

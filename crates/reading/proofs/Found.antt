@@ -21,17 +21,17 @@ use Rattle.schema.proofs.Groups.{placed-fields, find-whole}
 use Rattle.message.specs.Walk.{byte}
 use Rattle.message.specs.Conforms.{target, countAt, typeId}
 use Rattle.message.proofs.Tests.{true-false, or-cases}
-use Rattle.reading.specs.Item.{Accepted, Item, missing, item, itemFrom, itemOf, fieldIn, itemIn, Recorded}
+use Rattle.reading.specs.Item.{Accepted, Item, missing, item, itemFrom, itemOf, fieldIn, fieldsIn, itemIn, Recorded}
 use Rattle.reading.specs.Number.{numberTypes, numberWidth, numberOf, numberAt}
 use Rattle.reading.specs.Part.{partOf, partAt, bytesIn, startOf}
-use Rattle.reading.specs.Laid.{Led, Laid, ItemLaid, PartLaid}
+use Rattle.reading.specs.Laid.{Led, Laid, ItemLaid}
 use Rattle.reading.specs.declared.Located.{Located}
 use Rattle.reading.specs.declared.Located.the-variants.{Missing, At}
 use Rattle.reading.specs.declared.Part.{Part}
 use Rattle.reading.specs.declared.Part.the-variants.{Refusal, Lies}
 use Rattle.reading.specs.declared.Number.the-variants.{Refused}
-use Rattle.reading.proofs.Read.{Read, ItemRead, fields-laid}
-use Rattle.reading.proofs.Opened.{inner, statics, fieldsIn, top, Opened, opened, item-read, item-laid, part-laid, same-item, same-laid, same-group}
+use Rattle.reading.proofs.Read.{fields-laid}
+use Rattle.reading.proofs.Opened.{inner, statics, ownFields, top, Opened, opened, KindRead, OwnRead, item-read, item-laid, PartLaid, part-laid, same-item, same-laid, same-group}
 
 -- A TYPE'S NUMBER LIES IN ITS KIND'S BYTES
 
@@ -77,27 +77,24 @@ module _ (t k b : List ℕ) (P : Layout t k) (A : Accepted t b) where
       pub rows-in : r + 16 + 16 * c ≤ length t
       rows-in = rw (counts, at) (P .placed .inside g group-in)
 
-      fields-are : fieldsIn (schema t) b ≡ fieldsAt (enums t) c (drop (r + 16) t)
+      fields-are : ownFields (schema t) b ≡ fieldsIn t (r + 16) c
       fields-are = rw (← is, counts, at) (placed-fields t k (length (schema t)) (P .placed) g group-in)
 
-      pub rows-laid : Laid (widthIn k) b (fieldsAt (enums t) c (drop (r + 16) t)) 16
+      pub rows-laid : Laid (widthIn k) b (fieldsIn t (r + 16) c) 16
       rows-laid =
-          rw fields-are at (same-laid (widthIn k) (width (schema t) 4) (fieldsIn (schema t) b) b 16 (same-group t k P (find (schema t) (typeId b)))
-          (fields-laid (inner (schema t) b) (width (schema t) 4) (statics (schema t) b) (top (schema t) b) (fieldsIn (schema t) b) 16 (own .before) (own .is) (own .fixed)))
+          rw fields-are at (same-laid (widthIn k) (width (schema t) 4) (ownFields (schema t) b) b 16 (same-group t k P (find (schema t) (typeId b)))
+          (fields-laid (inner (schema t) b) (width (schema t) 4) (statics (schema t) b) (top (schema t) b) (ownFields (schema t) b) 16 (own .before) (own .is) (own .fixed)))
 
-      pub rows-item : (n i : ℕ) → itemFrom (widthIn k) (fieldsAt (enums t) c (drop (r + 16) t)) b 16 n i ≡ itemOf (schema t) b n i
+      pub rows-item : (n i : ℕ) → itemFrom (widthIn k) (fieldsIn t (r + 16) c) b 16 n i ≡ itemOf (schema t) b n i
       unfolding itemOf
-      rows-item n i = rw (← fields-are) (same-item (widthIn k) (width (schema t) 4) (fieldsIn (schema t) b) b 16 n i (same-group t k P (find (schema t) (typeId b))))
+      rows-item n i = rw (← fields-are) (same-item (widthIn k) (width (schema t) 4) (ownFields (schema t) b) b 16 n i (same-group t k P (find (schema t) (typeId b))))
 
 -- THE ITEM THAT WAS FOUND
 
 module _ (t b : List ℕ) (A : Accepted t b) (v : Located) (n i : ℕ) (is : itemIn t v ≡ itemOf (schema t) b n i) where
-  abbrev ItemReads : Item → Type 0
-  ItemReads x = ItemRead (inner (schema t) b) (width (schema t) 4) (statics (schema t) b) (top (schema t) b) x (A .0)
-
-  pub found-read : (r p : ℕ) → v ≡ At r p → Read (inner (schema t) b) (width (schema t) 4) (statics (schema t) b) (top (schema t) b) (fieldIn t r .kind) p (A .0)
+  pub found-read : (r p : ℕ) → v ≡ At r p → KindRead (schema t) b (fieldIn t r .kind) p (A .0)
   unfolding itemIn
-  found-read r p e = subst (λ (v : Located). ItemReads (itemIn t v)) e (subst ItemReads (sym is) (item-read (schema t) b (A .0) (A .1) (A .2) n i))
+  found-read r p e = subst (λ (v : Located). OwnRead (schema t) b (itemIn t v) (A .0)) e (subst (λ (x : Item). OwnRead (schema t) b x (A .0)) (sym is) (item-read (schema t) b (A .0) (A .1) (A .2) n i))
 
   pub found-laid : (r p : ℕ) → v ≡ At r p → ItemLaid b (fieldIn t r .kind) p
   found-laid r p e = item-laid (inner (schema t) b) (width (schema t) 4) (statics (schema t) b) (top (schema t) b) _ p (A .0) (found-read r p e)
@@ -141,7 +138,7 @@ part-inside t b A n i v is p m e =
     let r = item-read (schema t) b (A .0) (A .1) (A .2) n i in
     subst (PartLaid b) (sym is ∙ e) (go (itemOf (schema t) b n i) r)
   where
-    go : (x : Item) → ItemRead (inner (schema t) b) (width (schema t) 4) (statics (schema t) b) (top (schema t) b) x (A .0) → PartLaid b (partAt b x)
+    go : (x : Item) → OwnRead (schema t) b x (A .0) → PartLaid b (partAt b x)
     go (missing n) r = tt
     go (item f p) r = part-laid (inner (schema t) b) (width (schema t) 4) (statics (schema t) b) (top (schema t) b) (f .type) (f .kind) p (A .0) r
 

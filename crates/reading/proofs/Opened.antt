@@ -14,9 +14,10 @@ use Rattle.schema.specs.Layout.{Layout, widthIn}
 use Rattle.message.specs.Sheet.{GB, markBytes}
 use Rattle.message.specs.Walk.{strict, Inner, Here, here, done, Reader, byte, word, kindR, inlineR, indirectR, textR, innerR, fieldsR, staticR, behindR, bodyR, headR, groupR, walk}
 use Rattle.message.specs.Conforms.{typeId}
-use Rattle.reading.specs.Item.{itemFrom, itemOf, valueItem, sequenceItem, fieldItem}
-use Rattle.reading.specs.Laid.{Led, Laid, ItemLaid, PartLaid}
+use Rattle.reading.specs.Item.{Item, itemFrom, itemOf, valueItem, sequenceItem, fieldItem}
+use Rattle.reading.specs.Laid.{Led, Laid, ItemLaid}
 use Rattle.reading.specs.Part.{partOf}
+use Rattle.reading.specs.declared.Part.{Part}
 use Rattle.reading.specs.declared.Part.the-variants.{Refusal, Lies}
 use Rattle.reading.proofs.Done.{need-done, padded-done, prefixed-done, next-done, indirect-done}
 use Rattle.reading.proofs.Read.{Read, ItemRead, item-in, fields-read}
@@ -31,8 +32,8 @@ module _ (gs : List Group) (b : List ℕ) where
   abbrev pub statics : ℕ → Reader
   statics = staticR gs inner 4
 
-  abbrev pub fieldsIn : List Field
-  fieldsIn = fieldsOf gs (find gs (typeId b))
+  abbrev pub ownFields : List Field
+  ownFields = fieldsOf gs (find gs (typeId b))
 
   abbrev pub top : Here
   top = here strict b 0 (16 + width gs 5 (find gs (typeId b)))
@@ -41,12 +42,12 @@ module _ (gs : List Group) (b : List ℕ) where
     pub exact : length b ≡ 4 + word 0 b
     pub long : 16 ≤ length b
     pub named : find gs (typeId b) < length gs
-    pub fixed : 16 + fieldsWidth (width gs 4) fieldsIn ≤ length b
+    pub fixed : 16 + fieldsWidth (width gs 4) ownFields ≤ length b
     pub before : List ℕ
     pub after : List ℕ
     pub fields : List ℕ
     pub rest : List ℕ
-    pub is : fieldsR inner (width gs 4) statics fieldsIn top 16 before ≡ done fields after
+    pub is : fieldsR inner (width gs 4) statics ownFields top 16 before ≡ done fields after
     pub sheet : s ≡ (markBytes GB ++ part 8 4 b) ++ (fields ++ rest)
 
   opened-body : (s m : List ℕ) → length b ≡ 4 + word 0 b → 16 ≤ length b → find gs (typeId b) < length gs
@@ -82,14 +83,26 @@ module _ (gs : List Group) (b : List ℕ) where
       let q₅ = need-done _ _ _ _ (q₄ .1) in
       rw (q₂ .whole) (opened-body (q₂ .rest) m (eqb-true _ _ (and-eq-true-iff (leb 4 (length b)) _ .0 (q₁ .0) .1)) (leb-true _ _ (q₃ .0)) (ltb-true _ _ (q₄ .0)) (q₅ .1))
 
+  -- the message's own readers read this kind, this item
+  abbrev pub KindRead : Kind → ℕ → List ℕ → Type 0
+  KindRead k p s = Read inner (width gs 4) statics top k p s
+
+  abbrev pub OwnRead : Item → List ℕ → Type 0
+  OwnRead x s = ItemRead inner (width gs 4) statics top x s
+
   -- every item of an accepted message was read where it lies, and its record is part of the sheet
-  pub item-read : (s m : List ℕ) → walk strict gs b ≡ done s m → (n i : ℕ) → ItemRead inner (width gs 4) statics top (itemOf gs b n i) s
+  pub item-read : (s m : List ℕ) → walk strict gs b ≡ done s m → (n i : ℕ) → OwnRead (itemOf gs b n i) s
   unfolding itemOf
   item-read s m e n i =
       let o = opened s m e in
-      item-in inner (width gs 4) statics top (itemFrom (width gs 4) fieldsIn b 16 n i) (o .fields) (fields-read inner (width gs 4) statics top fieldsIn 16 (o .before) n i (o .is) (o .fixed)) (markBytes GB ++ part 8 4 b) (o .rest) s (o .sheet)
+      item-in inner (width gs 4) statics top (itemFrom (width gs 4) ownFields b 16 n i) (o .fields) (fields-read inner (width gs 4) statics top ownFields 16 (o .before) n i (o .is) (o .fixed)) (markBytes GB ++ part 8 4 b) (o .rest) s (o .sheet)
 
 -- ONE KIND: WHERE ITS BYTES LIE
+
+-- a part lies in the message
+abbrev pub PartLaid : List ℕ → Part → Type 0
+PartLaid b (Refusal n) = Unit
+PartLaid b (Lies p n) = p + n ≤ length b
 
 module _ (I : Inner) (sw : ℕ → ℕ) (S : ℕ → Reader) (h : Here) where
   led : (inside : ℕ → Reader) (p : ℕ) (m s m′ : List ℕ) → indirectR 26 1 inside h p m ≡ done s m′ → p + 4 ≤ length (h .bytes) → Led (h .bytes) p

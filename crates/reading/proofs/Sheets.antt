@@ -22,7 +22,7 @@ use Rattle.reading.specs.declared.Located.the-variants.{At}
 use Rattle.reading.specs.Number.{numberTypes, numberWidth}
 use Rattle.reading.proofs.Done.{need-done, next-done, indirect-done}
 use Rattle.reading.proofs.Read.{Read}
-use Rattle.reading.proofs.Opened.{inner, statics, top}
+use Rattle.reading.proofs.Opened.{inner, statics, top, KindRead}
 use Rattle.reading.proofs.Found.{every, among, number-kind, found-read}
 use Rattle.reading.proofs.Alike.{alike-done, deeper-alike, any-alike}
 
@@ -60,7 +60,7 @@ module _ (I : Inner) (sw : ℕ → ℕ) (S : ℕ → Reader) (h : Here) where
 -- A DYNAMIC GROUP
 -- "for a dynamic group with its size word, so that it is a message too": and its own sheet is what the outer message's sheet holds of it.
 
-module _ (gs : List Group) (b s : List ℕ) (a p : ℕ) (r : Read (inner gs b) (width gs 4) (statics gs b) (top gs b) (dynamic a) p s) where
+module _ (gs : List Group) (b s : List ℕ) (a p : ℕ) (r : KindRead gs b (dynamic a) p s) where
   abbrev sub : List ℕ
   sub = part (4 + countAt b p) (target b p) b
 
@@ -105,7 +105,7 @@ module _ (t b : List ℕ) (A : Accepted t b) (n i r p : ℕ) (is : itemIn t (At 
   kind = fieldIn t r .kind
 
   abbrev Reads : Kind → Type 0
-  Reads k = Read (inner (schema t) b) (width (schema t) 4) (statics (schema t) b) (top (schema t) b) k p (A .0)
+  Reads k = KindRead (schema t) b k p (A .0)
 
   reads : Reads kind
   reads = found-read t b A (At r p) n i is r p refl

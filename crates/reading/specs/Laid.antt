@@ -7,8 +7,6 @@ use lib.ListN.{length}
 use Rattle.schema.specs.Schema.{Kind, plain, inline, indirect, static, dynamic, Field, fieldWidth}
 use Rattle.message.specs.Conforms.{target}
 use Rattle.reading.specs.Item.{absent, valuePlace}
-use Rattle.reading.specs.declared.Part.{Part}
-use Rattle.reading.specs.declared.Part.the-variants.{Refusal, Lies}
 
 -- The offset at `at` and the count or size word that it leads to.
 pub record Led (b : List ℕ) (at : ℕ) : Type 0 where
@@ -31,8 +29,3 @@ ItemLaid b (inline u c) p = p + 1 ≤ length b
 ItemLaid b (indirect u) p = Led b p
 ItemLaid b (static g) p = Unit
 ItemLaid b (dynamic g) p = Led b p
-
--- A part lies in the message.
-abbrev pub PartLaid : List ℕ → Part → Type 0
-PartLaid b (Refusal n) = Unit
-PartLaid b (Lies p n) = p + n ≤ length b

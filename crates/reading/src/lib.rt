@@ -43,12 +43,6 @@ pub enum Number {
     Refused { number: u8, place: usize },
 }
 
-fn wide(x: u8) -> usize
-    ensures { λ r. ⌜ (r ≡ x) × (r < 256) ⌝ }
-{
-    x as usize
-}
-
 // WHERE AN ITEM LIES
 // A group's fields have their records in the table from `row` on. The group's bytes are a message, or
 // a dynamic group in one.
@@ -184,7 +178,7 @@ fn unsigned_at(bytes: &[u8], at: usize, width: u8) -> Number
     ensures { λ r. ⌜ r ≡ Number.Unsigned (le (part width at (now (bytes .entry)))) ⌝ }
 {
     match width {
-        1 => Number::Unsigned(wide(bytes[at]) as u64),
+        1 => Number::Unsigned(wire::wide(bytes[at]) as u64),
         2 => Number::Unsigned(wire::read_u16(bytes, at) as u64),
         4 => Number::Unsigned(wire::read_u32(bytes, at) as u64),
         _ => Number::Unsigned(wire::read_u64(bytes, at)),
@@ -277,7 +271,7 @@ pub fn part_at(table: &[u8], row: usize, bytes: &[u8], at: usize) -> Part
     if table[row + 2] == 19 {
         return Part::Lies {
             start: at,
-            length: wide(table[row + 5]),
+            length: wire::wide(table[row + 5]),
         };
     }
     let kind = schema::kind_at(table, row);
@@ -286,7 +280,7 @@ pub fn part_at(table: &[u8], row: usize, bytes: &[u8], at: usize) -> Part
         FieldKind::Number { tested } => Part::Refusal { number: 48 },
         FieldKind::Inline { utf8, capacity } => Part::Lies {
             start: at + 1,
-            length: wide(bytes[at]),
+            length: wire::wide(bytes[at]),
         },
         FieldKind::Indirect { utf8 } => {
             let start = at + wire::read_u32(bytes, at);

@@ -1,6 +1,8 @@
 use mathlib.Core.Path.{refl, sym, ap, _∙_}
 use borrow.Author.Needs.{needs}
-use Rattle.message.specs.Check.{checkedOf}
+use Rattle.message.specs.Check.{countOf}
+use Rattle.message.specs.declared.Walked.{Walked}
+use mathlib.Core.List.{[]}
 use Rattle.codec.proofs.Laws.{opens-nothing, verdict-23, scratch-23, verdict-21, scratch-21, opens, verdict-refused, scratch-cleared}
 use Rattle.codec.proofs.open_under.Statement.{statement}
 use Rattle.codec.proofs.open_under.Tie as tie
@@ -15,10 +17,10 @@ check-requires : tie.Need-check-requires
 check-requires c κs = (c .before .before .before .before .before .before .before .pre .layout refl, c .before .if2 .left, c .before .before .if1 .left)
 
 returns-3 : tie.Need-returns-3
-returns-3 c = let a = c .before .before .before .before .before .before .before .before .before .before .before .before .before .args in (opens (a .table .now) (a .message .now) (a .scratch .now) (c .before .before .before .before .before .before .before .before .before .before .before .before .before .pre .verdict) (c .before .before .before .before .before .before .before .before .if1 .left) (c .before .before .before .before .before .before .before .if2 .left) _ (c .before .before .before .before .before .before .before .before .before .before .before .before .before .pre .layout refl) _ (ap checkedOf (sym (c .before .checked .given .1)) ∙ c .before .before .before .before .before .check .ensures .0), c .before .before .before .before .before .check .ensures .1 ∙ sym (scratch-cleared (a .table .now) (a .message .now) (a .scratch .now) (c .before .before .before .before .before .before .before .before .before .before .before .before .before .pre .verdict) (c .before .before .before .before .before .before .before .before .if1 .left) (c .before .before .before .before .before .before .before .if2 .left)))
+returns-3 c = let a = c .before .before .before .before .before .before .before .before .before .before .before .before .before .args in (opens (a .table .now) (a .message .now) (a .scratch .now) (c .before .before .before .before .before .before .before .before .before .before .before .before .before .pre .verdict) (c .before .before .before .before .before .before .before .before .if1 .left) (c .before .before .before .before .before .before .before .if2 .left) _ (c .before .before .before .before .before .before .before .before .before .before .before .before .before .pre .layout refl) _ (ap (λ (w : Walked). countOf w []) (sym (c .before .checked .given .1)) ∙ c .before .before .before .before .before .check .ensures .0), c .before .before .before .before .before .check .ensures .1 ∙ sym (scratch-cleared (a .table .now) (a .message .now) (a .scratch .now) (c .before .before .before .before .before .before .before .before .before .before .before .before .before .pre .verdict) (c .before .before .before .before .before .before .before .before .if1 .left) (c .before .before .before .before .before .before .before .if2 .left)))
 
 returns-4 : tie.Need-returns-4
-returns-4 c = let a = c .before .before .before .before .before .before .before .before .before .before .before .before .before .args in (opens-nothing _ _ _ _ _ _ _ refl (verdict-refused (a .table .now) (a .message .now) (a .scratch .now) (c .before .before .before .before .before .before .before .before .before .before .before .before .before .pre .verdict) (c .before .before .before .before .before .before .before .before .if1 .left) (c .before .before .before .before .before .before .before .if2 .left) _ _ (ap checkedOf (sym (c .before .checked2 .given .1)) ∙ c .before .before .before .before .before .check .ensures .0)), c .before .before .before .before .before .check .ensures .1 ∙ sym (scratch-cleared (a .table .now) (a .message .now) (a .scratch .now) (c .before .before .before .before .before .before .before .before .before .before .before .before .before .pre .verdict) (c .before .before .before .before .before .before .before .before .if1 .left) (c .before .before .before .before .before .before .before .if2 .left)))
+returns-4 c = let a = c .before .before .before .before .before .before .before .before .before .before .before .before .before .args in (opens-nothing _ _ _ _ _ _ _ refl (verdict-refused (a .table .now) (a .message .now) (a .scratch .now) (c .before .before .before .before .before .before .before .before .before .before .before .before .before .pre .verdict) (c .before .before .before .before .before .before .before .before .if1 .left) (c .before .before .before .before .before .before .before .if2 .left) _ _ (ap (λ (w : Walked). countOf w []) (sym (c .before .checked2 .given .1)) ∙ c .before .before .before .before .before .check .ensures .0)), c .before .before .before .before .before .check .ensures .1 ∙ sym (scratch-cleared (a .table .now) (a .message .now) (a .scratch .now) (c .before .before .before .before .before .before .before .before .before .before .before .before .before .pre .verdict) (c .before .before .before .before .before .before .before .before .if1 .left) (c .before .before .before .before .before .before .before .if2 .left)))
 
 pub open-under-spec : {M : Type 1} → statement M
 open-under-spec =

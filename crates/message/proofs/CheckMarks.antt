@@ -15,7 +15,7 @@ use Rattle.message.specs.Marks.{free, mark, padsZero}
 use Rattle.message.specs.Check.{marksOf}
 use Rattle.message.specs.declared.Taken.{Taken}
 
--- for wire/proofs/Laws.antt: what stands in a place does not matter once it is written over
+-- what stands in a place does not matter once it is written over
 pub splice-over : (n p : ℕ) (xs ys s : List ℕ) → length xs ≡ n → p + n ≤ length s → splice n p ys (splice n p xs s) ≡ splice n p ys s
 splice-over n p xs ys s h l =
     let front : length (take p s) ≡ p = simp length-take (omega arith) in
@@ -25,7 +25,7 @@ splice-over n p xs ys s h l =
     = drop-drop n p (splice n p xs s) ∙ ap (drop (p + n)) (sym (append-assoc (take p s) xs (drop n (drop p s)))) ∙ drop-at (take p s ++ xs) (drop n (drop p s)) (p + n) both in
     rw (left, right)
 
--- for wire/proofs/Laws.antt: what a splice left behind it
+-- what a splice left behind it
 drop-behind : (n p q : ℕ) (ys s : List ℕ) → p + n ≤ q → p + n ≤ length s → length ys ≡ n → drop q (splice n p ys s) ≡ drop q s
 drop-behind n p q ys s h l e =
     let k : q ≡ p + n + (q - (p + n)) = omega arith in

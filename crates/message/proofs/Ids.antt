@@ -1,4 +1,4 @@
--- for table/proofs/Accepted.antt: in an accepted table no id of a group that has one came before.
+-- In an accepted table no id of a group that has one came before.
 use mathlib.Core.Path.{_≡_, refl, sym, ap, _∙_}
 use mathlib.Core.Bool.{Bool, true, false, cond, _&&_}
 use mathlib.Core.List.{List, [], _∷_}

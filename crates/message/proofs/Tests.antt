@@ -32,7 +32,7 @@ pub unless-or : (c d : Bool) → c || d ≡ true → c ≡ false → d ≡ true
 unless-or true d e z = absurd (true-false true refl z)
 unless-or false d e z = e
 
--- for wire/proofs/Laws.antt: lists that are the same are equal
+-- lists that are the same are equal
 
 pub same-eq : (x y : List ℕ) → same x y ≡ true → x ≡ y
 unfolding same

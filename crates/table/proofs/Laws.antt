@@ -50,7 +50,7 @@ rank-is v t is l = rw (← is) (go (ltb v 0x80000000) refl)
     go true e = omega (arith, ltb-true v 0x80000000 e)
     go false e = omega (arith, ltb-false v 0x80000000 e)
 
--- ZEROS (for wire/proofs/Laws.antt)
+-- ZEROS
 
 -- bytes are zero where their number is
 pub zero-le : (s : List ℕ) → allZero s ≡ eqb (le s) 0

@@ -68,7 +68,7 @@ fn loop_copy(out: &mut [u8], s: &[u8]) {
     }
 }
 
-/// The same scan, form by form, with eight bytes of ASCII at a time.
+/// The same scan, form by form, with 32 or eight bytes of ASCII at a time.
 #[inline(never)]
 fn loop_is_utf8(s: &[u8]) -> bool {
     let mut i = 0;
@@ -85,11 +85,16 @@ fn loop_is_utf8(s: &[u8]) -> bool {
 fn form_width(s: &[u8], at: usize) -> usize {
     let b = s[at];
     if b < 0x80 {
-        if s.len() - at < 8 {
+        let eight = |at: usize| {
+            u64::from_le_bytes(s[at..at + 8].try_into().expect("eight bytes")) & 0x8080_8080_8080_8080 == 0
+        };
+        if s.len() - at < 8 || !eight(at) {
             return 1;
         }
-        let eight = u64::from_le_bytes(s[at..at + 8].try_into().expect("eight bytes"));
-        return if eight & 0x8080_8080_8080_8080 == 0 { 8 } else { 1 };
+        if s.len() - at >= 32 && eight(at + 8) & eight(at + 16) & eight(at + 24) {
+            return 32;
+        }
+        return 8;
     }
     if !(0xc2..=0xf4).contains(&b) {
         return 0;

@@ -11,7 +11,7 @@ ghost use lib.ListN.{length, take, drop, getD, replicate};
 ghost use lib.Dec.{eqb};
 ghost use Rattle.wire.specs.Bytes.{part, splice};
 ghost use Rattle.schema.specs.Faults.{need};
-ghost use Rattle.schema.specs.Schema.{textOk, inline, known, kindWidth, valueWidth, fieldWidth, shallowKind, shallow};
+ghost use Rattle.schema.specs.Schema.{inline, kindWidth, valueWidth, fieldWidth, shallowKind, shallow};
 ghost use Rattle.schema.specs.Table.{fieldAt, enums, schema};
 ghost use Rattle.schema.specs.Layout.{widthIn, Layout};
 ghost use Rattle.schema.specs.FieldKinds.{kindFrom, testedKind};
@@ -59,12 +59,6 @@ struct Frame {
     base: usize,
     area: usize,
     levels: usize,
-}
-
-fn wide(x: u8) -> usize
-    ensures { λ r. ⌜ (r ≡ x) × (r < 256) ⌝ }
-{
-    x as usize
 }
 
 // The sheet's length, some bytes further. No sheet is as long as 64 bits can say, which is shown of
@@ -293,17 +287,6 @@ fn earlier(a: usize, b: usize) -> usize
 
 // VALUES THAT HOLD NO OTHER
 
-fn is_text(utf8: bool, bytes: &[u8], at: usize, count: usize) -> bool
-    requires { ⌜ at + count ≤ length (now bytes) ⌝ }
-    ensures { λ r. ⌜ r ≡ textOk utf8 (part count at (now (bytes .entry))) ⌝ }
-{
-    if utf8 {
-        let end = at + count;
-        return wire::is_utf8(&bytes[at..end]);
-    }
-    true
-}
-
 // "10, 11, 12: no such symbol; bool or flag not 0, 1; 24 hours or more"
 fn check_number(
     table: &[u8],
@@ -326,7 +309,7 @@ fn check_number(
         };
     }
     Step::Counted {
-        length: longer(before, 2 + wide(schema::tested_width(tested))),
+        length: longer(before, 2 + wire::wide(schema::tested_width(tested))),
         taken,
     }
 }
@@ -344,8 +327,8 @@ fn check_inline(
     requires { ⌜ (at + (capacity + 1) ≤ length (now bytes)) × (base + length (now bytes) ≤ 65536) ⌝ }
     ensures { λ r. ⌜ ((I : Inner) (S : ℕ → Reader) (area : ℕ) (F : Taken → List ℕ) → countBy F r ≡ after before (count (itemR I S (inline utf8 capacity) (here strict (now (bytes .entry)) base area) at (F taken)))) ⌝ }
 {
-    let room = wide(capacity);
-    let count = wide(bytes[at]);
+    let room = wire::wide(capacity);
+    let count = wire::wide(bytes[at]);
     if room < count {
         return Step::Refused {
             number: 7,
@@ -354,7 +337,7 @@ fn check_inline(
     }
     let end = at + 1 + count;
     if wire::all_zero(bytes, end, room - count) {
-        if is_text(utf8, bytes, at + 1, count) {
+        if schema::is_text(utf8, bytes, at + 1, count) {
             return Step::Counted {
                 length: longer(before, 6 + count),
                 taken,
@@ -391,7 +374,7 @@ fn check_text(
             count,
             taken: now,
         } => {
-            if is_text(utf8, bytes, place + 4, count) {
+            if schema::is_text(utf8, bytes, place + 4, count) {
                 return Step::Counted {
                     length: longer(before, 6 + count),
                     taken: now,
@@ -449,14 +432,6 @@ fn extension_inside(bytes: &[u8], area: usize) -> bool
         return false;
     }
     12 + offset < bytes.len()
-}
-
-fn is_known(table: &[u8], index: &[u16], id: u64) -> bool
-    requires { ⌜ Layout (now table) (now index) ⌝ }
-    ensures { λ r. ⌜ r ≡ known (schema (now (table .entry))) id ⌝ }
-{
-    let total = schema::group_total(index);
-    schema::find(table, index, total, id) < total
 }
 
 // GROUPS, FIELDS AND ITEMS
@@ -799,7 +774,7 @@ fn check_items(
 {
     if let schema::FieldKind::Plain { width: plain } = kind {
         return Step::Counted {
-            length: longer(before, total * (2 + wide(plain))),
+            length: longer(before, total * (2 + wire::wide(plain))),
             taken,
         };
     }
@@ -858,7 +833,7 @@ fn check_item(
 {
     match kind {
         schema::FieldKind::Plain { width } => Step::Counted {
-            length: longer(before, 2 + wide(width)),
+            length: longer(before, 2 + wire::wide(width)),
             taken,
         },
         schema::FieldKind::Number { tested } => check_number(
@@ -1107,7 +1082,7 @@ fn check_extending(
                     place: frame.base + place,
                 };
             }
-            if is_known(table, index, wire::read_u64(bytes, place + 4)) {
+            if schema::is_known(table, index, wire::read_u64(bytes, place + 4)) {
                 return check_nested(
                     table,
                     index,

@@ -8,7 +8,8 @@ ghost use mathlib.Core.List.{List, []};
 ghost use Prim.Native.Nat.{ℕ, _+_, _*_, _<_, _≤_, _^_};
 ghost use lib.ListN.{length, take, drop, getD};
 ghost use lib.Dec.{eqb};
-ghost use Rattle.schema.specs.Schema.{member, find, allows, kindWidth, valueWidth, fieldWidth};
+ghost use Rattle.wire.specs.Bytes.{part};
+ghost use Rattle.schema.specs.Schema.{textOk, member, find, known, allows, kindWidth, valueWidth, fieldWidth};
 ghost use Rattle.schema.specs.Table.{scalarWidth, symbolCount, symbolValue, typeId, idFlag, superNumber, fieldCount, fieldType, fieldSize, reference, fieldAt, enums, schema};
 ghost use Rattle.schema.specs.Layout.{groupPlace, groupTotal, enumTotal, symbolPlace, symbolTotal, staticDepth, widthIn, Placed, Layout};
 ghost use Rattle.schema.specs.FieldKinds.{kindFrom, textKind, testedKind, kindFault, plainField, Widths};
@@ -177,6 +178,15 @@ pub fn find(table: &[u8], index: &[u16], n: usize, id: u64) -> usize
         i += 1;
     }
     i
+}
+
+// Whether a group has this id.
+pub fn is_known(table: &[u8], index: &[u16], id: u64) -> bool
+    requires { ⌜ Layout (now table) (now index) ⌝ }
+    ensures { λ r. ⌜ r ≡ known (schema (now (table .entry))) id ⌝ }
+{
+    let total = group_total(index);
+    find(table, index, total, id) < total
 }
 
 // Whether the group may stand for a dynamic field, whose kind has the number `allowed`: the named
@@ -383,6 +393,18 @@ pub fn field_width(table: &[u8], index: &[u16], at: usize) -> usize
 }
 
 // TESTS
+
+// Whether the `count` bytes at `at` may be a string's, or a binary's, which may be any.
+pub fn is_text(utf8: bool, bytes: &[u8], at: usize, count: usize) -> bool
+    requires { ⌜ at + count ≤ length (now bytes) ⌝ }
+    ensures { λ r. ⌜ r ≡ textOk utf8 (part count at (now (bytes .entry))) ⌝ }
+{
+    if utf8 {
+        let end = at + count;
+        return wire::is_utf8(&bytes[at..end]);
+    }
+    true
+}
 
 // "10, 11, 12: no such symbol; bool or flag not 0, 1; 24 hours or more", or 0 where the number that
 // stands at `at` passes.

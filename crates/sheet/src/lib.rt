@@ -8,7 +8,7 @@ ghost use mathlib.Core.List.{List, _++_};
 ghost use Prim.Native.Nat.{ℕ, _+_, _*_, _<_, _≤_};
 ghost use lib.ListN.{length, drop};
 ghost use Rattle.wire.specs.Bytes.{part, splice, bytesOf};
-ghost use Rattle.schema.specs.Schema.{known, kindWidth, valueWidth, fieldWidth, shallowKind, shallow};
+ghost use Rattle.schema.specs.Schema.{kindWidth, valueWidth, fieldWidth, shallowKind, shallow};
 ghost use Rattle.schema.specs.Table.{fieldAt, enums, schema};
 ghost use Rattle.schema.specs.Layout.{Layout};
 ghost use Rattle.schema.specs.FieldKinds.{kindFrom};
@@ -34,12 +34,6 @@ const XU: [u8; 2] = *b"XU";
 const NO: [u8; 2] = *b"NO";
 
 const GE: [u8; 2] = *b"GE";
-
-fn wide(x: u8) -> usize
-    ensures { λ r. ⌜ (r ≡ x) × (r < 256) ⌝ }
-{
-    x as usize
-}
 
 // RECORDS
 
@@ -68,7 +62,7 @@ fn show_inline(bytes: &[u8], at: usize, out: &mut [u8], pos: usize) -> usize
     requires { ⌜ (at + 1 + byte at (now bytes) ≤ length (now bytes)) × (pos + (6 + byte at (now bytes)) ≤ length (now out)) ⌝ }
     ensures { λ r. ⌜ (now (out .exit) ≡ splice (6 + byte at (now (bytes .entry))) pos (markBytes ST ++ (bytesOf 4 (byte at (now (bytes .entry))) ++ part (byte at (now (bytes .entry))) (at + 1) (now (bytes .entry)))) (now (out .entry))) × (r ≡ pos + (6 + byte at (now (bytes .entry)))) ⌝ }
 {
-    let count = wide(bytes[at]);
+    let count = wire::wide(bytes[at]);
     let start = at + 1;
     let end = start + count;
     wire::write_mark(out, pos, ST);
@@ -243,7 +237,7 @@ fn show_items(
     ensures { λ r. ⌜ Shown (passage (itemsR width (itemOf (now (table .entry)) levels depth kind) total) (now (bytes .entry)) at) pos (now (out .entry)) (now (out .exit)) r ⌝ }
 {
     if let schema::FieldKind::Plain { width: plain } = kind {
-        return show_plain(bytes, at, wide(plain), total, out, pos);
+        return show_plain(bytes, at, wire::wide(plain), total, out, pos);
     }
     let mut i = 0;
     let mut place = at;
@@ -271,9 +265,16 @@ fn show_item(
     ensures { λ r. ⌜ Shown (passage (itemOf (now (table .entry)) levels depth kind) (now (bytes .entry)) at) pos (now (out .entry)) (now (out .exit)) r ⌝ }
 {
     match kind {
-        schema::FieldKind::Plain { width } => show_bytes(VA, bytes, at, wide(width), out, pos),
+        schema::FieldKind::Plain { width } => show_bytes(
+            VA,
+            bytes,
+            at,
+            wire::wide(width),
+            out,
+            pos,
+        ),
         schema::FieldKind::Number { tested } => {
-            let width = wide(schema::tested_width(tested));
+            let width = wire::wide(schema::tested_width(tested));
             show_bytes(VA, bytes, at, width, out, pos)
         }
         schema::FieldKind::Inline { utf8, capacity } => show_inline(bytes, at, out, pos),
@@ -374,19 +375,11 @@ fn show_extending(
     ensures { λ r. ⌜ Shown (passage (extendingOf (now (table .entry)) levels) (now (bytes .entry)) at) pos (now (out .entry)) (now (out .exit)) r ⌝ }
 {
     let place = at + wire::read_u32(bytes, at);
-    if is_known(table, index, wire::read_u64(bytes, place + 4)) {
+    if schema::is_known(table, index, wire::read_u64(bytes, place + 4)) {
         return show_nested(table, index, bytes, levels, place, out, pos);
     }
     let count = wire::read_u32(bytes, place);
     show_bytes(XU, bytes, place, 4 + count, out, pos)
-}
-
-fn is_known(table: &[u8], index: &[u16], id: u64) -> bool
-    requires { ⌜ Layout (now table) (now index) ⌝ }
-    ensures { λ r. ⌜ r ≡ known (schema (now (table .entry))) id ⌝ }
-{
-    let total = schema::group_total(index);
-    schema::find(table, index, total, id) < total
 }
 
 // THE MESSAGE

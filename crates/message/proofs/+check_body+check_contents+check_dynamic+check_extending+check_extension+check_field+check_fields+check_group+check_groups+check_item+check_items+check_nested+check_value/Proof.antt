@@ -73,11 +73,11 @@ use Rattle.message.proofs.check_inline.Reads as check-inline-reads
 use Rattle.message.proofs.check_number.Reads as check-number-reads
 use Rattle.message.proofs.check_text.Reads as check-text-reads
 use Rattle.message.proofs.extension_inside.Reads as extension-inside-reads
-use Rattle.message.proofs.is_known.Reads as is-known-reads
+use Rattle.schema.proofs.is_known.Reads as is-known-reads
 use Rattle.message.proofs.locate.Reads as locate-reads
 use Rattle.message.proofs.longer.Reads as longer-reads
 use Rattle.message.proofs.retake.Reads as retake-reads
-use Rattle.message.proofs.wide.Reads as wide-reads
+use Rattle.wire.proofs.wide.Reads as wide-reads
 use Rattle.schema.proofs.allows.Reads as allows-reads
 use Rattle.schema.proofs.field_count.Reads as field-count-reads
 use Rattle.schema.proofs.field_width.Reads as field-width-reads

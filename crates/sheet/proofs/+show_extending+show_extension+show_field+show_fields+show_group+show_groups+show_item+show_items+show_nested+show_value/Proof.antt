@@ -66,12 +66,12 @@ use Rattle.schema.proofs.kind_at.Reads as kind-at-reads
 use Rattle.schema.proofs.kind_width.Reads as kind-width-reads
 use Rattle.schema.proofs.plain_width.Reads as plain-width-reads
 use Rattle.schema.proofs.tested_width.Reads as tested-width-reads
-use Rattle.sheet.proofs.is_known.Reads as is-known-reads
+use Rattle.schema.proofs.is_known.Reads as is-known-reads
 use Rattle.sheet.proofs.show_bytes.Reads as show-bytes-reads
 use Rattle.sheet.proofs.show_inline.Reads as show-inline-reads
 use Rattle.sheet.proofs.show_mark.Reads as show-mark-reads
 use Rattle.sheet.proofs.show_plain.Reads as show-plain-reads
-use Rattle.sheet.proofs.wide.Reads as wide-reads
+use Rattle.wire.proofs.wide.Reads as wide-reads
 use Rattle.wire.proofs.copy.Reads as copy-reads
 use Rattle.wire.proofs.read_u32.Reads as read-u32-reads
 use Rattle.wire.proofs.read_u64.Reads as read-u64-reads

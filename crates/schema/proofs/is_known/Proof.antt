@@ -2,10 +2,10 @@ use mathlib.Core.Path.{sym, _∙_, ap}
 use native.Mathlib.Omega.{arith}
 use lib.Dec.{ltb}
 use borrow.Author.Needs.{needs}
 use Rattle.schema.proofs.Groups.{find-whole, known-is}
 use Rattle.schema.specs.Table.{schema}
-use Rattle.sheet.proofs.is_known.Statement.{statement}
-use Rattle.sheet.proofs.is_known.Tie as tie
+use Rattle.schema.proofs.is_known.Statement.{statement}
+use Rattle.schema.proofs.is_known.Tie as tie
 
 find-requires : tie.Need-find-requires
 find-requires c κs = (rw (sym (c .group-total .ensures .0 ∙ c .before .before .before .pre .total)) at (c .before .before .before .pre .placed), c .before .before .before .pre .long, omega (arith, c .group-total .ensures .0, c .before .before .before .pre .total, c .before .before .before .pre .few), c .before .before .before .pre .small)

@@ -1,9 +1,9 @@
 use mathlib.Core.Path.{_∙_}
 use native.Mathlib.Nat.{add-sub-cancel-left}
 use borrow.Author.Needs.{needs}
 use Rattle.schema.specs.Schema.{textOk}
-use Rattle.message.proofs.is_text.Statement.{statement}
-use Rattle.message.proofs.is_text.Tie as tie
+use Rattle.schema.proofs.is_text.Statement.{statement}
+use Rattle.schema.proofs.is_text.Tie as tie
 
 returns : tie.Need-returns
 unfolding textOk

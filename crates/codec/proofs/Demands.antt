@@ -15,7 +15,7 @@ use Rattle.message.specs.Proper.{Proper}
 use Rattle.message.specs.Conforms.{Conforms}
 use Rattle.message.proofs.Ids.{table-fresh}
 use Rattle.message.proofs.Accepted.{accepted-conforms}
-use Rattle.codec.specs.Answers.{accepted, verdictOf, messageVerdict}
+use Rattle.codec.specs.Answers.{accepted, verdictOf, messageReading, messageVerdict}
 
 -- What an accepted table gives the theorems on messages.
 proper : (t : List ℕ) → tableVerdict t ≡ Accepted → Proper (schema t)
@@ -32,7 +32,7 @@ is-done x (s, m, e) = rw e
 
 module _ (t b : List ℕ) (scratch : ℕ) (e : tableVerdict t ≡ Accepted) (room : length b ≤ scratch) where
   under : messageVerdict t b scratch ≡ verdictOf (messageR strict (schema t) scratch b)
-  unfolding messageVerdict accepted need
+  unfolding messageVerdict messageReading accepted need
   under = rw e
 
   -- Demand 2, first half: "Under an accepted table, and with scratch as long as the message, a message is accepted exactly when it meets all strong

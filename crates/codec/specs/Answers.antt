@@ -2,7 +2,7 @@
 use mathlib.Core.Path.{_≡_}
 use mathlib.Core.Bool.{Bool, true, false, cond, _&&_}
 use mathlib.Core.List.{List, []}
-use Prim.Native.Nat.{ℕ}
+use Prim.Native.Nat.{ℕ, _≤_}
 use lib.ListN.{length, replicate}
 use lib.Dec.{leb}
 use Rattle.wire.specs.Bytes.{splice}
@@ -11,16 +11,22 @@ use Rattle.schema.specs.declared.Verdict.the-variants.{Accepted, Refused}
 use Rattle.schema.specs.Faults.{need, also}
 use Rattle.schema.specs.Table.{schema, tableVerdict}
 use Rattle.schema.specs.Layout.{Layout}
-use Rattle.message.specs.Walk.{Reading, refused, done, strict, messageR}
+use Rattle.message.specs.declared.Walked.{Walked}
+use Rattle.message.specs.declared.Walked.the-variants.{Counted as Passed, Refused as Failed}
+use Rattle.message.specs.Walk.{Reading, refused, done, strict, walk, messageR}
 use Rattle.reading.specs.declared.Number.{Number}
 use Rattle.reading.specs.declared.Number.the-variants.{Refused as NotRead}
 use Rattle.reading.specs.declared.Part.{Part}
-use Rattle.reading.specs.declared.Part.the-variants.{Refusal}
+use Rattle.reading.specs.declared.Part.the-variants.{Refusal, Lies}
 use Rattle.reading.specs.Item.{itemOf}
-use Rattle.reading.specs.Item as item
 use Rattle.reading.specs.Number.{numberAt}
 use Rattle.reading.specs.Part.{partAt}
 use Rattle.reading.specs.Part as part
+use Rattle.sheet.specs.Written.{Writing, stopped, wrote}
+use Rattle.codec.specs.declared.Span.{Span}
+use Rattle.codec.specs.declared.Span.the-variants.{Bytes as Lie, Refused as NoBytes}
+use Rattle.codec.specs.declared.Written.{Written}
+use Rattle.codec.specs.declared.Written.the-variants.{Bytes, Refused as Unwritten}
 
 -- THE MESSAGE CHECK
 
@@ -29,15 +35,18 @@ unfoldable pub accepted : Verdict → Bool
 accepted Accepted = true
 accepted (Refused n p) = false
 
+-- The message b under the table t, with a scratch of this length: its first fault, or its sheet.
+-- "Whole message: 20, 23, 21, 22." 20 has place 0, whatever the table's own.
+unfoldable pub messageReading : List ℕ → List ℕ → ℕ → Reading
+messageReading t b scratch = need (accepted (tableVerdict t)) (refused 20 0) (messageR strict (schema t) scratch b)
+
 -- A reading's verdict.
 unfoldable pub verdictOf : Reading → Verdict
 verdictOf (refused n p) = Refused n p
 verdictOf (done s m) = Accepted
 
--- The check of the message b under the table t, with a scratch of this length.
--- "Whole message: 20, 23, 21, 22." 20 has place 0, whatever the table's own.
 unfoldable pub messageVerdict : List ℕ → List ℕ → ℕ → Verdict
-messageVerdict t b scratch = need (accepted (tableVerdict t)) (Refused 20 0) (verdictOf (messageR strict (schema t) scratch b))
+messageVerdict t b scratch = verdictOf (messageReading t b scratch)
 
 -- The scratch s after any question about a message: "after 20, 23 and 21 untouched; after all else its first bytes, as many as the message has,
 -- are zero and the rest untouched".
@@ -46,11 +55,40 @@ scratchAfter t b s =
     cond (accepted (tableVerdict t) && (leb (length b) 65536 && leb (length b) (length s)))
     (splice (length b) 0 (replicate (length b) 0) s) s
 
--- What a question that goes on from the check learns: its verdict v, the index k of the table, and that the message is accepted.
-pub record Opened (t b : List ℕ) (room : ℕ) (k : List ℕ) (v : Verdict) : Type 0 where
-  pub verdict : v ≡ messageVerdict t b room
-  pub layout : v ≡ Accepted → Layout t k
-  pub means : v ≡ Accepted → item.Accepted t b
+-- An accepted message b of the table t, whose index is k: its sheet, of n bytes.
+pub record Known (t b : List ℕ) (scratch : ℕ) (k : List ℕ) (n : ℕ) : Type 0 where
+  pub layout : Layout t k
+  pub small : length b ≤ 65536
+  pub sheet : List ℕ
+  pub walks : walk strict (schema t) b ≡ done sheet []
+  pub means : messageReading t b scratch ≡ done sheet []
+  pub long : length sheet ≡ n
+
+-- What a question that goes on from the check's answer w learns.
+pub record Opened (t b : List ℕ) (scratch : ℕ) (k : List ℕ) (w : Walked) : Type 0 where
+  pub refuses : (n p : ℕ) → w ≡ Failed n p → messageReading t b scratch ≡ refused n p
+  pub opens : (n : ℕ) → w ≡ Passed n → Known t b scratch k n
+
+-- MESSAGE TO SHEET
+
+-- What a question that writes answers.
+unfoldable pub writtenOf : Writing → Written
+writtenOf (stopped n p) = Unwritten n p
+writtenOf (wrote X D r) = Bytes (length X)
+
+-- A room that is written to, afterwards: untouched on a refusal; else "its first bytes", and behind them what stood there.
+unfoldable pub roomAfter : Writing → List ℕ → List ℕ
+roomAfter (stopped n p) room = room
+roomAfter (wrote X D r) room = splice (length X) 0 X room
+
+-- "46 when a message is turned into a sheet and the sheet room is too short, after the message's faults"
+unfoldable pub sheetIn : ℕ → Reading → Writing
+sheetIn room (refused n p) = stopped n p
+sheetIn room (done s m) = need (leb (length s) room) (stopped 46 0) (wrote s [] [])
+
+-- The sheet of the message b, for a room of this length.
+unfoldable pub toSheet : List ℕ → List ℕ → ℕ → ℕ → Writing
+toSheet t b scratch room = sheetIn room (messageReading t b scratch)
 
 -- READING ONE FIELD
 -- "After the message's own faults: 28 no such field, 29 absent, 28 no such item, 48 other kind (each at place 0)."
@@ -74,3 +112,15 @@ partAnswer t b scratch f i = partUnder (messageVerdict t b scratch) (partAt b (i
 
 unfoldable pub bytesVerdict : List ℕ → List ℕ → ℕ → ℕ → ℕ → Verdict
 bytesVerdict t b scratch f i = also (messageVerdict t b scratch) (part.verdictOf (partAt b (itemOf (schema t) b f i)))
+
+-- Where those bytes lie in the message, for callers to whom a part cannot be lent.
+unfoldable pub spanOf : Part → Span
+spanOf (Refusal n) = NoBytes n 0
+spanOf (Lies p n) = Lie p n
+
+unfoldable pub spanUnder : Verdict → Part → Span
+spanUnder Accepted x = spanOf x
+spanUnder (Refused n p) x = NoBytes n p
+
+unfoldable pub spanAnswer : List ℕ → List ℕ → ℕ → ℕ → ℕ → Span
+spanAnswer t b scratch f i = spanUnder (messageVerdict t b scratch) (partAt b (itemOf (schema t) b f i))

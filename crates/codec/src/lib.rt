@@ -1,14 +1,29 @@
 // The public questions. Any bytes may arrive, so none has a `requires`.
+use message::Walked;
 pub use reading::Number;
+use reading::Part;
 pub use schema::Verdict;
 ghost use mathlib.Core.Path.{_≡_};
-ghost use Prim.Native.Nat.{_+_};
+ghost use Prim.Native.Nat.{ℕ, _+_};
 ghost use lib.ListN.{length, replicate};
 ghost use denote.Ref.{ptr};
 ghost use Rattle.schema.specs.Table.{tableVerdict};
 ghost use Rattle.table.specs.Index.{Checked};
+ghost use Rattle.message.specs.declared.Walked.the-variants.{Refused as Failed};
 ghost use Rattle.reading.specs.Part.{bytesIn, startOf};
-ghost use Rattle.codec.specs.Answers.{messageVerdict, scratchAfter, Opened, numberAnswer, partAnswer, bytesVerdict};
+ghost use Rattle.codec.specs.Answers.{messageVerdict, scratchAfter, Known, Opened, writtenOf, roomAfter, toSheet, numberAnswer, partAnswer, bytesVerdict, spanOf, spanAnswer};
+
+// How many bytes were written, or why none.
+pub enum Written {
+    Bytes(usize),
+    Refused { number: u8, place: usize },
+}
+
+// Where bytes lie in the message, or why there are none.
+pub enum Span {
+    Bytes { start: usize, length: usize },
+    Refused { number: u8, place: usize },
+}
 
 // Whether a schema table is accepted: document 01's faults 30 to 35, in its order.
 pub fn check_table(table: &[u8]) -> Verdict
@@ -23,7 +38,30 @@ pub fn check_message(table: &[u8], message: &[u8], scratch: &mut [u8]) -> Verdic
     ensures { λ _. ⌜ now (scratch .exit) ≡ scratchAfter (now (table .entry)) (now (message .entry)) (now (scratch .entry)) ⌝ }
 {
     let mut index = [0u16; 322];
-    open_message(table, &mut index, message, scratch)
+    let walked = open_message(table, &mut index, message, scratch);
+    match walked {
+        Walked::Counted { length } => Verdict::Accepted,
+        Walked::Refused { number, place } => Verdict::Refused { number, place },
+    }
+}
+
+// The sheet of a message, at the start of the room `sheet`.
+pub fn message_to_sheet(
+    table: &[u8],
+    message: &[u8],
+    scratch: &mut [u8],
+    sheet: &mut [u8],
+) -> Written
+    ensures { λ r. ⌜ r ≡ writtenOf (toSheet (now (table .entry)) (now (message .entry)) (length (now (scratch .entry))) (length (now (sheet .entry)))) ⌝ }
+    ensures { λ _. ⌜ now (scratch .exit) ≡ scratchAfter (now (table .entry)) (now (message .entry)) (now (scratch .entry)) ⌝ }
+    ensures { λ _. ⌜ now (sheet .exit) ≡ roomAfter (toSheet (now (table .entry)) (now (message .entry)) (length (now (scratch .entry))) (length (now (sheet .entry)))) (now (sheet .entry)) ⌝ }
+{
+    let mut index = [0u16; 322];
+    let walked = open_message(table, &mut index, message, scratch);
+    match walked {
+        Walked::Counted { length } => sheet_of(table, &index, message, length, sheet),
+        Walked::Refused { number, place } => Written::Refused { number, place },
+    }
 }
 
 // Item `item` of the field `field` of the message's group, as a number.
@@ -38,10 +76,10 @@ pub fn read_number(
     ensures { λ _. ⌜ now (scratch .exit) ≡ scratchAfter (now (table .entry)) (now (message .entry)) (now (scratch .entry)) ⌝ }
 {
     let mut index = [0u16; 322];
-    let v = open_message(table, &mut index, message, scratch);
-    match v {
-        Verdict::Accepted => reading::read_number(table, &index, message, field, item),
-        Verdict::Refused { number, place } => Number::Refused { number, place },
+    let walked = open_message(table, &mut index, message, scratch);
+    match walked {
+        Walked::Counted { length } => reading::read_number(table, &index, message, field, item),
+        Walked::Refused { number, place } => Number::Refused { number, place },
     }
 }
 
@@ -59,10 +97,10 @@ pub fn read_bytes<'a>(
     ensures { λ _. ⌜ now (scratch .exit) ≡ scratchAfter (now (table .entry)) (now (message .entry)) (now (scratch .entry)) ⌝ }
 {
     let mut index = [0u16; 322];
-    let v = open_message(table, &mut index, message, scratch);
-    match v {
-        Verdict::Accepted => reading::read_bytes(table, &index, message, field, item),
-        Verdict::Refused { number, place } => &message[0..0],
+    let walked = open_message(table, &mut index, message, scratch);
+    match walked {
+        Walked::Counted { length } => reading::read_bytes(table, &index, message, field, item),
+        Walked::Refused { number, place } => &message[0..0],
     }
 }
 
@@ -78,15 +116,51 @@ pub fn read_bytes_verdict(
     ensures { λ _. ⌜ now (scratch .exit) ≡ scratchAfter (now (table .entry)) (now (message .entry)) (now (scratch .entry)) ⌝ }
 {
     let mut index = [0u16; 322];
-    let v = open_message(table, &mut index, message, scratch);
-    match v {
-        Verdict::Accepted => reading::read_bytes_verdict(table, &index, message, field, item),
-        Verdict::Refused { number, place } => Verdict::Refused { number, place },
+    let walked = open_message(table, &mut index, message, scratch);
+    match walked {
+        Walked::Counted { length } => reading::read_bytes_verdict(
+            table,
+            &index,
+            message,
+            field,
+            item,
+        ),
+        Walked::Refused { number, place } => Verdict::Refused { number, place },
+    }
+}
+
+// Where in the message the part of `read_bytes` lies, for callers to whom no part can be lent.
+pub fn find_bytes(
+    table: &[u8],
+    message: &[u8],
+    scratch: &mut [u8],
+    field: usize,
+    item: usize,
+) -> Span
+    ensures { λ r. ⌜ r ≡ spanAnswer (now (table .entry)) (now (message .entry)) (length (now (scratch .entry))) field item ⌝ }
+    ensures { λ _. ⌜ now (scratch .exit) ≡ scratchAfter (now (table .entry)) (now (message .entry)) (now (scratch .entry)) ⌝ }
+{
+    let mut index = [0u16; 322];
+    let walked = open_message(table, &mut index, message, scratch);
+    match walked {
+        Walked::Counted { length } => {
+            span_of(reading::find_part(table, &index, message, field, item))
+        }
+        Walked::Refused { number, place } => Span::Refused { number, place },
+    }
+}
+
+fn span_of(part: Part) -> Span
+    ensures { λ r. ⌜ r ≡ spanOf part ⌝ }
+{
+    match part {
+        Part::Refusal { number } => Span::Refused { number, place: 0 },
+        Part::Lies { start, length } => Span::Bytes { start, length },
     }
 }
 
 // Checks the table and the message; where both pass, the index is the table's.
-fn open_message(table: &[u8], index: &mut [u16], message: &[u8], scratch: &mut [u8]) -> Verdict
+fn open_message(table: &[u8], index: &mut [u16], message: &[u8], scratch: &mut [u8]) -> Walked
     requires { ⌜ now index ≡ replicate 322 0 ⌝ }
     ensures { λ r. ⌜ Opened (now (table .entry)) (now (message .entry)) (length (now (scratch .entry))) (now (index .exit)) r ⌝ }
     ensures { λ _. ⌜ now (scratch .exit) ≡ scratchAfter (now (table .entry)) (now (message .entry)) (now (scratch .entry)) ⌝ }
@@ -98,14 +172,14 @@ fn open_message(table: &[u8], index: &mut [u16], message: &[u8], scratch: &mut [
     }
 }
 
-fn refused(number: u8) -> Verdict
-    ensures { λ r. ⌜ r ≡ Verdict.Refused number 0 ⌝ }
+fn refused(number: u8) -> Walked
+    ensures { λ r. ⌜ r ≡ Failed number 0 ⌝ }
 {
-    Verdict::Refused { number, place: 0 }
+    Walked::Refused { number, place: 0 }
 }
 
 // "23, 21, 22", and the walk, under an accepted table.
-fn open_under(table: &[u8], index: &[u16], message: &[u8], scratch: &mut [u8]) -> Verdict
+fn open_under(table: &[u8], index: &[u16], message: &[u8], scratch: &mut [u8]) -> Walked
     requires { ⌜ Checked (now table) (now index) Verdict.Accepted ⌝ }
     ensures { λ r. ⌜ Opened (now (table .entry)) (now (message .entry)) (length (now (scratch .entry))) (now (index .entry)) r ⌝ }
     ensures { λ _. ⌜ now (scratch .exit) ≡ scratchAfter (now (table .entry)) (now (message .entry)) (now (scratch .entry)) ⌝ }
@@ -116,9 +190,19 @@ fn open_under(table: &[u8], index: &[u16], message: &[u8], scratch: &mut [u8]) -
     if scratch.len() < message.len() {
         return refused(21);
     }
-    let checked = message::check(table, index, message, scratch);
-    match checked {
-        message::Walked::Counted { length } => Verdict::Accepted,
-        message::Walked::Refused { number, place } => Verdict::Refused { number, place },
+    message::check(table, index, message, scratch)
+}
+
+// The sheet, of `size` bytes, of an accepted message: 46 where it does not fit the room.
+fn sheet_of(table: &[u8], index: &[u16], message: &[u8], size: usize, sheet: &mut [u8]) -> Written
+    requires { ⌜ ((scratch : ℕ) × Known (now table) (now message) scratch (now index) size) ⌝ }
+    ensures { λ r. ⌜ ((scratch : ℕ) → Known (now (table .entry)) (now (message .entry)) scratch (now (index .entry)) size → (r ≡ writtenOf (toSheet (now (table .entry)) (now (message .entry)) scratch (length (now (sheet .entry))))) × (now (sheet .exit) ≡ roomAfter (toSheet (now (table .entry)) (now (message .entry)) scratch (length (now (sheet .entry)))) (now (sheet .entry)))) ⌝ }
+{
+    if sheet.len() < size {
+        return Written::Refused {
+            number: 46,
+            place: 0,
+        };
     }
+    Written::Bytes(sheet::write_sheet(table, index, message, sheet))
 }

@@ -1,7 +1,7 @@
 use mathlib.Core.Path.{sym, _∙_}
 use lib.ListN.{length}
+use Rattle.codec.proofs.Laws.{opens-nothing, reading-20, scratch-20}
 use borrow.Author.Needs.{needs}
-use Rattle.codec.proofs.Laws.{opens-nothing, verdict-20, scratch-20}
 use Rattle.codec.proofs.open_message.Statement.{statement}
 use Rattle.codec.proofs.open_message.Tie as tie
 
@@ -9,9 +9,7 @@ open-under-requires : tie.Need-open-under-requires
 open-under-requires c κs = rw (c .before .before .enum-told .given .1) at (c .before .before .before .before .before .before .index-table .ensures)
 
 returns-2 : tie.Need-returns-2
-returns-2 c = let a = c .before .before .before .before .before .before .before .before .before .before .before .before .args in
-    let e = sym (c .before .before .v .given .1) ∙ c .before .before .before .before .before .before .index-table .ensures .verdict in
-    (opens-nothing _ _ _ _ _ 20 0 (c .refused .ensures) (verdict-20 (a .table .now) (a .message .now) (a .scratch .now) _ _ e (length (a .scratch .now))), sym (scratch-20 (a .table .now) (a .message .now) (a .scratch .now) _ _ e))
+returns-2 c = let e = sym (c .before .before .v .given .1) ∙ c .before .before .before .before .before .before .index-table .ensures .verdict in (opens-nothing _ _ _ _ _ 20 0 (c .refused .ensures) (reading-20 (c .before .before .before .before .before .before .before .before .before .before .before .before .args .table .now) (c .before .before .before .before .before .before .before .before .before .before .before .before .args .message .now) (c .before .before .before .before .before .before .before .before .before .before .before .before .args .scratch .now) _ _ e (length (c .before .before .before .before .before .before .before .before .before .before .before .before .args .scratch .now))), sym (scratch-20 (c .before .before .before .before .before .before .before .before .before .before .before .before .args .table .now) (c .before .before .before .before .before .before .before .before .before .before .before .before .args .message .now) (c .before .before .before .before .before .before .before .before .before .before .before .before .args .scratch .now) _ _ e))
 
 pub open-message-spec : {M : Type 1} → statement M
 open-message-spec =

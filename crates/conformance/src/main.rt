@@ -25,25 +25,64 @@ fn answer_table(table: &[u8], length: usize) {
 fn answer_check(table: &[u8], message: &[u8], scratch: &mut [u8]) {
     room::fill(scratch);
     print::verdict(codec::check_message(table, message, scratch));
-    print::space();
-    print::number(room::adler32(scratch));
-    print::end_line();
+    print::sum(scratch);
 }
 
-// Cuts the rooms to the lengths that the record asks for.
-fn answer_message(r: Record, table: &[u8], held: usize, input: &[u8], scratch: &mut [u8]) {
+fn answer_sheet(table: &[u8], message: &[u8], scratch: &mut [u8], sheet: &mut [u8]) {
+    room::fill(scratch);
+    room::fill(sheet);
+    print::written(codec::message_to_sheet(table, message, scratch, sheet));
+    print::sum(scratch);
+    print::sum(sheet);
+}
+
+// The part, its twin question, and where it lies.
+fn answer_bytes(table: &[u8], message: &[u8], scratch: &mut [u8], field: usize, item: usize) {
+    room::fill(scratch);
+    print::verdict(codec::read_bytes_verdict(table, message, scratch, field, item));
+    room::fill(scratch);
+    print::span(codec::find_bytes(table, message, scratch, field, item));
+    room::fill(scratch);
+    print::sum(codec::read_bytes(table, message, scratch, field, item));
+    print::sum(scratch);
+}
+
+// The question itself, in rooms of the lengths that the record asks for.
+fn ask(r: Record, table: &[u8], input: &[u8], scratch: &mut [u8], sheet: &mut [u8]) {
+    let kind = r.kind;
+    match kind {
+        2 => answer_check(table, input, scratch),
+        3 => answer_sheet(table, input, scratch, sheet),
+        _ => answer_bytes(table, input, scratch, r.field as usize, r.item as usize),
+    }
+}
+
+// Cuts the rooms to these lengths.
+fn answer(
+    r: Record,
+    table: &[u8],
+    held: usize,
+    input: &[u8],
+    scratch: &mut [u8],
+    sheet: &mut [u8],
+) {
     let length = r.length;
     let lent = r.scratch;
-    if table.len() < held {
+    let room = r.sheet;
+    if table.len() < held || input.len() < length {
         return;
     }
-    if input.len() < length {
+    if scratch.len() < lent || sheet.len() < room {
         return;
     }
-    if scratch.len() < lent {
-        return;
-    }
-    answer_check(&table[0..held], &input[0..length], &mut scratch[0..lent]);
+    ask(
+        r,
+        &table[0..held],
+        &input[0..length],
+        &mut scratch[0..lent],
+        &mut sheet[0..room],
+    );
+    print::end_line();
 }
 
 // Takes one record: a table to hold, or a question to answer.
@@ -53,6 +92,7 @@ fn take(
     held: usize,
     input: &mut [u8; 1048592],
     scratch: &mut [u8; 65600],
+    sheet: &mut [u8; 786432],
 ) -> Step {
     let r = record::next(fd);
     if r.last {
@@ -80,7 +120,7 @@ fn take(
         }
         _ => {
             record::load(fd, input, r.stored, r.length);
-            answer_message(r, table, held, input, scratch);
+            answer(r, table, held, input, scratch, sheet);
             Step {
                 more: true,
                 table: held,
@@ -93,10 +133,11 @@ fn answer_all(fd: i32) {
     let mut table = [0u8; 65568];
     let mut input = [0u8; 1048592];
     let mut scratch = [0u8; 65600];
+    let mut sheet = [0u8; 786432];
     let mut held = 0;
     let mut left = MOST;
     while 0 < left {
-        let s = take(fd, &mut table, held, &mut input, &mut scratch);
+        let s = take(fd, &mut table, held, &mut input, &mut scratch, &mut sheet);
         if !s.more {
             return;
         }
@@ -118,4 +159,6 @@ fn answer_file(name: &[u8]) {
 fn main() {
     answer_file(b"table.vec");
     answer_file(b"check.vec");
+    answer_file(b"sheet.vec");
+    answer_file(b"bytes.vec");
 }

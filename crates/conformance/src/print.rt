@@ -1,5 +1,7 @@
 // Answers as text.
+use codec::Span;
 use codec::Verdict;
+use codec::Written;
 use libc::STDOUT_FILENO;
 
 pub fn number(n: usize) {
@@ -20,6 +22,41 @@ pub fn verdict(v: Verdict) {
         Verdict::Accepted => fault(0, 0),
         Verdict::Refused { number, place } => fault(number as usize, place),
     }
+}
+
+// Also how many bytes were written.
+pub fn written(w: Written) {
+    match w {
+        Written::Bytes(n) => three(0, 0, n),
+        Written::Refused { number, place } => three(number as usize, place, 0),
+    }
+}
+
+fn three(number: usize, place: usize, length: usize) {
+    fault(number, place);
+    space();
+    self::number(length);
+}
+
+// Where bytes lie in the message, and how many they are: after a space, and both 0 on a refusal.
+pub fn span(s: Span) {
+    match s {
+        Span::Bytes { start, length } => two(start, length),
+        Span::Refused { number, place } => two(0, 0),
+    }
+}
+
+fn two(start: usize, length: usize) {
+    space();
+    number(start);
+    space();
+    number(length);
+}
+
+// A lent buffer's checksum, after a space.
+pub fn sum(room: &[u8]) {
+    space();
+    number(crate::room::adler32(room));
 }
 
 fn fault(number: usize, place: usize) {

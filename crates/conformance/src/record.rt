@@ -6,6 +6,10 @@ pub struct Record {
     pub length: usize,
     pub stored: usize,
     pub scratch: usize,
+    pub sheet: usize,
+    pub output: usize,
+    pub field: u64,
+    pub item: u64,
 }
 
 // The next record's header, or `last` at the end of the file.
@@ -22,6 +26,10 @@ fn parse(last: bool, header: &[u8; 40]) -> Record {
         length: wire::read_u32(header, 4),
         stored: wire::read_u32(header, 8),
         scratch: wire::read_u32(header, 12),
+        sheet: wire::read_u32(header, 16),
+        output: wire::read_u32(header, 20),
+        field: wire::read_u64(header, 24),
+        item: wire::read_u64(header, 32),
     }
 }
 

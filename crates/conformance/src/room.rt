@@ -1,5 +1,4 @@
 // Lent buffers: filled with a pattern before a question, and summed up after it.
-ghost use Prim.Native.Nat.{_<_};
 
 // Byte i is 2 + i % 251, so that neither a zero nor a mark of 1 goes unnoticed.
 pub fn fill(room: &mut [u8]) {
@@ -10,19 +9,13 @@ pub fn fill(room: &mut [u8]) {
     }
 }
 
-fn wide(x: u8) -> usize
-    ensures { λ r. ⌜ r < 256 ⌝ }
-{
-    x as usize
-}
-
 // The Adler-32 checksum (RFC 1950).
 pub fn adler32(room: &[u8]) -> usize {
     let mut a: usize = 1;
     let mut b: usize = 0;
     let mut i = 0;
     while i < room.len() {
-        a = (a + wide(room[i])) % 65521;
+        a = (a + wire::wide(room[i])) % 65521;
         b = (b + a) % 65521;
         i += 1;
     }

@@ -1,9 +1,62 @@
 -- The answers as C takes them.
+use mathlib.Core.Bool.{Bool, true, false, not, cond}
+use Prim.Native.Nat.{ℕ, _-_, _^_}
+use lib.Dec.{T}
+use lib.IntN.{ℤ, pos, negsuc}
+use lib.Ieee.{binary64, isNan, toBits}
 use Rattle.schema.specs.declared.Verdict.{Verdict}
 use Rattle.schema.specs.declared.Verdict.the-variants.{Accepted, Refused}
+use Rattle.reading.specs.declared.Number.{Number}
+use Rattle.reading.specs.declared.Number.the-variants.{Signed, Unsigned, Bool as Flag, Decimal, Float, NanBits, Refused as NotRead}
+use Rattle.codec.specs.declared.Written.{Written}
+use Rattle.codec.specs.declared.Written.the-variants.{Bytes, Refused as Unwritten}
+use Rattle.codec.specs.declared.Span.{Span}
+use Rattle.codec.specs.declared.Span.the-variants.{Bytes as Lie, Refused as NoBytes}
 use Rattle.capi.specs.declared.BlinkVerdict.{BlinkVerdict}
+use Rattle.capi.specs.declared.BlinkWritten.{BlinkWritten}
+use Rattle.capi.specs.declared.BlinkNumber.{BlinkNumber}
+use Rattle.capi.specs.declared.BlinkPart.{BlinkPart}
 
 -- A fault's number and place; both 0 where nothing is refused.
 unfoldable pub exported : Verdict → BlinkVerdict
 exported Accepted = record { number = 0; place = 0 }
 exported (Refused n p) = record { number = n; place = p }
+
+-- How many bytes were written: 0 where it is refused.
+unfoldable pub exportedWritten : Written → BlinkWritten
+exportedWritten (Bytes n) = record { number = 0; place = 0; length = n }
+exportedWritten (Unwritten n p) = record { number = n; place = p; length = 0 }
+
+-- Where bytes lie in the message: none at 0 where it is refused.
+unfoldable pub exportedSpan : Span → BlinkPart
+exportedSpan (Lie s n) = record { number = 0; place = 0; offset = s; length = n }
+exportedSpan (NoBytes n p) = record { number = n; place = p; offset = 0; length = 0 }
+
+-- A signed number's 64 bits: two's complement.
+unfoldable pub twos : ℤ → ℕ
+twos (pos n) = n
+twos (negsuc n) = 2 ^ 64 - 1 - n
+
+-- An answer that is a number, of a kind.
+abbrev pub answered : ℕ → ℤ → ℕ → BlinkNumber
+answered k e x = record { number = 0; place = 0; kind = k; exponent = e; bits = x }
+
+-- A number's kind, a decimal's exponent, and its bits: of a float, its pattern.
+unfoldable pub exportedNumber : Number → BlinkNumber
+exportedNumber (Signed x) = answered 1 (pos 0) (twos x)
+exportedNumber (Unsigned x) = answered 2 (pos 0) x
+exportedNumber (Flag x) = answered 3 (pos 0) (cond x 1 0)
+exportedNumber (Decimal e x) = answered 4 e (twos x)
+exportedNumber (Float x) = answered 5 (pos 0) (toBits binary64 x)
+exportedNumber (NanBits x) = answered 6 (pos 0) x
+exportedNumber (NotRead n p) = record { number = n; place = p; kind = 0; exponent = pos 0; bits = 0 }
+
+-- No float of an answer is a NaN: a NaN's bits are an answer of their own.
+unfoldable pub NoNan : Number → Type 0
+NoNan (Signed x) = Unit
+NoNan (Unsigned x) = Unit
+NoNan (Flag x) = Unit
+NoNan (Decimal e x) = Unit
+NoNan (Float x) = T (not (isNan x))
+NoNan (NanBits x) = Unit
+NoNan (NotRead n p) = Unit

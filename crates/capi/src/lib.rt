@@ -3,14 +3,42 @@
 ghost use mathlib.Core.Path.{_≡_};
 ghost use lib.ListN.{length};
 ghost use Rattle.schema.specs.Table.{tableVerdict};
-ghost use Rattle.codec.specs.Answers.{messageVerdict, scratchAfter};
-ghost use Rattle.capi.specs.Boundary.{exported};
+ghost use Rattle.codec.specs.Answers.{messageVerdict, scratchAfter, writtenOf, roomAfter, toSheet, numberAnswer, spanAnswer};
+ghost use Rattle.capi.specs.Boundary.{exported, exportedWritten, exportedNumber, exportedSpan, answered, twos, NoNan};
 
 // number 0: accepted.
 #[repr(C)]
 pub struct BlinkVerdict {
     pub number: u32,
     pub place: u64,
+}
+
+// number 0: so many bytes were written.
+#[repr(C)]
+pub struct BlinkWritten {
+    pub number: u32,
+    pub place: u64,
+    pub length: u64,
+}
+
+// kind 0: refused; 1 signed, 2 unsigned, 3 bool, 4 decimal, 5 float, 6 NaN.
+// bits: two's complement, a decimal's mantissa, or a float's pattern.
+#[repr(C)]
+pub struct BlinkNumber {
+    pub number: u32,
+    pub place: u64,
+    pub kind: u32,
+    pub exponent: i32,
+    pub bits: u64,
+}
+
+// number 0: the bytes lie there in the message.
+#[repr(C)]
+pub struct BlinkPart {
+    pub number: u32,
+    pub place: u64,
+    pub offset: u64,
+    pub length: u64,
 }
 
 fn export(v: codec::Verdict) -> BlinkVerdict
@@ -24,6 +52,88 @@ fn export(v: codec::Verdict) -> BlinkVerdict
         codec::Verdict::Refused { number, place } => BlinkVerdict {
             number: number as u32,
             place: place as u64,
+        },
+    }
+}
+
+fn export_written(w: codec::Written) -> BlinkWritten
+    ensures { λ r. ⌜ r ≡ exportedWritten w ⌝ }
+{
+    match w {
+        codec::Written::Bytes(n) => BlinkWritten {
+            number: 0,
+            place: 0,
+            length: n as u64,
+        },
+        codec::Written::Refused { number, place } => BlinkWritten {
+            number: number as u32,
+            place: place as u64,
+            length: 0,
+        },
+    }
+}
+
+fn export_span(s: codec::Span) -> BlinkPart
+    ensures { λ r. ⌜ r ≡ exportedSpan s ⌝ }
+{
+    match s {
+        codec::Span::Bytes { start, length } => BlinkPart {
+            number: 0,
+            place: 0,
+            offset: start as u64,
+            length: length as u64,
+        },
+        codec::Span::Refused { number, place } => BlinkPart {
+            number: number as u32,
+            place: place as u64,
+            offset: 0,
+            length: 0,
+        },
+    }
+}
+
+// The bits of a signed number, in two's complement.
+fn bits_of(x: i64) -> u64
+    ensures { λ r. ⌜ r ≡ twos x ⌝ }
+{
+    if x < 0 {
+        0xffff_ffff_ffff_ffff - ((-1 - x) as u64)
+    } else {
+        x as u64
+    }
+}
+
+fn answer(kind: u32, exponent: i32, bits: u64) -> BlinkNumber
+    ensures { λ r. ⌜ r ≡ answered kind exponent bits ⌝ }
+{
+    BlinkNumber {
+        number: 0,
+        place: 0,
+        kind,
+        exponent,
+        bits,
+    }
+}
+
+fn export_number(n: codec::Number) -> BlinkNumber
+    requires { ⌜ NoNan n ⌝ }
+    ensures { λ r. ⌜ r ≡ exportedNumber n ⌝ }
+{
+    match n {
+        codec::Number::Signed(x) => answer(1, 0, bits_of(x)),
+        codec::Number::Unsigned(x) => answer(2, 0, x),
+        codec::Number::Bool(x) => answer(3, 0, x as u64),
+        codec::Number::Decimal { exponent, mantissa } => {
+            answer(4, exponent as i32, bits_of(mantissa))
+        }
+        codec::Number::Float(x) => answer(5, 0, f64::to_bits(x)),
+        codec::Number::NanBits(x) => answer(6, 0, x),
+        codec::Number::Refused { number, place } => BlinkNumber {
+            number: number as u32,
+            place: place as u64,
+            kind: 0,
+            exponent: 0,
+            bits: 0,
         },
     }
 }
@@ -45,4 +155,48 @@ pub extern "C" fn blink_check_message(
     ensures { λ _. ⌜ now (scratch .exit) ≡ scratchAfter (now (table .entry)) (now (message .entry)) (now (scratch .entry)) ⌝ }
 {
     export(codec::check_message(table, message, scratch))
+}
+
+#[no_mangle]
+pub extern "C" fn blink_message_to_sheet(
+    table: &[u8],
+    message: &[u8],
+    scratch: &mut [u8],
+    sheet: &mut [u8],
+) -> BlinkWritten
+    ensures { λ r. ⌜ r ≡ exportedWritten (writtenOf (toSheet (now (table .entry)) (now (message .entry)) (length (now (scratch .entry))) (length (now (sheet .entry))))) ⌝ }
+    ensures { λ _. ⌜ now (scratch .exit) ≡ scratchAfter (now (table .entry)) (now (message .entry)) (now (scratch .entry)) ⌝ }
+    ensures { λ _. ⌜ now (sheet .exit) ≡ roomAfter (toSheet (now (table .entry)) (now (message .entry)) (length (now (scratch .entry))) (length (now (sheet .entry)))) (now (sheet .entry)) ⌝ }
+{
+    export_written(codec::message_to_sheet(table, message, scratch, sheet))
+}
+
+#[no_mangle]
+pub extern "C" fn blink_read_number(
+    table: &[u8],
+    message: &[u8],
+    scratch: &mut [u8],
+    field: u64,
+    item: u64,
+) -> BlinkNumber
+    ensures { λ r. ⌜ r ≡ exportedNumber (numberAnswer (now (table .entry)) (now (message .entry)) (length (now (scratch .entry))) field item) ⌝ }
+    ensures { λ _. ⌜ now (scratch .exit) ≡ scratchAfter (now (table .entry)) (now (message .entry)) (now (scratch .entry)) ⌝ }
+{
+    let n = codec::read_number(table, message, scratch, field as usize, item as usize);
+    export_number(n)
+}
+
+#[no_mangle]
+pub extern "C" fn blink_read_bytes(
+    table: &[u8],
+    message: &[u8],
+    scratch: &mut [u8],
+    field: u64,
+    item: u64,
+) -> BlinkPart
+    ensures { λ r. ⌜ r ≡ exportedSpan (spanAnswer (now (table .entry)) (now (message .entry)) (length (now (scratch .entry))) field item) ⌝ }
+    ensures { λ _. ⌜ now (scratch .exit) ≡ scratchAfter (now (table .entry)) (now (message .entry)) (now (scratch .entry)) ⌝ }
+{
+    let s = codec::find_bytes(table, message, scratch, field as usize, item as usize);
+    export_span(s)
 }

@@ -1,23 +1,64 @@
--- The request's demands, as theorems over the definitions that the contracts cite. docs/DEMANDS.md has the demands in full.
-use Prim.Native.Nat.{ℕ, _≤_}
+-- The demands of specs/Demands.antt, shown.
+use Prim.Native.Nat.{ℕ, _+_, _≤_}
 use mathlib.Core.Path.{_≡_, refl, sym, ap, _∙_}
 use mathlib.Core.Logic.{_↔_}
-use mathlib.Core.List.{List}
+use mathlib.Core.Bool.{Bool, true, false, _&&_, and-eq-true-iff}
+use mathlib.Core.List.{List, []}
 use native.Mathlib.Omega.{arith}
-use lib.ListN.{length}
+use lib.ListN.{length, take}
+use lib.Dec.{leb}
+use borrow.Author.Tests.{le-leb, eqb-true}
+use Rattle.wire.specs.Bytes.{le}
+use Rattle.wire.proofs.Laws.{part-splice}
 use Rattle.schema.specs.declared.Verdict.{Verdict}
 use Rattle.schema.specs.declared.Verdict.the-variants.{Accepted, Refused}
-use Rattle.schema.specs.Faults.{need}
+use Rattle.schema.specs.Faults.{need, also}
+use Rattle.schema.specs.Schema.{Group}
 use Rattle.schema.specs.Table.{schema, tableVerdict}
 use Rattle.table.proofs.Accepted as table
-use Rattle.message.specs.Walk.{Reading, refused, done, strict, messageR}
+use Rattle.message.specs.Walk.{Reading, refused, done, strict, walk, messageR}
 use Rattle.message.specs.Proper.{Proper}
 use Rattle.message.specs.Conforms.{Conforms}
 use Rattle.message.proofs.Ids.{table-fresh}
 use Rattle.message.proofs.Accepted.{accepted-conforms}
-use Rattle.codec.specs.Answers.{accepted, verdictOf, messageReading, messageVerdict}
+use Rattle.message.proofs.Sat.{Sat, sat-is, sat-need}
+use Rattle.message.proofs.Eleven.{eleven}
+use Rattle.reading.specs.declared.Part.{Part}
+use Rattle.reading.specs.declared.Part.the-variants.{Refusal, Lies}
+use Rattle.reading.specs.Part.{bytesIn}
+use Rattle.reading.specs.Part as part
+use Rattle.sheet.specs.Written.{Writing, stopped, wrote, sheetW, fitted, written}
+use Rattle.sheet.specs.Rewritten.{Rooms, Enough, sheetIn, rewritten}
+use Rattle.sheet.specs.Canonical as canonical
+use Rattle.sheet.proofs.RoundTrip as trip
+use Rattle.codec.specs.Answers.{accepted, messageReading, verdictOf, messageVerdict, roomAfter, toSheet, toMessage, rewriting, numberUnder, numberAnswer, partUnder, partAnswer, bytesVerdict}
+use Rattle.codec.specs.Demands.{Demand1, Means, Makes, Demand2, OneForm, Demand3, Demands}
+use Rattle.codec.proofs.Laws.{sized}
 
--- What an accepted table gives the theorems on messages.
+-- DEMAND 1
+
+refused-room : (x : Writing) (n p : ℕ) (room : List ℕ) → x ≡ stopped n p → roomAfter x room ≡ room
+unfolding roomAfter
+refused-room x n p room e = rw e
+
+no-part : (v : Verdict) (x : Part) (b : List ℕ) (n p : ℕ) → also v (part.verdictOf x) ≡ Refused n p → bytesIn b (partUnder v x) ≡ []
+unfolding also part.verdictOf bytesIn partUnder
+no-part Accepted (Refusal k) b n p e = refl
+no-part Accepted (Lies q k) b n p e = let z : _≡_ {A = ℕ} 0 1 = cc in absurd (omega arith)
+no-part (Refused k q) x b n p e = refl
+
+demand1 : (t b s : List ℕ) (scratch : ℕ) → Demand1 t b s scratch
+unfolding numberAnswer numberUnder bytesVerdict partAnswer
+demand1 t b s scratch = record {
+  no-number = λ n p e field item. rw e;
+  no-bytes = λ field item n p e. no-part (messageVerdict t b scratch) _ b n p e;
+  no-sheet = λ n p room e. refused-room _ n p room e;
+  no-message = λ n p output e. refused-room _ n p output e;
+  no-rewriting = λ n p rooms output e. refused-room _ n p output e;
+}
+
+-- WHAT AN ACCEPTED TABLE GIVES
+
 proper : (t : List ℕ) → tableVerdict t ≡ Accepted → Proper (schema t)
 proper t e = record { falls = table.accepted t e .supers; fresh = table-fresh t e }
 
@@ -30,14 +71,110 @@ is-done : (x : Reading) → (s : List ℕ) × (m : List ℕ) × (x ≡ done s m)
 unfolding verdictOf
 is-done x (s, m, e) = rw e
 
-module _ (t b : List ℕ) (scratch : ℕ) (e : tableVerdict t ≡ Accepted) (room : length b ≤ scratch) where
-  under : messageVerdict t b scratch ≡ verdictOf (messageR strict (schema t) scratch b)
-  unfolding messageVerdict messageReading accepted need
-  under = rw e
+-- "as long as 4 + its size word"
+sat-size : (gs : List Group) (b : List ℕ) → Sat (λ s m. length b ≡ 4 + le (take 4 b)) (walk strict gs b)
+unfolding walk
+sat-size gs b = sat-need _ 22 0 (λ t. trip.sat-all (λ s m. eqb-true _ _ (and-eq-true-iff (leb 4 (length b)) _ .0 t .1)) _)
 
-  -- Demand 2, first half: "Under an accepted table, and with scratch as long as the message, a message is accepted exactly when it meets all strong
-  -- and weak constraints of Blink Native beta4 as document 01 reads them, and its house rules".
-  pub accepted-exactly : (messageVerdict t b scratch ≡ Accepted) ↔ Conforms strict (schema t) b
-  accepted-exactly =
-      let iff = accepted-conforms strict (schema t) (proper t e) scratch b room in
-      (λ v. iff .0 (done-is _ (sym under ∙ v)), λ c. under ∙ is-done _ (iff .1 c))
+module _ (t : List ℕ) (e : tableVerdict t ≡ Accepted) where
+  abbrev gs : List Group
+  gs = schema t
+
+  under : (b : List ℕ) (scratch : ℕ) → messageReading t b scratch ≡ messageR strict gs scratch b
+  unfolding messageReading accepted need
+  under b scratch = rw e
+
+  writes : (s : List ℕ) (room : ℕ) → toMessage t s room ≡ written gs room s
+  unfolding toMessage accepted need
+  writes s room = rw e
+
+  rewrites : (b : List ℕ) (rooms : Rooms) → rewriting t b rooms ≡ rewritten strict gs rooms b
+  unfolding rewriting toSheet rewritten
+  rewrites b rooms = rw (under b (rooms .scratch))
+
+  there : (b s : List ℕ) → Means t b s → canonical.Means strict gs b s
+  there b s M scratch h = sym (under b scratch) ∙ M scratch h
+
+  back : (b s : List ℕ) → canonical.Means strict gs b s → Means t b s
+  back b s M scratch h = under b scratch ∙ M scratch h
+
+  -- DEMAND 2
+
+  accepted-exactly : (b : List ℕ) (scratch : ℕ) → length b ≤ scratch → (messageVerdict t b scratch ≡ Accepted) ↔ Conforms strict gs b
+  unfolding messageVerdict
+  accepted-exactly b scratch room =
+      let iff = accepted-conforms strict gs (proper t e) scratch b room in
+      (λ v. iff .0 (done-is _ (ap verdictOf (sym (under b scratch)) ∙ v)), λ c. ap verdictOf (under b scratch) ∙ is-done _ (iff .1 c))
+
+  sheet : (b : List ℕ) (scratch : ℕ) → messageVerdict t b scratch ≡ Accepted → (s : List ℕ) × Means t b s
+  unfolding messageVerdict
+  sheet b scratch v = let (s, m, d) = done-is _ v in (s, back b s (trip.message-means strict gs scratch b s m (sym (under b scratch) ∙ d)))
+
+  sheet-written : (b s : List ℕ) → Means t b s → (scratch room : ℕ) → length b ≤ scratch → length s ≤ room → toSheet t b scratch room ≡ wrote s [] []
+  unfolding toSheet sheetIn need
+  sheet-written b s M scratch room h l = rw (M scratch h, le-leb _ _ l)
+
+  reads-back : (s X Y r : List ℕ) (room : ℕ) → toMessage t s room ≡ wrote X Y r → (length X ≤ room) × Means t X s
+  reads-back s X Y r room w = let (l, M) = trip.written-means gs (sized t e) strict room s X Y r (sym (writes s room) ∙ w) in (l, back X s M)
+
+  only-room : (s X : List ℕ) → Makes t s X → (room n p : ℕ) → toMessage t s room ≡ stopped n p → (n ≡ 47) × (p ≡ 0)
+  unfolding written fitted need
+  only-room s X m room n p w = go (leb (length X) room && leb (length X) 65536) (rw m at (sym (writes s room) ∙ w))
+    where
+      go : (c : Bool) → need c (stopped 47 0) (wrote X [] []) ≡ stopped n p → (n ≡ 47) × (p ≡ 0)
+      go true q = unfold need in let z : _≡_ {A = ℕ} 0 1 = cc in absurd (omega arith)
+      go false q = unfold need in let a : n ≡ 47 = cc in let b : p ≡ 0 = cc in (a, b)
+
+  room-exactly : (s X : List ℕ) → Makes t s X → (room : ℕ) → (toMessage t s room ≡ stopped 47 0) ↔ ((c : List ℕ) → Means t c s → length c ≤ room → ⊥)
+  room-exactly s X m room =
+      let iff = trip.room-short gs (sized t e) strict room s X [] [] m in
+      (λ w c M l. iff .0 (sym (writes s room) ∙ w) c (there c s M) l, λ f. writes s room ∙ iff .1 (λ c M l. f c (back c s M) l))
+
+  read-one-way : (s s′ X Y Y′ r r′ : List ℕ) (room room′ : ℕ) → toMessage t s room ≡ wrote X Y r → toMessage t s′ room′ ≡ wrote X Y′ r′ → s ≡ s′
+  read-one-way s s′ X Y Y′ r r′ room room′ w w′ =
+      let u = reads-back s X Y r room w .1 (length X) (omega arith) in
+      let u′ = reads-back s′ X Y′ r′ room′ w′ .1 (length X) (omega arith) in
+      cc
+
+  demand2 : Demand2 t
+  demand2 = record {
+    accepted-exactly = accepted-exactly;
+    sheet = λ b scratch h v. sheet b scratch v;
+    sheet-written = sheet-written;
+    sheet-short = λ b s M. eleven gs (sized t e) strict b s [] (trip.means-walk strict gs b s (there b s M) .1);
+    reads-back = reads-back;
+    only-room = only-room;
+    room-exactly = room-exactly;
+    allowed = λ b s M. let (X, m, l) = trip.read-write gs (sized t e) strict b s (there b s M) in (X, m);
+    read-one-way = read-one-way;
+  }
+
+  -- DEMAND 3
+
+  one-form : (a s : List ℕ) → Means t a s → OneForm t a s
+  unfolding roomAfter
+  one-form a s M =
+      let c = trip.canonical gs (sized t e) strict a s (there a s M) in
+      let succeeds : (rooms : Rooms) → Enough rooms a → rewriting t a rooms ≡ wrote (c .form) [] [] = λ rooms R. rewrites a rooms ∙ c .rewrites rooms R in
+      record {
+        form = c .form;
+        succeeds = succeeds;
+        stands = λ rooms R output l. ap (λ (x : Writing). take (length (c .form)) (roomAfter x output)) (succeeds rooms R)
+            ∙ part-splice (length (c .form)) 0 (c .form) output (omega (arith, l, R .output, c .least a (there a s M))) refl;
+        size = sat-is (rw (trip.means-walk strict gs (c .form) s (c .means) .1) at (sat-size gs (c .form)));
+        in-order = c .made;
+        keeps = back (c .form) s (c .means);
+        again = λ rooms R. rewrites (c .form) rooms ∙ c .again rooms R;
+        least = λ d N. c .least d (there d s N);
+      }
+
+  demand3 : Demand3 t
+  unfolding one-form
+  demand3 = record {
+    one-form = one-form;
+    same-form = λ a b s s′ A B. trip.same-form gs (sized t e) strict a b s s′ (there a s A) (there b s′ B);
+  }
+
+-- All of it.
+pub demands : Demands
+demands = record { first = demand1; second = demand2; third = demand3 }

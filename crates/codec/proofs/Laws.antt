@@ -23,6 +23,7 @@ use Rattle.message.specs.Count.{count}
 use Rattle.message.specs.Proper.{SizedKind, SizedFields, Sized}
 use Rattle.message.proofs.CheckExact.{after-exact}
 use Rattle.sheet.specs.Written.{Writing, stopped, wrote}
+use Rattle.sheet.specs.Rewritten.{sheetIn}
 use Rattle.message.specs.Check.{countOf, after}
 use Rattle.reading.specs.declared.Number.the-variants.{Refused as NotRead}
 use Rattle.reading.specs.declared.Part.the-variants.{Refusal}
@@ -33,7 +34,7 @@ use Rattle.reading.specs.Part as part
 use Rattle.codec.specs.declared.Span.the-variants.{Refused as NoBytes}
 use Rattle.codec.specs.declared.Written.{Written}
 use Rattle.codec.specs.declared.Written.the-variants.{Bytes, Refused as Unwritten}
-use Rattle.codec.specs.Answers.{accepted, messageReading, verdictOf, messageVerdict, scratchAfter, Opened, writtenOf, roomAfter, sheetIn, toSheet, numberUnder, numberAnswer, partUnder, partAnswer, bytesVerdict, spanOf, spanUnder, spanAnswer}
+use Rattle.codec.specs.Answers.{accepted, messageReading, verdictOf, messageVerdict, scratchAfter, Opened, writtenOf, roomAfter, toSheet, numberUnder, numberAnswer, partUnder, partAnswer, bytesVerdict, spanOf, spanUnder, spanAnswer}
 
 -- a refusal opens nothing
 pub opens-nothing : (t b : List ℕ) (scratch : ℕ) (k : List ℕ) (w : Walked) (n p : ℕ) → w ≡ Failed n p → messageReading t b scratch ≡ refused n p → Opened t b scratch k w

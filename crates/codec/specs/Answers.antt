@@ -22,7 +22,8 @@ use Rattle.reading.specs.Item.{itemOf}
 use Rattle.reading.specs.Number.{numberAt}
 use Rattle.reading.specs.Part.{partAt}
 use Rattle.reading.specs.Part as part
-use Rattle.sheet.specs.Written.{Writing, stopped, wrote}
+use Rattle.sheet.specs.Written.{Writing, stopped, wrote, written}
+use Rattle.sheet.specs.Rewritten.{Rooms, sheetIn, onward}
 use Rattle.codec.specs.declared.Span.{Span}
 use Rattle.codec.specs.declared.Span.the-variants.{Bytes as Lie, Refused as NoBytes}
 use Rattle.codec.specs.declared.Written.{Written}
@@ -81,14 +82,19 @@ unfoldable pub roomAfter : Writing → List ℕ → List ℕ
 roomAfter (stopped n p) room = room
 roomAfter (wrote X D r) room = splice (length X) 0 X room
 
--- "46 when a message is turned into a sheet and the sheet room is too short, after the message's faults"
-unfoldable pub sheetIn : ℕ → Reading → Writing
-sheetIn room (refused n p) = stopped n p
-sheetIn room (done s m) = need (leb (length s) room) (stopped 46 0) (wrote s [] [])
-
 -- The sheet of the message b, for a room of this length.
 unfoldable pub toSheet : List ℕ → List ℕ → ℕ → ℕ → Writing
 toSheet t b scratch room = sheetIn room (messageReading t b scratch)
+
+-- SHEET TO MESSAGE, AND REWRITING
+
+-- The message of the sheet s, for an output of this length: "20 first (place 0)".
+unfoldable pub toMessage : List ℕ → List ℕ → ℕ → Writing
+toMessage t s room = need (accepted (tableVerdict t)) (stopped 20 0) (written (schema t) room s)
+
+-- "Rewriting checks the message, then 46, then 47."
+unfoldable pub rewriting : List ℕ → List ℕ → Rooms → Writing
+rewriting t b rooms = onward (schema t) (rooms .output) (toSheet t b (rooms .scratch) (rooms .sheet))
 
 -- READING ONE FIELD
 -- "After the message's own faults: 28 no such field, 29 absent, 28 no such item, 48 other kind (each at place 0)."

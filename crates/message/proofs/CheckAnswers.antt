@@ -6,24 +6,23 @@ use native.Mathlib.Omega.{arith}
 use native.Mathlib.Nat.{add-zero, add-assoc, mod-add-mod, mod-eq-of-lt, mod-lt}
 use Rattle.message.specs.Count.{Count, failed, counted, more, andThen}
 use Rattle.message.specs.Check.{countBy, countOf, after}
-use Rattle.message.specs.declared.Taken.{Taken}
 use Rattle.message.specs.declared.Step.{Step}
 use Rattle.message.specs.declared.Step.the-variants.{Counted, Refused}
 use Rattle.message.specs.declared.Walked.the-variants.{Counted as Whole, Refused as Refuse}
 
 -- RETURNS
 
-module _ (F : Taken → List ℕ) (k : ℕ) (c : Count) where
+module _ (F : ℕ → List ℕ) (k : ℕ) (c : Count) where
   pub refuses : (n p : ℕ) → c ≡ failed n p → countBy F (Refused n p) ≡ after k c
   unfolding countBy after
   refuses n p e = rw e
 
-  pub counts : (j l : ℕ) (s : Taken) → c ≡ counted j (F s) → l ≡ (k + j) % 2 ^ 64 → countBy F (Counted l s) ≡ after k c
+  pub counts : (j l : ℕ) (s : ℕ) → c ≡ counted j (F s) → l ≡ (k + j) % 2 ^ 64 → countBy F (Counted l s) ≡ after k c
   unfolding countBy after
   counts j l s e q = rw (e, q)
 
   -- nothing more, and something more
-  pub stays : (s : Taken) → c ≡ counted 0 (F s) → k < 2 ^ 64 → countBy F (Counted k s) ≡ after k c
+  pub stays : (s : ℕ) → c ≡ counted 0 (F s) → k < 2 ^ 64 → countBy F (Counted k s) ≡ after k c
   stays s e h = counts 0 k s e (rw (add-zero, mod-eq-of-lt h))
 
 pub after-more : (k j : ℕ) (c : Count) → after k (more j c) ≡ after ((k + j) % 2 ^ 64) c
@@ -36,11 +35,11 @@ goes-on k j l c d e q = rw (e, q) (after-more k j d)
 
 -- AFTER A CALL
 
-module _ (F : Taken → List ℕ) (k : ℕ) (c : Count) (v : Step) (s : countBy F v ≡ after k c) where
+module _ (F : ℕ → List ℕ) (k : ℕ) (c : Count) (v : Step) (s : countBy F v ≡ after k c) where
   told : (w : Step) → v ≡ w → countBy F w ≡ after k c
   told w e = sym (ap (countBy F) e) ∙ s
 
-  pub passed : (l : ℕ) (x : Taken) (f : List ℕ → Count) → v ≡ Counted l x → after k (andThen c f) ≡ after l (f (F x))
+  pub passed : (l : ℕ) (x : ℕ) (f : List ℕ → Count) → v ≡ Counted l x → after k (andThen c f) ≡ after l (f (F x))
   unfolding countBy after andThen
   passed l x f e = go c (told (Counted l x) e)
     where
@@ -51,7 +50,7 @@ module _ (F : Taken → List ℕ) (k : ℕ) (c : Count) (v : Step) (s : countBy 
           let b : i ≡ F x = cc in
           rw (a, b) (after-more k j (f (F x)))
 
-  pub stopped : (G : Taken → List ℕ) (n p : ℕ) (f : List ℕ → Count) → v ≡ Refused n p → countBy G (Refused n p) ≡ after k (andThen c f)
+  pub stopped : (G : ℕ → List ℕ) (n p : ℕ) (f : List ℕ → Count) → v ≡ Refused n p → countBy G (Refused n p) ≡ after k (andThen c f)
   unfolding countBy after andThen
   stopped G n p f e = go c (told (Refused n p) e)
     where
@@ -59,7 +58,7 @@ module _ (F : Taken → List ℕ) (k : ℕ) (c : Count) (v : Step) (s : countBy 
       go (failed x y) q = q
       go (counted j i) q = absurd (let z : _≡_ {A = ℕ} 0 1 = cc in omega arith)
 
-  pub bounded : (l : ℕ) (x : Taken) → v ≡ Counted l x → l < 2 ^ 64
+  pub bounded : (l : ℕ) (x : ℕ) → v ≡ Counted l x → l < 2 ^ 64
   unfolding countBy after
   bounded l x e = go c (told (Counted l x) e)
     where
@@ -74,7 +73,7 @@ module _ (k : ℕ) (c : Count) where
   unfolding countOf after
   check-refuses n p e = rw e
 
-  pub check-accepts : (v : Step) (l : ℕ) (x : Taken) → countBy (λ _. []) v ≡ after k c → v ≡ Counted l x → countOf (Whole l) [] ≡ after k c
+  pub check-accepts : (v : Step) (l : ℕ) (x : ℕ) → countBy (λ _. []) v ≡ after k c → v ≡ Counted l x → countOf (Whole l) [] ≡ after k c
   unfolding countOf countBy
   check-accepts v l x s e = sym (ap (countBy (λ _. [])) e) ∙ s
 

@@ -24,7 +24,6 @@ use Rattle.message.specs.Count.{failed, counted, count, more, andThen}
 use Rattle.message.specs.Check.{countBy, after, placeBy, itemR, markedValueR, Ready}
 use Rattle.message.specs.declared.Step.{Step}
 use Rattle.message.specs.declared.Step.the-variants.{Counted, Refused}
-use Rattle.message.specs.declared.Taken.{Taken}
 use Rattle.message.specs.declared.Frame.{Frame}
 use Rattle.message.specs.declared.Located.{Located}
 use Rattle.message.specs.declared.Located.the-variants.{At, Nowhere}
@@ -34,12 +33,12 @@ use Rattle.message.proofs.CheckValues.{plain-counts}
 
 -- BEHIND AN OFFSET
 
-module _ (past w : ℕ) (inside : ℕ → Reader) (h : Here) (at : ℕ) (m : List ℕ) (F : Taken → List ℕ) (l : Located) (s : placeBy F l ≡ locate past w h at m) where
+module _ (past w : ℕ) (inside : ℕ → Reader) (h : Here) (at : ℕ) (m : List ℕ) (F : ℕ → List ℕ) (l : Located) (s : placeBy F l ≡ locate past w h at m) where
   pub leads-nowhere : (n p : ℕ) → l ≡ Nowhere n p → count (indirectR past w inside h at m) ≡ failed n p
   unfolding placeBy
   leads-nowhere n p e = count-lost h at m past w inside n p (sym s ∙ ap (placeBy F) e)
 
-  pub leads-to : (n p : ℕ) (x : Taken) → l ≡ At p n x → count (indirectR past w inside h at m) ≡ count (inside n h p (F x))
+  pub leads-to : (n p : ℕ) (x : ℕ) → l ≡ At p n x → count (indirectR past w inside h at m) ≡ count (inside n h p (F x))
   unfolding placeBy
   leads-to n p x e = count-found h at m past w inside p n (F x) (sym s ∙ ap (placeBy F) e)
 
@@ -50,15 +49,15 @@ module _ (I : Inner) (sw : ℕ → ℕ) (S : ℕ → Reader) (es : List (List �
       ≡ andThen (count (fieldR I sw S (fieldAt es (drop q t)) h at m)) (λ m′. count (fieldsR I sw S (fieldsAt es (n - (i + 1)) (drop (q + 16) t)) h (at + fieldWidth sw (fieldAt es (drop q t))) m′))
   fields-turn l = rw (fields-more es t q n i l) (count-fields h at m I sw S (fieldAt es (drop q t)) (fieldsAt es (n - (i + 1)) (drop (q + 16) t)))
 
-  module _ (F : Taken → List ℕ) (v : Step) (s : countBy F v ≡ after k (count (fieldR I sw S (fieldAt es (drop q t)) h at m))) (l : i < n) where
-    pub fields-passed : (j w : ℕ) (x : Taken) → v ≡ Counted j x → w ≡ fieldWidth sw (fieldAt es (drop q t))
+  module _ (F : ℕ → List ℕ) (v : Step) (s : countBy F v ≡ after k (count (fieldR I sw S (fieldAt es (drop q t)) h at m))) (l : i < n) where
+    pub fields-passed : (j w : ℕ) (x : ℕ) → v ≡ Counted j x → w ≡ fieldWidth sw (fieldAt es (drop q t))
         → after k (count (fieldsR I sw S (fieldsAt es (n - i) (drop q t)) h at m)) ≡ after j (count (fieldsR I sw S (fieldsAt es (n - (i + 1)) (drop (q + 16) t)) h (at + w) (F x)))
     fields-passed j w x e iw = rw (fields-turn l, iw) (passed F k _ v s j x _ e)
 
-    pub fields-stopped : (G : Taken → List ℕ) (x p : ℕ) → v ≡ Refused x p → countBy G (Refused x p) ≡ after k (count (fieldsR I sw S (fieldsAt es (n - i) (drop q t)) h at m))
+    pub fields-stopped : (G : ℕ → List ℕ) (x p : ℕ) → v ≡ Refused x p → countBy G (Refused x p) ≡ after k (count (fieldsR I sw S (fieldsAt es (n - i) (drop q t)) h at m))
     fields-stopped G x p e = rw (fields-turn l) (stopped F k _ v s G x p _ e)
 
-  pub fields-end : (F : Taken → List ℕ) (x : Taken) → F x ≡ m → n ≤ i → k < 2 ^ 64 → countBy F (Counted k x) ≡ after k (count (fieldsR I sw S (fieldsAt es (n - i) (drop q t)) h at m))
+  pub fields-end : (F : ℕ → List ℕ) (x : ℕ) → F x ≡ m → n ≤ i → k < 2 ^ 64 → countBy F (Counted k x) ≡ after k (count (fieldsR I sw S (fieldsAt es (n - i) (drop q t)) h at m))
   unfolding fieldsR
   fields-end F x f l b = rw (fields-none es t q n i l) (stays F k _ x (rw f (count-none h at m)) b)
 
@@ -103,7 +102,7 @@ module _ (I : Inner) (sw : ℕ → ℕ) (S : ℕ → Reader) (f : Field) (h : He
     unfolding fieldMark valueR
     value-one e = rw (ix, e)
 
-    module _ (e : f .sequence ≡ true) (w : ℕ) (iw : w ≡ kindWidth sw x) (F : Taken → List ℕ) (l : Located) (s : placeBy F l ≡ locate 13 w h at m) where
+    module _ (e : f .sequence ≡ true) (w : ℕ) (iw : w ≡ kindWidth sw x) (F : ℕ → List ℕ) (l : Located) (s : placeBy F l ≡ locate 13 w h at m) where
       sequence-is : count (markedValueR I sw S f h at m) ≡ more 2 (count (indirectR 13 w (listR w (itemR I S x)) h at m))
       unfolding valueR
       sequence-is = count-marked h at m (fieldMark f) (valueR I sw S f) ∙ rw (iw, ix, e)
@@ -112,7 +111,7 @@ module _ (I : Inner) (sw : ℕ → ℕ) (S : ℕ → Reader) (f : Field) (h : He
       unfolding more
       sequence-nowhere n p o = sequence-is ∙ ap (more 2) (leads-nowhere 13 w (listR w (itemR I S x)) h at m F l s n p o)
 
-      pub sequence-found : (n p : ℕ) (y : Taken) → l ≡ At p n y → p + 4 ≤ length (h .bytes) → count (markedValueR I sw S f h at m) ≡ more 6 (count (itemsR w (itemR I S x) n h (p + 4) (F y)))
+      pub sequence-found : (n p : ℕ) (y : ℕ) → l ≡ At p n y → p + 4 ≤ length (h .bytes) → count (markedValueR I sw S f h at m) ≡ more 6 (count (itemsR w (itemR I S x) n h (p + 4) (F y)))
       sequence-found n p y o g =
           sequence-is
           ∙ ap (more 2) (leads-to 13 w (listR w (itemR I S x)) h at m F l s n p y o ∙ count-list h p (F y) w (itemR I S x) n g)
@@ -124,14 +123,14 @@ module _ (w : ℕ) (R : Reader) (h : Here) (n i at k : ℕ) (m : List ℕ) where
   items-turn : i < n → count (itemsR w R (n - i) h at m) ≡ andThen (count (R h at m)) (λ m′. count (itemsR w R (n - (i + 1)) h (at + w) m′))
   items-turn l = let e : n - i ≡ suc (n - (i + 1)) = omega arith in rw e (count-items h at m w R (n - (i + 1)))
 
-  module _ (F : Taken → List ℕ) (v : Step) (s : countBy F v ≡ after k (count (R h at m))) (l : i < n) where
-    pub items-passed : (j : ℕ) (x : Taken) → v ≡ Counted j x → after k (count (itemsR w R (n - i) h at m)) ≡ after j (count (itemsR w R (n - (i + 1)) h (at + w) (F x)))
+  module _ (F : ℕ → List ℕ) (v : Step) (s : countBy F v ≡ after k (count (R h at m))) (l : i < n) where
+    pub items-passed : (j : ℕ) (x : ℕ) → v ≡ Counted j x → after k (count (itemsR w R (n - i) h at m)) ≡ after j (count (itemsR w R (n - (i + 1)) h (at + w) (F x)))
     items-passed j x e = rw (items-turn l) (passed F k _ v s j x _ e)
 
-    pub items-stopped : (G : Taken → List ℕ) (x p : ℕ) → v ≡ Refused x p → countBy G (Refused x p) ≡ after k (count (itemsR w R (n - i) h at m))
+    pub items-stopped : (G : ℕ → List ℕ) (x p : ℕ) → v ≡ Refused x p → countBy G (Refused x p) ≡ after k (count (itemsR w R (n - i) h at m))
     items-stopped G x p e = rw (items-turn l) (stopped F k _ v s G x p _ e)
 
-  pub items-end : (F : Taken → List ℕ) (x : Taken) → F x ≡ m → n ≤ i → k < 2 ^ 64 → countBy F (Counted k x) ≡ after k (count (itemsR w R (n - i) h at m))
+  pub items-end : (F : ℕ → List ℕ) (x : ℕ) → F x ≡ m → n ≤ i → k < 2 ^ 64 → countBy F (Counted k x) ≡ after k (count (itemsR w R (n - i) h at m))
   unfolding itemsR
   items-end F x f l b = let e : n - i ≡ 0 = omega arith in rw e (stays F k _ x (rw f (count-none h at m)) b)
 

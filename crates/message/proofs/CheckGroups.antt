@@ -15,19 +15,19 @@ use Rattle.message.specs.Marks.{padsZero, padsBefore, mark}
 use Rattle.message.specs.Sheet.{GB, XT, XU, GE}
 use Rattle.message.specs.Walk.{Reading, refused, done, prefixed, next, Here, here, strict, Inner, word, locate, indirectR, innerR, itemsR, listR, textR, staticR, extendingR, groupsR, extensionR, extensionIn, behindR, padded, bodyR, headR, groupR, walk}
 use Rattle.message.specs.Count.{Count, failed, counted, count, more, andThen}
-use Rattle.message.specs.Check.{marksOf, countBy, after, placeBy}
+use Rattle.message.specs.Check.{packed, marksOf, countBy, after, placeBy}
 use Rattle.message.specs.declared.Step.{Step}
 use Rattle.message.specs.declared.Step.the-variants.{Counted, Refused}
-use Rattle.message.specs.declared.Taken.{Taken}
 use Rattle.message.specs.declared.Located.{Located}
 use Rattle.message.specs.declared.Located.the-variants.{At, Nowhere}
 use Rattle.message.proofs.Count.{more-more, count-prefixed, count-marked, count-list, count-inner, length-mark}
+use Rattle.message.proofs.CheckMarks.{packed-is, not-scattered}
 use Rattle.message.proofs.CheckAnswers.{stays, goes-on, passed, stopped, bounded}
 use Rattle.message.proofs.CheckFields.{leads-nowhere, leads-to}
 
 -- A NESTED GROUP
 
-pub nested-passed : (F : Taken → List ℕ) (k : ℕ) (c : Count) (v : Step) (l : ℕ) (x y : Taken) (m : List ℕ) → countBy (λ _. []) v ≡ after k c → v ≡ Counted l x → F y ≡ m
+pub nested-passed : (F : ℕ → List ℕ) (k : ℕ) (c : Count) (v : Step) (l : ℕ) (x y : ℕ) (m : List ℕ) → countBy (λ _. []) v ≡ after k c → v ≡ Counted l x → F y ≡ m
     → countBy F (Counted l y) ≡ after k (andThen c (λ _. counted 0 m))
 nested-passed F k c v l x y m s e o =
     rw (passed (λ _. []) k c v s l x (λ _. counted 0 m) e) (stays F l (counted 0 m) y (rw o refl) (bounded (λ _. []) k c v s l x e))
@@ -39,7 +39,7 @@ module _ (gs : List Group) (I : Inner) (h : Here) (at : ℕ) (m : List ℕ) wher
   unfolding extensionR count
   extension-zero e = rw (eq-eqb _ _ e)
 
-  module _ (e : word at (h .bytes) ≡ 0 → ⊥) (F : Taken → List ℕ) (l : Located) (s : placeBy F l ≡ locate 13 4 h at m) where
+  module _ (e : word at (h .bytes) ≡ 0 → ⊥) (F : ℕ → List ℕ) (l : Located) (s : placeBy F l ≡ locate 13 4 h at m) where
     extension-is : extensionR gs I h at m ≡ indirectR 13 4 (groupsR gs I) h at m
     unfolding extensionR
     extension-is = rw (ne-eqb _ _ e)
@@ -47,11 +47,11 @@ module _ (gs : List Group) (I : Inner) (h : Here) (at : ℕ) (m : List ℕ) wher
     pub extension-nowhere : (n p : ℕ) → l ≡ Nowhere n p → count (extensionR gs I h at m) ≡ failed n p
     extension-nowhere n p o = ap count extension-is ∙ leads-nowhere 13 4 (groupsR gs I) h at m F l s n p o
 
-    pub extension-empty : (n p : ℕ) (x : Taken) → l ≡ At p n x → n ≡ 0 → count (extensionR gs I h at m) ≡ counted 0 (F x)
+    pub extension-empty : (n p : ℕ) (x : ℕ) → l ≡ At p n x → n ≡ 0 → count (extensionR gs I h at m) ≡ counted 0 (F x)
     unfolding groupsR count
     extension-empty n p x o z = ap count extension-is ∙ leads-to 13 4 (groupsR gs I) h at m F l s n p x o ∙ rw (eq-eqb _ _ z)
 
-    pub extension-some : (n p : ℕ) (x : Taken) → l ≡ At p n x → (n ≡ 0 → ⊥) → p + 4 ≤ length (h .bytes) → count (extensionR gs I h at m) ≡ more 6 (count (itemsR 4 (indirectR 26 1 (extendingR gs I)) n h (p + 4) (F x)))
+    pub extension-some : (n p : ℕ) (x : ℕ) → l ≡ At p n x → (n ≡ 0 → ⊥) → p + 4 ≤ length (h .bytes) → count (extensionR gs I h at m) ≡ more 6 (count (itemsR 4 (indirectR 26 1 (extendingR gs I)) n h (p + 4) (F x)))
     unfolding groupsR
     extension-some n p x o z g =
         ap count extension-is ∙ leads-to 13 4 (groupsR gs I) h at m F l s n p x o
@@ -59,7 +59,7 @@ module _ (gs : List Group) (I : Inner) (h : Here) (at : ℕ) (m : List ℕ) wher
         ∙ ap (more 2) (count-list h p (F x) 4 (indirectR 26 1 (extendingR gs I)) n g) ∙ more-more 2 4 _)
 
   -- one of its groups
-  module _ (F : Taken → List ℕ) (l : Located) (s : placeBy F l ≡ locate 26 1 h at m) (n p : ℕ) (x : Taken) (o : l ≡ At p n x) where
+  module _ (F : ℕ → List ℕ) (l : Located) (s : placeBy F l ≡ locate 26 1 h at m) (n p : ℕ) (x : ℕ) (o : l ≡ At p n x) where
     pub extending-short : n < 12 → count (indirectR 26 1 (extendingR gs I) h at m) ≡ failed 1 (h .base + p)
     unfolding extendingR need count
     extending-short z = leads-to 26 1 (extendingR gs I) h at m F l s n p x o ∙ rw (lt-leb 12 n z)
@@ -116,15 +116,15 @@ module _ (gs : List Group) (I : Inner) (g base : ℕ) (b : List ℕ) (a : ℕ) (
     body-is e = rw (← ia, le-leb a (length b) l, e) (closes (part 8 4 b) b base a _ (length-part 8 4 b (omega arith)))
 
     -- after the walk of what is inside, on marks that are all 0 and behind the eight bytes of the id
-    module _ (e : extensionIn (here strict b base a) 12 ≡ true) (k j : ℕ) (q : j ≡ (k + 8) % 2 ^ 64) (o : List ℕ) (z : o ≡ replicate (length b) 0) (F : Taken → List ℕ) (v : Step)
+    module _ (e : extensionIn (here strict b base a) 12 ≡ true) (k j : ℕ) (q : j ≡ (k + 8) % 2 ^ 64) (o : List ℕ) (z : o ≡ replicate (length b) 0) (F : ℕ → List ℕ) (v : Step)
         (s : countBy F v ≡ after j (count (next (staticR gs I 5 g (here strict b base a) 16 o) (λ m. extensionR gs I (here strict b base a) 12 m)))) where
       body-contents : countBy F v ≡ after k (more 8 (count (next (staticR gs I 5 g (here strict b base a) 16 (replicate (length b) 0)) (λ m. extensionR gs I (here strict b base a) 12 m))))
       body-contents = rw z at s ∙ sym (goes-on k 8 j _ _ refl q)
 
-      pub body-stopped : (G : Taken → List ℕ) (n p : ℕ) → v ≡ Refused n p → countBy G (Refused n p) ≡ after k (count (bodyR strict gs I g base b))
+      pub body-stopped : (G : ℕ → List ℕ) (n p : ℕ) → v ≡ Refused n p → countBy G (Refused n p) ≡ after k (count (bodyR strict gs I g base b))
       body-stopped G n p r = stopped F k _ v body-contents G n p (closing b base a) r ∙ ap (after k) (sym (body-is e))
 
-      pub body-passed : (i : ℕ) (x : Taken) → v ≡ Counted i x → after k (count (bodyR strict gs I g base b)) ≡ after i (closing b base a (F x))
+      pub body-passed : (i : ℕ) (x : ℕ) → v ≡ Counted i x → after k (count (bodyR strict gs I g base b)) ≡ after i (closing b base a (F x))
       body-passed i x r = ap (after k) (body-is e) ∙ passed F k _ v body-contents i x (closing b base a) r
 
 module _ (b : List ℕ) (base a : ℕ) (m : List ℕ) where
@@ -199,9 +199,11 @@ pub cleared : (m : List ℕ) (n : ℕ) → n ≡ length m → splice n 0 (replic
 cleared m n e = let h : length m ≤ n = omega arith in rw (drop-of-length-le m h) (append-nil _)
 
 -- nothing is taken yet
-pub nothing-taken : (a : ℕ) (m b : List ℕ) → length m ≡ length b → marksOf a (record { packed = a; scattered = false }) m ≡ replicate (length b) 0
+pub nothing-taken : (a : ℕ) (m b : List ℕ) → length m ≡ length b → a < 131072 → marksOf a a m ≡ replicate (length b) 0
 unfolding marksOf mark
-nothing-taken a m b e = let k : min a (length m) - a ≡ 0 = omega arith in rw (k, splice-nil a (replicate (length m) 0), e)
+nothing-taken a m b e h =
+    let k : min (packed a) (length m) - a ≡ 0 = omega (arith, packed-is a h) in
+    rw (k, not-scattered a h, splice-nil a (replicate (length m) 0), e)
 
 -- THE MESSAGE
 

@@ -4,16 +4,16 @@ use mathlib.Core.Path.{_≡_, refl, sym, ap, _∙_}
 use mathlib.Core.Bool.{Bool, true, false, cond, _&&_}
 use mathlib.Core.List.{List, [], _∷_, _++_, append-assoc}
 use native.Mathlib.Omega.{arith}
+use native.Mathlib.Nat.{mod-eq-of-lt}
 use lib.ListN.{length, getD, take, drop, replicate, length-take, length-drop, length-append, length-replicate, drop-of-length-le, List·getD-append, getD-replicate, replicate-append-replicate}
 use lib.Seq.{drop-drop, take-at, drop-at, take-all, getD-append-add, getD-take, getD-drop, ext-getD}
 use lib.Dec.{leb, ltb, eqb}
-use borrow.Author.Tests.{ltb-true, ltb-false, leb-true, leb-false, eqb-true}
+use borrow.Author.Tests.{le-leb, lt-leb, ltb-true, ltb-false, leb-true, leb-false, eqb-true}
 use Rattle.wire.specs.Bytes.{part, splice, allZero}
 use Rattle.wire.proofs.Laws.{drop-more, splice-append, splice-nil, length-splice}
 use Rattle.schema.proofs.Depth.{and-both}
 use Rattle.message.specs.Marks.{free, mark, padsZero}
-use Rattle.message.specs.Check.{marksOf}
-use Rattle.message.specs.declared.Taken.{Taken}
+use Rattle.message.specs.Check.{packed, scattered, marksOf}
 
 -- what stands in a place does not matter once it is written over
 pub splice-over : (n p : ℕ) (xs ys s : List ℕ) → length xs ≡ n → p + n ≤ length s → splice n p ys (splice n p xs s) ≡ splice n p ys s
@@ -155,18 +155,37 @@ zeros-all (suc n) = zeros-all n
 zeros-free : (n p k : ℕ) → allZero (part k p (replicate n 0)) ≡ true
 zeros-free n p k = zeros-take k (drop p (replicate n 0)) (zeros-drop p (replicate n 0) (zeros-all n))
 
+-- WHAT IS TAKEN, AS A NUMBER
+
+module _ (s : ℕ) (h : s < 131072) where
+  pub packed-is : packed s ≡ s
+  unfolding packed
+  packed-is = mod-eq-of-lt h
+
+  packed-more : packed (s + 131072) ≡ packed s
+  unfolding packed
+  packed-more = omega arith
+
+  pub not-scattered : scattered s ≡ false
+  unfolding scattered
+  not-scattered = lt-leb 131072 s h
+
+pub is-scattered : (s : ℕ) → 131072 ≤ s → scattered s ≡ true
+unfolding scattered
+is-scattered s h = le-leb 131072 s h
+
 -- CLAIMS
 
-abbrev under : ℕ → Taken → List ℕ → List ℕ
-under a s m = cond (s .scattered) m (replicate (length m) 0)
+abbrev under : ℕ → ℕ → List ℕ → List ℕ
+under a s m = cond (scattered s) m (replicate (length m) 0)
 
 under-length : (x : Bool) (m : List ℕ) → length (cond x m (replicate (length m) 0)) ≡ length m
 under-length true m = refl
 under-length false m = length-replicate (length m) 0
 
-module _ (a : ℕ) (s : Taken) (m : List ℕ) where
+module _ (a : ℕ) (s : ℕ) (m : List ℕ) where
   abbrev run : ℕ
-  run = min (s .packed) (length m) - a
+  run = min (packed s) (length m) - a
 
   is : marksOf a s m ≡ mark a run (under a s m)
   unfolding marksOf
@@ -174,21 +193,21 @@ module _ (a : ℕ) (s : Taken) (m : List ℕ) where
 
   module _ (p n : ℕ) (ap′ : a ≤ p) (one : 1 ≤ n) (l : p + n ≤ length m) where
     u : length (under a s m) ≡ length m
-    u = under-length (s .scattered) m
+    u = under-length (scattered s) m
 
-    pub claim-taken : p < s .packed → free p n (marksOf a s m) ≡ false
+    pub claim-taken : p < packed s → free p n (marksOf a s m) ≡ false
     unfolding marksOf
     claim-taken h = taken-not-free a run p n (under a s m) ap′ (omega (arith, h)) (omega (arith, u)) one
 
-    module _ (h : s .packed ≤ p) where
+    module _ (h : packed s ≤ p) where
       claim-behind : free p n (marksOf a s m) ≡ allZero (part n p (under a s m))
       unfolding marksOf
       claim-behind = free-behind a run p n (under a s m) (omega (arith, h)) (omega (arith, u))
 
-      pub claim-scattered : s .scattered ≡ true → free p n (marksOf a s m) ≡ allZero (part n p m)
+      pub claim-scattered : scattered s ≡ true → free p n (marksOf a s m) ≡ allZero (part n p m)
       claim-scattered e = claim-behind ∙ rw e
 
-      pub claim-packed : s .scattered ≡ false → free p n (marksOf a s m) ≡ true
+      pub claim-packed : scattered s ≡ false → free p n (marksOf a s m) ≡ true
       claim-packed e = claim-behind ∙ rw e (zeros-free (length m) p n)
 
       -- the marks with the value taken: in the scratch, by the end of the packed ones, and in a scratch that was cleared
@@ -196,47 +215,47 @@ module _ (a : ℕ) (s : Taken) (m : List ℕ) where
       unfolding marksOf
       claim-swap = mark-swap p n a run (under a s m) (omega (arith, u)) (omega (arith, u))
 
-    pub claimed-packed : p ≡ s .packed → s .scattered ≡ false → mark p n (marksOf a s m) ≡ marksOf a (record { packed = p + n; scattered = false }) m
+    pub claimed-packed : p ≡ s → s < 131072 → p + n < 131072 → mark p n (marksOf a s m) ≡ marksOf a (p + n) m
     unfolding marksOf
-    claimed-packed e f =
-        let x : min (s .packed) (length m) ≡ p = omega arith in
-        let y : min (p + n) (length m) ≡ p + n = omega arith in
+    claimed-packed e f g =
+        let x : min (packed s) (length m) ≡ p = omega (arith, packed-is s f) in
+        let y : min (packed (p + n)) (length m) ≡ p + n = omega (arith, packed-is (p + n) g) in
         let z : length {A = ℕ} (replicate (length m) 0) ≡ length m = length-replicate (length m) 0 in
-        rw (x, y, f) (mark-run a p n (replicate (length m) 0) ap′ (omega (arith, z, l)))
+        rw (x, y, not-scattered s f, not-scattered (p + n) g) (mark-run a p n (replicate (length m) 0) ap′ (omega (arith, z, l)))
 
 -- the scratch after a value was marked in it: as it was, or cleared before
-pub claimed-scattered : (a : ℕ) (s : Taken) (m m′ : List ℕ) (p n : ℕ) → a ≤ p → 1 ≤ n → p + n ≤ length m → s .packed ≤ p → s .scattered ≡ true
+pub claimed-scattered : (a : ℕ) (s : ℕ) (m m′ : List ℕ) (p n : ℕ) → a ≤ p → 1 ≤ n → p + n ≤ length m → packed s ≤ p → scattered s ≡ true
     → m′ ≡ splice n p (replicate n 1) m → mark p n (marksOf a s m) ≡ marksOf a s m′
 unfolding marksOf mark
 claimed-scattered a s m m′ p n h o l q e r =
     let k : length m′ ≡ length m = ap length r ∙ length-splice n p (replicate n 1) m l (length-replicate n 1) in
     claim-swap a s m p n h o l q ∙ rw (k, e, r)
 
-pub claimed-first : (a : ℕ) (s : Taken) (m o m′ : List ℕ) (p n : ℕ) → a ≤ p → 1 ≤ n → p + n ≤ length m → s .packed ≤ p → s .scattered ≡ false
-    → o ≡ replicate (length m) 0 → m′ ≡ splice n p (replicate n 1) o → mark p n (marksOf a s m) ≡ marksOf a (record { packed = s .packed; scattered = true }) m′
+pub claimed-first : (a : ℕ) (s : ℕ) (m o m′ : List ℕ) (p n : ℕ) → a ≤ p → 1 ≤ n → p + n ≤ length m → packed s ≤ p → s < 131072
+    → o ≡ replicate (length m) 0 → m′ ≡ splice n p (replicate n 1) o → mark p n (marksOf a s m) ≡ marksOf a (s + 131072) m′
 unfolding marksOf mark
 claimed-first a s m o m′ p n h i l q e z r =
     let j : length o ≡ length m = ap length z ∙ length-replicate (length m) 0 in
     let k : length m′ ≡ length m = ap length r ∙ length-splice n p (replicate n 1) o (omega (arith, j, l)) (length-replicate n 1) ∙ j in
-    claim-swap a s m p n h i l q ∙ rw (k, e, r, z)
+    claim-swap a s m p n h i l q ∙ rw (k, packed-more s e, not-scattered s e, is-scattered (s + 131072) (omega arith), r, z)
 
 -- A NESTED GROUP
 
 -- what a nested group left in the scratch is gone
-module _ (a : ℕ) (s : Taken) (m m′ m″ ys : List ℕ) (p n : ℕ) (h : a ≤ length m) (l : p + n ≤ length m) (y : length ys ≡ n)
-    (e : m′ ≡ splice n p ys m) (r : m″ ≡ cond (s .scattered) (splice n p (replicate n 1) m′) m′) (t : mark p n (marksOf a s m) ≡ marksOf a s m) where
+module _ (a : ℕ) (s : ℕ) (m m′ m″ ys : List ℕ) (p n : ℕ) (h : a ≤ length m) (l : p + n ≤ length m) (y : length ys ≡ n)
+    (e : m′ ≡ splice n p ys m) (r : m″ ≡ cond (scattered s) (splice n p (replicate n 1) m′) m′) (t : mark p n (marksOf a s m) ≡ marksOf a s m) where
   retaken-length : length m′ ≡ length m
   retaken-length = ap length e ∙ length-splice n p ys m l y
 
   pub retaken : marksOf a s m″ ≡ marksOf a s m
   unfolding marksOf mark
-  retaken = go (s .scattered) refl
+  retaken = go (scattered s) refl
     where
-      go : (x : Bool) → s .scattered ≡ x → marksOf a s m″ ≡ marksOf a s m
+      go : (x : Bool) → scattered s ≡ x → marksOf a s m″ ≡ marksOf a s m
       go true x =
           let z : m″ ≡ mark p n m = r ∙ rw (x, e) (splice-over n p ys (replicate n 1) m y l) in
           let k : length m″ ≡ length m = ap length z ∙ length-marked p n m l in
-          let w : mark a (min (s .packed) (length m) - a) (mark p n m) ≡ mark p n (mark a (min (s .packed) (length m) - a) m) = mark-swap a (min (s .packed) (length m) - a) p n m (omega arith) l in
+          let w : mark a (min (packed s) (length m) - a) (mark p n m) ≡ mark p n (mark a (min (packed s) (length m) - a) m) = mark-swap a (min (packed s) (length m) - a) p n m (omega arith) l in
           rw (k, x, z) (w ∙ rw x at t)
       go false x =
           let q : m″ ≡ m′ = r ∙ rw x in
@@ -265,59 +284,59 @@ zeros-pads (z ∷ zs) (b ∷ bs) h e =
     let x : z ≡ 0 = eqb-true z 0 (q .0) in
     rw x (ap (λ (c : Bool). eqb b 0 && c) (zeros-pads zs bs (q .1) (omega arith)))
 
-module _ (a : ℕ) (s : Taken) (m b : List ℕ) (same : length m ≡ length b) (room : a ≤ length b) where
-  run-pads : padsZero (drop a (marksOf a s m)) (drop a b) ≡ padsZero (drop (a + (min (s .packed) (length m) - a)) (under a s m)) (drop (a + (min (s .packed) (length m) - a)) b)
+module _ (a : ℕ) (s : ℕ) (m b : List ℕ) (same : length m ≡ length b) (room : a ≤ length b) where
+  run-pads : padsZero (drop a (marksOf a s m)) (drop a b) ≡ padsZero (drop (a + (min (packed s) (length m) - a)) (under a s m)) (drop (a + (min (packed s) (length m) - a)) b)
   unfolding marksOf mark
   run-pads =
       let z = under a s m in
-      let r = min (s .packed) (length m) - a in
-      let f : length (take a z) ≡ a = length-take a z ∙ (let k : length z ≡ length m = under-length (s .scattered) m in omega (arith, k)) in
+      let r = min (packed s) (length m) - a in
+      let f : length (take a z) ≡ a = length-take a z ∙ (let k : length z ≡ length m = under-length (scattered s) m in omega (arith, k)) in
       rw (drop-at (take a z) (replicate r 1 ++ drop r (drop a z)) a f, ones-pads r (drop r (drop a z)) (drop a b), drop-drop r a z, drop-drop r a b)
 
-  pub pads-from : (x : ℕ) → x ≡ max a (s .packed) → padsZero (drop a (marksOf a s m)) (drop a b) ≡ padsZero (drop x (under a s m)) (drop x b)
+  pub pads-from : (x : ℕ) → x ≡ max a (packed s) → padsZero (drop a (marksOf a s m)) (drop a b) ≡ padsZero (drop x (under a s m)) (drop x b)
   unfolding padsZero
-  pads-from x e = go (leb (s .packed) (length b)) refl
+  pads-from x e = go (leb (packed s) (length b)) refl
     where
       k : length (under a s m) ≡ length m
-      k = under-length (s .scattered) m
+      k = under-length (scattered s) m
 
-      go : (t : Bool) → leb (s .packed) (length b) ≡ t → padsZero (drop a (marksOf a s m)) (drop a b) ≡ padsZero (drop x (under a s m)) (drop x b)
-      go true h = let q : s .packed ≤ length b = leb-true _ _ h in let y : a + (min (s .packed) (length m) - a) ≡ x = omega arith in run-pads ∙ rw y
+      go : (t : Bool) → leb (packed s) (length b) ≡ t → padsZero (drop a (marksOf a s m)) (drop a b) ≡ padsZero (drop x (under a s m)) (drop x b)
+      go true h = let q : packed s ≤ length b = leb-true _ _ h in let y : a + (min (packed s) (length m) - a) ≡ x = omega arith in run-pads ∙ rw y
       go false h =
-          let q : length b < s .packed = leb-false _ _ h in
-          let y : length (under a s m) ≤ a + (min (s .packed) (length m) - a) = omega (arith, k) in
+          let q : length b < packed s = leb-false _ _ h in
+          let y : length (under a s m) ≤ a + (min (packed s) (length m) - a) = omega (arith, k) in
           let z : length (under a s m) ≤ x = omega (arith, k) in
           run-pads ∙ rw (drop-of-length-le (under a s m) y, drop-of-length-le (under a s m) z)
 
-  module _ (x : ℕ) (e : x ≡ max a (s .packed)) where
-    pub pads-scattered : s .scattered ≡ true → padsZero (drop x m) (drop x b) ≡ padsZero (drop a (marksOf a s m)) (drop a b)
+  module _ (x : ℕ) (e : x ≡ max a (packed s)) where
+    pub pads-scattered : scattered s ≡ true → padsZero (drop x m) (drop x b) ≡ padsZero (drop a (marksOf a s m)) (drop a b)
     pads-scattered f = sym (pads-from x e ∙ rw f)
 
     pub pads-past : length b < x → true ≡ padsZero (drop a (marksOf a s m)) (drop a b)
     unfolding padsZero
-    pads-past h = let k : length (under a s m) ≤ x = omega (arith, under-length (s .scattered) m) in sym (pads-from x e ∙ rw (drop-of-length-le (under a s m) k))
+    pads-past h = let k : length (under a s m) ≤ x = omega (arith, under-length (scattered s) m) in sym (pads-from x e ∙ rw (drop-of-length-le (under a s m) k))
 
-    pub pads-packed : s .scattered ≡ false → x ≤ length b → allZero (part (length b - x) x b) ≡ padsZero (drop a (marksOf a s m)) (drop a b)
+    pub pads-packed : scattered s ≡ false → x ≤ length b → allZero (part (length b - x) x b) ≡ padsZero (drop a (marksOf a s m)) (drop a b)
     pads-packed f h =
         let k : length {A = ℕ} (drop x (replicate (length m) 0)) ≡ length (drop x b) = simp (length-drop, length-replicate) (omega arith) in
         let t : length (drop x b) ≤ length b - x = simp length-drop (omega arith) in
         sym (pads-from x e ∙ rw (f, take-all (length b - x) (drop x b) t) (zeros-pads (drop x (replicate (length m) 0)) (drop x b) (zeros-drop x (replicate (length m) 0) (zeros-all (length m))) k))
 
 -- the marks, written out
-module _ (a : ℕ) (s : Taken) (m o : List ℕ) (e : o ≡ cond (s .scattered) m (replicate (length m) 0)) (y : ℕ) (iy : y ≡ min (s .packed) (length o)) where
+module _ (a : ℕ) (s : ℕ) (m o : List ℕ) (e : o ≡ cond (scattered s) m (replicate (length m) 0)) (y : ℕ) (iy : y ≡ min (packed s) (length o)) where
   o-length : length o ≡ length m
-  o-length = ap length e ∙ under-length (s .scattered) m
+  o-length = ap length e ∙ under-length (scattered s) m
 
   pub written-some : (m′ : List ℕ) → m′ ≡ splice (y - a) a (replicate (y - a) 1) o → m′ ≡ marksOf a s m
   unfolding marksOf mark
-  written-some m′ r = let k : y ≡ min (s .packed) (length m) = iy ∙ rw o-length in r ∙ rw (k, e)
+  written-some m′ r = let k : y ≡ min (packed s) (length m) = iy ∙ rw o-length in r ∙ rw (k, e)
 
   pub written-none : y ≤ a → o ≡ marksOf a s m
   unfolding marksOf mark
-  written-none h = let k : min (s .packed) (length m) - a ≡ 0 = omega (arith, iy, o-length) in e ∙ sym (rw k (splice-nil a (cond (s .scattered) m (replicate (length m) 0))))
+  written-none h = let k : min (packed s) (length m) - a ≡ 0 = omega (arith, iy, o-length) in e ∙ sym (rw k (splice-nil a (cond (scattered s) m (replicate (length m) 0))))
 
-pub marks-room : (a : ℕ) (s : Taken) (m : List ℕ) (p n : ℕ) → a ≤ p → p + n ≤ length m → p + n ≤ length (marksOf a s m)
+pub marks-room : (a : ℕ) (s : ℕ) (m : List ℕ) (p n : ℕ) → a ≤ p → p + n ≤ length m → p + n ≤ length (marksOf a s m)
 unfolding marksOf
 marks-room a s m p n h l =
-    let u = under-length (s .scattered) m in
-    let k = length-marked a (min (s .packed) (length m) - a) (under a s m) (omega (arith, u)) in omega (arith, k, u)
+    let u = under-length (scattered s) m in
+    let k = length-marked a (min (packed s) (length m) - a) (under a s m) (omega (arith, u)) in omega (arith, k, u)

@@ -14,7 +14,6 @@ use Rattle.message.specs.Marks.{free, mark, padsZero, padsBefore}
 use Rattle.message.proofs.CheckMarks.{mark-twice}
 use Rattle.message.specs.Walk.{lost, found, here, strict, word, inArea, locate}
 use Rattle.message.specs.Check.{placeBy, Claims, Lands}
-use Rattle.message.specs.declared.Taken.{Taken}
 use Rattle.message.specs.declared.Located.{Located}
 use Rattle.message.specs.declared.Located.the-variants.{At, Nowhere}
 
@@ -23,17 +22,17 @@ small n w h l = omega (arith, mul-le-mul-right {m = n} {n = 4294967296} w (omega
 
 -- LANDS
 
-told : (q p j n : ℕ) (s x : Taken) → At p n s ≡ At q j x → (q ≡ p) × (j ≡ n) × (x ≡ s)
+told : (q p j n : ℕ) (s x : ℕ) → At p n s ≡ At q j x → (q ≡ p) × (j ≡ n) × (x ≡ s)
 told q p j n s x e = ((cc), (cc), (cc))
 
-never : {A : Type 0} (n p q j : ℕ) (x : Taken) → Nowhere n p ≡ At q j x → A
+never : {A : Type 0} (n p q j : ℕ) (x : ℕ) → Nowhere n p ≡ At q j x → A
 never n p q j x e = absurd (let z : _≡_ {A = ℕ} 0 1 = cc in omega arith)
 
-module _ (F : Taken → List ℕ) where
+module _ (F : ℕ → List ℕ) where
   pub claims-nowhere : (p n k x y : ℕ) → Claims F p n k (Nowhere x y)
   claims-nowhere p n k x y = record { place = λ q j s e. never x y q j s e; word = λ q j s e. never x y q j s e; taken = λ q j s e. never x y q j s e }
 
-  pub claims-at : (p n k : ℕ) (s : Taken) (m : List ℕ) → mark p k m ≡ F s → p + k ≤ length m → Claims F p n k (At p n s)
+  pub claims-at : (p n k : ℕ) (s : ℕ) (m : List ℕ) → mark p k m ≡ F s → p + k ≤ length m → Claims F p n k (At p n s)
   claims-at p n k s m e l =
       let t : mark p k (F s) ≡ F s = rw (← e) (mark-twice p k m l) in
       record { place = λ q j x r. told q p j n s x r .0; word = λ q j x r. told q p j n s x r .1; taken = λ q j x r. rw (told q p j n s x r .2) t }
@@ -51,7 +50,7 @@ module _ (F : Taken → List ℕ) where
 
 -- LOCATE
 
-module _ (F : Taken → List ℕ) (past w : ℕ) (b : List ℕ) (base area at : ℕ) (m : List ℕ) (o p n k : ℕ) (io : o ≡ word at b) (ip : p ≡ at + o) where
+module _ (F : ℕ → List ℕ) (past w : ℕ) (b : List ℕ) (base area at : ℕ) (m : List ℕ) (o p n k : ℕ) (io : o ≡ word at b) (ip : p ≡ at + o) where
   pub low : p < area → placeBy F (Nowhere 5 (base + at)) ≡ locate past w (here strict b base area) at m
   unfolding placeBy locate need inArea
   low h = rw (← io, ← ip, lt-leb area p h)
@@ -75,12 +74,12 @@ module _ (F : Taken → List ℕ) (past w : ℕ) (b : List ℕ) (base area at : 
 
 -- CLAIM
 
-module _ (F : Taken → List ℕ) (base p n k : ℕ) (m : List ℕ) where
+module _ (F : ℕ → List ℕ) (base p n k : ℕ) (m : List ℕ) where
   pub claim-shared : free p k m ≡ false → placeBy F (Nowhere 27 (base + p)) ≡ need (free p k m) (lost 27 (base + p)) (found p n (mark p k m))
   unfolding placeBy need
   claim-shared e = rw e
 
-  pub claim-free : (s : Taken) → free p k m ≡ true → mark p k m ≡ F s → placeBy F (At p n s) ≡ need (free p k m) (lost 27 (base + p)) (found p n (mark p k m))
+  pub claim-free : (s : ℕ) → free p k m ≡ true → mark p k m ≡ F s → placeBy F (At p n s) ≡ need (free p k m) (lost 27 (base + p)) (found p n (mark p k m))
   unfolding placeBy need
   claim-free s e f = rw (e, f)
 

@@ -19,7 +19,6 @@ use Rattle.message.specs.Sheet.{Mark, ST, kindMark}
 use Rattle.message.specs.Walk.{here, strict, Reader, Inner, word, byte, optionalR, plainR, inlineR, inArea, extensionIn, locate, indirectR, textR, kindR, markedR}
 use Rattle.message.specs.Count.{failed, counted, count, more}
 use Rattle.message.specs.Check.{placeBy, itemR}
-use Rattle.message.specs.declared.Taken.{Taken}
 use Rattle.message.specs.declared.Located.{Located}
 use Rattle.message.specs.declared.Located.the-variants.{At, Nowhere}
 use Rattle.message.proofs.Count.{count-marked, count-lost, count-found}
@@ -117,14 +116,14 @@ module _ (I : Inner) (S : ℕ → Reader) (b : List ℕ) (base area at : ℕ) (m
 
 -- INDIRECT TEXT
 
-module _ (u : Bool) (b : List ℕ) (base area at : ℕ) (m : List ℕ) (F : Taken → List ℕ) (f : Located) (is : placeBy F f ≡ locate 26 1 (here strict b base area) at m) where
+module _ (u : Bool) (b : List ℕ) (base area at : ℕ) (m : List ℕ) (F : ℕ → List ℕ) (f : Located) (is : placeBy F f ≡ locate 26 1 (here strict b base area) at m) where
   pub text-lost : (n p : ℕ) → f ≡ Nowhere n p → count (markedR ST (indirectR 26 1 (textR u)) (here strict b base area) at m) ≡ failed n p
   unfolding placeBy more
   text-lost n p e =
       count-marked (here strict b base area) at m ST (indirectR 26 1 (textR u))
       ∙ ap (more 2) (count-lost (here strict b base area) at m 26 1 (textR u) n p (sym is ∙ ap (placeBy F) e))
 
-  module _ (n p : ℕ) (s : Taken) (e : f ≡ At p n s) where
+  module _ (n p : ℕ) (s : ℕ) (e : f ≡ At p n s) where
     text-open : count (markedR ST (indirectR 26 1 (textR u)) (here strict b base area) at m) ≡ more 2 (count (textR u n (here strict b base area) p (F s)))
     unfolding placeBy
     text-open =

@@ -1,9 +1,10 @@
 -- What the check's functions answer, and what they ask of their callers.
 use mathlib.Core.Path.{_≡_}
-use mathlib.Core.Bool.{cond}
+use mathlib.Core.Bool.{Bool, cond}
 use mathlib.Core.List.{List, []}
 use Prim.Native.Nat.{ℕ, _+_, _-_, min, _*_, _%_, _^_, _<_, _≤_}
 use lib.ListN.{length, replicate}
+use lib.Dec.{leb}
 use Rattle.schema.specs.Schema.{Kind, Field, width}
 use Rattle.schema.specs.Table.{schema}
 use Rattle.schema.specs.Layout.{Layout}
@@ -18,20 +19,26 @@ use Rattle.message.specs.declared.Walked.the-variants.{Counted as Whole,
 use Rattle.message.specs.declared.Located.{Located}
 use Rattle.message.specs.declared.Located.the-variants.{At, Nowhere}
 use Rattle.message.specs.declared.Frame.{Frame}
-use Rattle.message.specs.declared.Taken.{Taken}
 
 -- MARKS
 -- The code keeps no mark for the values that stand one behind the other from the data area's start on, as most do: it knows where they end.
 -- Until a value stands elsewhere the scratch is not looked at.
 
+-- What is taken, as one number: where the packed values end, with 2^17 added once a value stood elsewhere.
+unfoldable pub packed : ℕ → ℕ
+packed s = s % 131072
+
+unfoldable pub scattered : ℕ → Bool
+scattered s = leb 131072 s
+
 -- The marks of a group with its data area at a, where s is taken and the scratch is m.
-unfoldable pub marksOf : ℕ → Taken → List ℕ → List ℕ
-marksOf a s m = mark a (min (s .packed) (length m) - a) (cond (s .scattered) m (replicate (length m) 0))
+unfoldable pub marksOf : ℕ → ℕ → List ℕ → List ℕ
+marksOf a s m = mark a (min (packed s) (length m) - a) (cond (scattered s) m (replicate (length m) 0))
 
 -- ANSWERS
 
 -- The answer of a step of the walk; F gives the marks of what is taken.
-unfoldable pub countBy : (Taken → List ℕ) → Step → Count
+unfoldable pub countBy : (ℕ → List ℕ) → Step → Count
 countBy F (Counted k s) = counted k (F s)
 countBy F (Refused n p) = failed n p
 
@@ -46,21 +53,21 @@ after k (failed n p) = failed n p
 after k (counted j m) = counted ((k + j) % 2 ^ 64) m
 
 -- Where an offset leads.
-unfoldable pub placeBy : (Taken → List ℕ) → Located → Place
+unfoldable pub placeBy : (ℕ → List ℕ) → Located → Place
 placeBy F (At p n s) = found p n (F s)
 placeBy F (Nowhere n p) = lost n p
 
 -- A value of k bytes at p that was claimed, with the word n, is taken.
-pub record Claims (F : Taken → List ℕ) (p n k : ℕ) (r : Located) : Type 0 where
-  pub place : (q j : ℕ) (s : Taken) → r ≡ At q j s → q ≡ p
-  pub word : (q j : ℕ) (s : Taken) → r ≡ At q j s → j ≡ n
-  pub taken : (q j : ℕ) (s : Taken) → r ≡ At q j s → mark p k (F s) ≡ F s
+pub record Claims (F : ℕ → List ℕ) (p n k : ℕ) (r : Located) : Type 0 where
+  pub place : (q j : ℕ) (s : ℕ) → r ≡ At q j s → q ≡ p
+  pub word : (q j : ℕ) (s : ℕ) → r ≡ At q j s → j ≡ n
+  pub taken : (q j : ℕ) (s : ℕ) → r ≡ At q j s → mark p k (F s) ≡ F s
 
 -- A value that was found has a count of four bytes, lies in the bytes b, and is taken.
-pub record Lands (F : Taken → List ℕ) (w : ℕ) (b : List ℕ) (r : Located) : Type 0 where
-  pub four : (p n : ℕ) (s : Taken) → r ≡ At p n s → n < 2 ^ 32
-  pub inside : (p n : ℕ) (s : Taken) → r ≡ At p n s → p + (4 + n * w) ≤ length b
-  pub taken : (p n : ℕ) (s : Taken) → r ≡ At p n s → mark p (4 + n * w) (F s) ≡ F s
+pub record Lands (F : ℕ → List ℕ) (w : ℕ) (b : List ℕ) (r : Located) : Type 0 where
+  pub four : (p n : ℕ) (s : ℕ) → r ≡ At p n s → n < 2 ^ 32
+  pub inside : (p n : ℕ) (s : ℕ) → r ≡ At p n s → p + (4 + n * w) ≤ length b
+  pub taken : (p n : ℕ) (s : ℕ) → r ≡ At p n s → mark p (4 + n * w) (F s) ≡ F s
 
 -- READERS, AS THE CODE CALLS THEM
 

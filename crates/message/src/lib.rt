@@ -19,18 +19,16 @@ ghost use Rattle.message.specs.Marks.{free, mark, padsZero, padsBefore};
 ghost use Rattle.message.specs.Sheet.{Mark, ST};
 ghost use Rattle.message.specs.Walk.{Here, lost, found, Reader, Inner, byte, here, strict, markedR, optionalR, inlineR, indirectR, textR, innerR, locate, itemsR, fieldR, extendingR, extensionR, extensionIn, bodyR, groupR, next, walk};
 ghost use Rattle.message.specs.Count.{count, andThen, counted};
-ghost use Rattle.message.specs.Check.{marksOf, countBy, countOf, after, placeBy, Claims, Lands, within, itemR, markedValueR, innerOf, widthOf, staticOf, Ready};
+ghost use Rattle.message.specs.Check.{packed, scattered, marksOf, countBy, countOf, after, placeBy, Claims, Lands, within, itemR, markedValueR, innerOf, widthOf, staticOf, Ready};
 
-// Which bytes of a data area are taken: those before `packed`, and where a value did not stand straight
-// behind the others, those that are marked in the scratch.
-struct Taken {
-    packed: usize,
-    scattered: bool,
-}
+// Which bytes of a data area are taken, as one number, since a struct would pass through memory at each
+// call: where the packed values end, and, once a value did not stand straight behind the others, this
+// added. Then more bytes are marked in the scratch. No message is so long.
+const SCATTERED: usize = 131072;
 
 // What a walk finds: the sheet's length so far and what is taken, or the first fault.
 enum Step {
-    Counted { length: usize, taken: Taken },
+    Counted { length: usize, taken: usize },
     Refused { number: u8, place: usize },
 }
 
@@ -45,7 +43,7 @@ enum Located {
     At {
         place: usize,
         count: usize,
-        taken: Taken,
+        taken: usize,
     },
     Nowhere {
         number: u8,
@@ -71,12 +69,18 @@ fn longer(length: usize, by: usize) -> usize
 
 // THE DATA AREA
 
+fn packed_end(taken: usize) -> usize
+    ensures { λ r. ⌜ r ≡ packed taken ⌝ }
+{
+    taken % SCATTERED
+}
+
 // "Offset: 5, 26 for the count or size word, 26 or 13 for the rest, 27": what is found is taken.
 fn locate(
     bytes: &[u8],
     marks: &mut [u8],
     frame: Frame,
-    taken: Taken,
+    taken: usize,
     at: usize,
     past: u8,
     width: usize,
@@ -118,7 +122,7 @@ fn locate(
 fn claim(
     marks: &mut [u8],
     frame: Frame,
-    taken: Taken,
+    taken: usize,
     place: usize,
     count: usize,
     size: usize,
@@ -126,13 +130,13 @@ fn claim(
     requires { ⌜ (frame .area ≤ place) × (1 ≤ size) × (place + size ≤ length (now marks)) × (frame .base + length (now marks) ≤ 65536) ⌝ }
     ensures { λ r. ⌜ (placeBy (λ s. marksOf (frame .area) s (now (marks .exit))) r ≡ need (free place size (marksOf (frame .area) taken (now (marks .entry)))) (lost 27 (frame .base + place)) (found place count (mark place size (marksOf (frame .area) taken (now (marks .entry)))))) × Claims (λ s. marksOf (frame .area) s (now (marks .exit))) place count size r ⌝ }
 {
-    if place < taken.packed {
+    if place < packed_end(taken) {
         return Located::Nowhere {
             number: 27,
             place: frame.base + place,
         };
     }
-    if taken.scattered {
+    if SCATTERED <= taken {
         if wire::all_zero(marks, place, size) {
             wire::fill(marks, place, size, 1);
             return Located::At {
@@ -146,14 +150,11 @@ fn claim(
             place: frame.base + place,
         };
     }
-    if place == taken.packed {
+    if place == taken {
         return Located::At {
             place,
             count,
-            taken: Taken {
-                packed: place + size,
-                scattered: false,
-            },
+            taken: place + size,
         };
     }
     clear(marks);
@@ -161,10 +162,7 @@ fn claim(
     Located::At {
         place,
         count,
-        taken: Taken {
-            packed: taken.packed,
-            scattered: true,
-        },
+        taken: taken + SCATTERED,
     }
 }
 
@@ -176,11 +174,11 @@ fn clear(marks: &mut [u8])
 }
 
 // What a nested group left in the scratch gives way to the marks of its own bytes.
-fn retake(marks: &mut [u8], scattered: bool, place: usize, size: usize)
+fn retake(marks: &mut [u8], taken: usize, place: usize, size: usize)
     requires { ⌜ place + size ≤ length (now marks) ⌝ }
-    ensures { λ _. ⌜ now (marks .exit) ≡ cond scattered (splice size place (replicate size 1) (now (marks .entry))) (now (marks .entry)) ⌝ }
+    ensures { λ _. ⌜ now (marks .exit) ≡ cond (scattered taken) (splice size place (replicate size 1) (now (marks .entry))) (now (marks .entry)) ⌝ }
 {
-    if scattered {
+    if SCATTERED <= taken {
         wire::fill(marks, place, size, 1);
     }
 }
@@ -234,12 +232,12 @@ fn later(a: usize, b: usize) -> usize
 }
 
 // "6", as a test of what no value took.
-fn are_pads_zero(marks: &[u8], bytes: &[u8], area: usize, taken: Taken) -> bool
+fn are_pads_zero(marks: &[u8], bytes: &[u8], area: usize, taken: usize) -> bool
     requires { ⌜ (length (now marks) ≡ length (now bytes)) × (area ≤ length (now bytes)) ⌝ }
     ensures { λ r. ⌜ r ≡ padsZero (drop area (marksOf area taken (now (marks .entry)))) (drop area (now (bytes .entry))) ⌝ }
 {
-    let start = later(area, taken.packed);
-    if taken.scattered {
+    let start = later(area, packed_end(taken));
+    if SCATTERED <= taken {
         return pads_zero(marks, bytes, start);
     }
     if bytes.len() < start {
@@ -249,7 +247,7 @@ fn are_pads_zero(marks: &[u8], bytes: &[u8], area: usize, taken: Taken) -> bool
 }
 
 // "6", as the place in the data area. The marks that were not kept are written for it.
-fn bad_pad(marks: &mut [u8], bytes: &[u8], area: usize, taken: Taken) -> usize
+fn bad_pad(marks: &mut [u8], bytes: &[u8], area: usize, taken: usize) -> usize
     requires { ⌜ (length (now marks) ≡ length (now bytes)) × (area ≤ length (now bytes)) ⌝ }
     ensures { λ r. ⌜ (r ≡ padsBefore (drop area (marksOf area taken (now (marks .entry)))) (drop area (now (bytes .entry)))) × (area + r ≤ length (now (bytes .entry))) ⌝ }
 {
@@ -257,21 +255,21 @@ fn bad_pad(marks: &mut [u8], bytes: &[u8], area: usize, taken: Taken) -> usize
     pads_before(marks, bytes, area)
 }
 
-fn write_marks(marks: &mut [u8], area: usize, taken: Taken)
+fn write_marks(marks: &mut [u8], area: usize, taken: usize)
     requires { ⌜ area ≤ length (now marks) ⌝ }
     ensures { λ _. ⌜ now (marks .exit) ≡ marksOf area taken (now (marks .entry)) ⌝ }
 {
-    clear_unless(marks, taken.scattered);
-    let end = earlier(taken.packed, marks.len());
+    clear_unless(marks, taken);
+    let end = earlier(packed_end(taken), marks.len());
     if area < end {
         wire::fill(marks, area, end - area, 1);
     }
 }
 
-fn clear_unless(marks: &mut [u8], scattered: bool)
-    ensures { λ _. ⌜ now (marks .exit) ≡ cond scattered (now (marks .entry)) (replicate (length (now (marks .entry))) 0) ⌝ }
+fn clear_unless(marks: &mut [u8], taken: usize)
+    ensures { λ _. ⌜ now (marks .exit) ≡ cond (scattered taken) (now (marks .entry)) (replicate (length (now (marks .entry))) 0) ⌝ }
 {
-    if !scattered {
+    if taken < SCATTERED {
         clear(marks);
     }
 }
@@ -295,11 +293,11 @@ fn check_number(
     base: usize,
     tested: schema::Tested,
     at: usize,
-    taken: Taken,
+    taken: usize,
     before: usize,
 ) -> Step
     requires { ⌜ (Layout (now table) (now index)) × (at + kindWidth (widthIn (now index)) (testedKind (enums (now table)) tested) ≤ length (now bytes)) × (base + length (now bytes) ≤ 65536) ⌝ }
-    ensures { λ r. ⌜ ((I : Inner) (S : ℕ → Reader) (area : ℕ) (F : Taken → List ℕ) → countBy F r ≡ after before (count (itemR I S (testedKind (enums (now (table .entry))) tested) (here strict (now (bytes .entry)) base area) at (F taken)))) ⌝ }
+    ensures { λ r. ⌜ ((I : Inner) (S : ℕ → Reader) (area : ℕ) (F : ℕ → List ℕ) → countBy F r ≡ after before (count (itemR I S (testedKind (enums (now (table .entry))) tested) (here strict (now (bytes .entry)) base area) at (F taken)))) ⌝ }
 {
     let fault = schema::test_fault(table, index, tested, bytes, at);
     if fault != 0 {
@@ -321,11 +319,11 @@ fn check_inline(
     utf8: bool,
     capacity: u8,
     at: usize,
-    taken: Taken,
+    taken: usize,
     before: usize,
 ) -> Step
     requires { ⌜ (at + (capacity + 1) ≤ length (now bytes)) × (base + length (now bytes) ≤ 65536) ⌝ }
-    ensures { λ r. ⌜ ((I : Inner) (S : ℕ → Reader) (area : ℕ) (F : Taken → List ℕ) → countBy F r ≡ after before (count (itemR I S (inline utf8 capacity) (here strict (now (bytes .entry)) base area) at (F taken)))) ⌝ }
+    ensures { λ r. ⌜ ((I : Inner) (S : ℕ → Reader) (area : ℕ) (F : ℕ → List ℕ) → countBy F r ≡ after before (count (itemR I S (inline utf8 capacity) (here strict (now (bytes .entry)) base area) at (F taken)))) ⌝ }
 {
     let room = wire::wide(capacity);
     let count = wire::wide(bytes[at]);
@@ -361,7 +359,7 @@ fn check_text(
     frame: Frame,
     utf8: bool,
     at: usize,
-    taken: Taken,
+    taken: usize,
     before: usize,
 ) -> Step
     requires { ⌜ (length (now marks) ≡ length (now bytes)) × (frame .base + length (now bytes) ≤ 65536) × (frame .area ≤ length (now bytes)) × (at + 4 ≤ length (now bytes)) ⌝ }
@@ -395,11 +393,11 @@ fn check_absent(
     base: usize,
     at: usize,
     width: usize,
-    taken: Taken,
+    taken: usize,
     before: usize,
 ) -> Step
     requires { ⌜ (byte at (now bytes) ≡ 1 → ⊥) × (at + (width + 1) ≤ length (now bytes)) × (base + length (now bytes) ≤ 65536) ⌝ }
-    ensures { λ r. ⌜ ((k : Mark) (R : Reader) (area : ℕ) (F : Taken → List ℕ) → countBy F r ≡ after before (count (optionalR k width R (here strict (now (bytes .entry)) base area) at (F taken)))) ⌝ }
+    ensures { λ r. ⌜ ((k : Mark) (R : Reader) (area : ℕ) (F : ℕ → List ℕ) → countBy F r ≡ after before (count (optionalR k width R (here strict (now (bytes .entry)) base area) at (F taken)))) ⌝ }
 {
     if bytes[at] != 0 {
         return Step::Refused {
@@ -508,10 +506,6 @@ fn check_body(
         };
     }
     let frame = Frame { base, area, levels };
-    let none = Taken {
-        packed: area,
-        scattered: false,
-    };
     let contents = check_contents(
         table,
         index,
@@ -519,7 +513,7 @@ fn check_body(
         marks,
         frame,
         group,
-        none,
+        area,
         longer(before, 8),
     );
     match contents {
@@ -546,7 +540,7 @@ fn check_contents(
     marks: &mut [u8],
     frame: Frame,
     group: usize,
-    taken: Taken,
+    taken: usize,
     before: usize,
 ) -> Step
     requires { ⌜ (Ready (now table) (now index) (now bytes) (now marks) frame) × (16 + widthOf (now table) 5 group ≤ length (now bytes)) × (group < length (schema (now table))) ⌝ }
@@ -589,7 +583,7 @@ fn check_fields(
     depth: usize,
     group: usize,
     at: usize,
-    taken: Taken,
+    taken: usize,
     before: usize,
 ) -> Step
     requires { ⌜ (Ready (now table) (now index) (now bytes) (now marks) frame) × (at + widthOf (now table) depth group ≤ length (now bytes)) × (group < length (schema (now table))) × (shallow (schema (now table)) depth group ≡ true) ⌝ }
@@ -657,7 +651,7 @@ fn check_field(
     depth: usize,
     field: usize,
     at: usize,
-    taken: Taken,
+    taken: usize,
     before: usize,
 ) -> Step
     requires { ⌜ (Ready (now table) (now index) (now bytes) (now marks) frame) × (field + 16 ≤ length (now table)) × (at + fieldWidth (widthOf (now table) depth) (fieldAt (enums (now table)) (drop field (now table))) ≤ length (now bytes)) × (shallowKind (shallow (schema (now table)) depth) (widthOf (now table) depth) ((fieldAt (enums (now table)) (drop field (now table))) .kind) ≡ true) ⌝ }
@@ -704,7 +698,7 @@ fn check_value(
     depth: usize,
     field: usize,
     at: usize,
-    taken: Taken,
+    taken: usize,
     before: usize,
 ) -> Step
     requires { ⌜ (Ready (now table) (now index) (now bytes) (now marks) frame) × (field + 16 ≤ length (now table)) × (at + valueWidth (widthOf (now table) depth) (fieldAt (enums (now table)) (drop field (now table))) ≤ length (now bytes)) × (shallowKind (shallow (schema (now table)) depth) (widthOf (now table) depth) ((fieldAt (enums (now table)) (drop field (now table))) .kind) ≡ true) ⌝ }
@@ -766,7 +760,7 @@ fn check_items(
     width: usize,
     total: usize,
     at: usize,
-    taken: Taken,
+    taken: usize,
     before: usize,
 ) -> Step
     requires { ⌜ (Ready (now table) (now index) (now bytes) (now marks) frame) × (at + total * width ≤ length (now bytes)) × (total < 2 ^ 32) × (width ≤ 4096) × (width ≡ kindWidth (widthOf (now table) depth) (kindFrom (enums (now table)) kind)) × (shallowKind (shallow (schema (now table)) depth) (widthOf (now table) depth) (kindFrom (enums (now table)) kind) ≡ true) ⌝ }
@@ -825,7 +819,7 @@ fn check_item(
     depth: usize,
     kind: schema::FieldKind,
     at: usize,
-    taken: Taken,
+    taken: usize,
     before: usize,
 ) -> Step
     requires { ⌜ (Ready (now table) (now index) (now bytes) (now marks) frame) × (at + kindWidth (widthOf (now table) depth) (kindFrom (enums (now table)) kind) ≤ length (now bytes)) × (shallowKind (shallow (schema (now table)) depth) (widthOf (now table) depth) (kindFrom (enums (now table)) kind) ≡ true) ⌝ }
@@ -898,7 +892,7 @@ fn check_dynamic(
     frame: Frame,
     allowed: usize,
     at: usize,
-    taken: Taken,
+    taken: usize,
     before: usize,
 ) -> Step
     requires { ⌜ (Ready (now table) (now index) (now bytes) (now marks) frame) × (at + 4 ≤ length (now bytes)) ⌝ }
@@ -937,7 +931,7 @@ fn check_nested(
     allowed: usize,
     start: usize,
     size: usize,
-    taken: Taken,
+    taken: usize,
     before: usize,
 ) -> Step
     requires { ⌜ (Ready (now table) (now index) (now bytes) (now marks) frame) × (start + size ≤ length (now bytes)) × (mark start size (marksOf (frame .area) taken (now marks)) ≡ marksOf (frame .area) taken (now marks)) ⌝ }
@@ -959,7 +953,7 @@ fn check_nested(
             length,
             taken: inner,
         } => {
-            retake(marks, taken.scattered, start, size);
+            retake(marks, taken, start, size);
             Step::Counted { length, taken }
         }
         Step::Refused { number, place } => Step::Refused { number, place },
@@ -973,7 +967,7 @@ fn check_extension(
     bytes: &[u8],
     marks: &mut [u8],
     frame: Frame,
-    taken: Taken,
+    taken: usize,
     before: usize,
 ) -> Step
     requires { ⌜ (Ready (now table) (now index) (now bytes) (now marks) frame) × (16 ≤ length (now bytes)) ⌝ }
@@ -1022,7 +1016,7 @@ fn check_groups(
     frame: Frame,
     total: usize,
     at: usize,
-    taken: Taken,
+    taken: usize,
     before: usize,
 ) -> Step
     requires { ⌜ (Ready (now table) (now index) (now bytes) (now marks) frame) × (at + total * 4 ≤ length (now bytes)) ⌝ }
@@ -1063,7 +1057,7 @@ fn check_extending(
     marks: &mut [u8],
     frame: Frame,
     at: usize,
-    taken: Taken,
+    taken: usize,
     before: usize,
 ) -> Step
     requires { ⌜ (Ready (now table) (now index) (now bytes) (now marks) frame) × (at + 4 ≤ length (now bytes)) ⌝ }

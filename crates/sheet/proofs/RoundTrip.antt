@@ -18,7 +18,7 @@ use Rattle.message.proofs.Count.{length-mark}
 use Rattle.message.proofs.Sat.{Sat, unsaid, said, sat-is, sat-need, sat-prefixed, sat-map, sat-padded}
 use Rattle.message.proofs.Eleven.{eleven}
 use Rattle.sheet.specs.Written.{Writing, stopped, wrote, groupW, ended, sheetW, fitted, written}
-use Rattle.sheet.specs.Rewritten.{Rooms, onward, rewritten, Enough}
+use Rattle.sheet.specs.Rewritten.{Rooms, sheetIn, onward, rewritten, Enough}
 use Rattle.sheet.specs.Canonical.{Means, Canonical}
 use Rattle.sheet.proofs.Match.{SatW, saidW, unsaidW, satw-is, satw-need, satw-map}
 use Rattle.sheet.proofs.Layers.{due-eats, satw-due}
@@ -27,7 +27,7 @@ use Rattle.sheet.proofs.Groups.{match-group}
 
 -- ACCEPTED MESSAGES
 
-sat-all : {Q : List ℕ → List ℕ → Type 0} → ((s m : List ℕ) → Q s m) → (r : Reading) → Sat Q r
+pub sat-all : {Q : List ℕ → List ℕ → Type 0} → ((s m : List ℕ) → Q s m) → (r : Reading) → Sat Q r
 sat-all f (refused n p) = unsaid
 sat-all f (done s m) = said (f s m)
 
@@ -53,7 +53,7 @@ message-walk x gs scratch b s m e = sat-is (rw e at (inside x gs scratch b))
     inside x gs scratch b = unfold messageR in sat-need (leb (length b) 65536) 23 0 (λ t. sat-need (leb (length b) scratch) 21 0 (λ _.
         sat-map (λ s m w. (leb-true _ _ t, w)) (sat-self (walk x gs b))))
 
-means-walk : (x : Ignored) (gs : List Group) (b s : List ℕ) → Means x gs b s → (length b ≤ 65536) × (walk x gs b ≡ done s [])
+pub means-walk : (x : Ignored) (gs : List Group) (b s : List ℕ) → Means x gs b s → (length b ≤ 65536) × (walk x gs b ≡ done s [])
 means-walk x gs b s M = message-walk x gs (length b) b s [] (M (length b) (omega arith))
 
 walk-means : (x : Ignored) (gs : List Group) (b s : List ℕ) → length b ≤ 65536 → walk x gs b ≡ done s [] → Means x gs b s
@@ -134,7 +134,7 @@ module _ (gs : List Group) (ok : Sized gs) where
   written-is room s X e l h = rw (e, le-leb _ _ l, le-leb _ _ h)
 
   rewrite-is : (x : Ignored) (b s X : List ℕ) (rooms : Rooms) → Means x gs b s → Enough rooms b → sheetW gs s ≡ wrote X [] [] → length X ≤ length b → rewritten x gs rooms b ≡ wrote X [] []
-  unfolding rewritten onward need
+  unfolding rewritten sheetIn onward need
   rewrite-is x b s X rooms M R e l =
       let w = means-walk x gs b s M in
       let k = eleven gs ok x b s [] (w .1) in

@@ -300,18 +300,18 @@ check-body-check-contents-requires t c κs = let a = c .before .before .before .
 
 check-body-returns-3 : (t : ℕ) → check-body-lts.Need-returns-3 (check-body-claims t) (check-body-at t) check-body.Post
 check-body-returns-3 t c = let a = c .before .before .before .before .before .before .before .before .before .before .before .before .before .before .before .before .before .before .before .before .args in let t = a .table .now in let w = c .before .before .before .before .before .before .before .before .before .before .before .before .before .before .before .group-width .ensures .0 ∙ layout-width t (a .index .now) (c .before .before .before .before .before .before .before .before .before .before .before .before .before .before .before .before .before .before .before .before .pre .1 .0) (a .group) in
-    counts _ _ _ _ _ _ (closing-clean (a .bytes .now) (a .base) _ _ (sym (c .before .before .are-pads-zero .ensures) ∙ c .before .if3 .taken)) (c .longer2 .ensures) ∙ sym (body-passed (schema t) (innerOf t (a .levels)) (a .group) (a .base) (a .bytes .now) _ (ap (λ (n : ℕ). 16 + n) w) (c .before .before .before .before .before .before .before .before .before .before .before .before .before .before .if1 .left) (c .before .before .before .before .before .before .before .before .before .before .before .before .before .before .before .before .before .before .before .before .pre .1 .3) (sym (c .before .before .before .before .before .before .before .before .before .before .before .before .before .extension-inside .ensures (a .base)) ∙ not-false _ (c .before .before .before .before .before .before .before .before .before .before .before .before .if2 .left)) _ _ (c .before .before .before .before .before .before .before .before .before .before .longer .ensures) _ (nothing-taken _ (a .marks .now) (a .bytes .now) (c .before .before .before .before .before .before .before .before .before .before .before .before .before .before .before .before .before .before .before .before .pre .1 .1)) _ _ (c .before .before .before .before .before .before .before .before .before .check-contents .ensures) _ _ (c .before .before .before .before .before .contents .given .1))
+    counts _ _ _ _ _ _ (closing-clean (a .bytes .now) (a .base) _ _ (sym (c .before .before .are-pads-zero .ensures) ∙ c .before .if3 .taken)) (c .longer2 .ensures) ∙ sym (body-passed (schema t) (innerOf t (a .levels)) (a .group) (a .base) (a .bytes .now) _ (ap (λ (n : ℕ). 16 + n) w) (c .before .before .before .before .before .before .before .before .before .before .before .before .before .before .if1 .left) (c .before .before .before .before .before .before .before .before .before .before .before .before .before .before .before .before .before .before .before .before .pre .1 .3) (sym (c .before .before .before .before .before .before .before .before .before .before .before .before .before .extension-inside .ensures (a .base)) ∙ not-false _ (c .before .before .before .before .before .before .before .before .before .before .before .before .if2 .left)) _ _ (c .before .before .before .before .before .before .before .before .before .before .longer .ensures) _ (nothing-taken (16 + c .before .before .before .before .before .before .before .before .before .before .before .before .before .before .before .group-width .result) (a .marks .now) (a .bytes .now) (c .before .before .before .before .before .before .before .before .before .before .before .before .before .before .before .before .before .before .before .before .pre .1 .1) (omega (arith, c .before .before .before .before .before .before .before .before .before .before .before .before .before .before .if1 .left, c .before .before .before .before .before .before .before .before .before .before .before .before .before .before .before .before .before .before .before .before .pre .1 .2))) _ _ (c .before .before .before .before .before .before .before .before .before .check-contents .ensures) _ _ (c .before .before .before .before .before .contents .given .1))
 
-check-body-add-t32 : (t : ℕ) → check-body-lts.Need-add-t32 (check-body-claims t) (check-body-at t) check-body.Post
-check-body-add-t32 t c = omega (arith, c .before .before .bad-pad .ensures .1, c .before .before .before .before .before .before .before .before .before .before .before .before .before .before .before .before .before .before .before .before .before .before .before .pre .1 .2)
+check-body-add-t31 : (t : ℕ) → check-body-lts.Need-add-t31 (check-body-claims t) (check-body-at t) check-body.Post
+check-body-add-t31 t c = omega (arith, c .before .before .bad-pad .ensures .1, c .before .before .before .before .before .before .before .before .before .before .before .before .before .before .before .before .before .before .before .before .before .before .before .pre .1 .2)
 
 check-body-returns-4 : (t : ℕ) → check-body-lts.Need-returns-4 (check-body-claims t) (check-body-at t) check-body.Post
 check-body-returns-4 t c = let a = c .before .before .before .before .before .before .before .before .before .before .before .before .before .before .before .before .before .before .before .before .before .before .before .args in let t = a .table .now in let w = c .before .before .before .before .before .before .before .before .before .before .before .before .before .before .before .before .before .before .group-width .ensures .0 ∙ layout-width t (a .index .now) (c .before .before .before .before .before .before .before .before .before .before .before .before .before .before .before .before .before .before .before .before .before .before .before .pre .1 .0) (a .group) in
-    refuses _ _ _ _ _ (closing-dirty (a .bytes .now) (a .base) _ _ _ (c .before .before .bad-pad .ensures .0) (sym (c .before .before .before .before .before .are-pads-zero .ensures) ∙ c .before .before .before .before .if3 .left)) ∙ sym (body-passed (schema t) (innerOf t (a .levels)) (a .group) (a .base) (a .bytes .now) _ (ap (λ (n : ℕ). 16 + n) w) (c .before .before .before .before .before .before .before .before .before .before .before .before .before .before .before .before .before .if1 .left) (c .before .before .before .before .before .before .before .before .before .before .before .before .before .before .before .before .before .before .before .before .before .before .before .pre .1 .3) (sym (c .before .before .before .before .before .before .before .before .before .before .before .before .before .before .before .before .extension-inside .ensures (a .base)) ∙ not-false _ (c .before .before .before .before .before .before .before .before .before .before .before .before .before .before .before .if2 .left)) _ _ (c .before .before .before .before .before .before .before .before .before .before .before .before .before .longer .ensures) _ (nothing-taken _ (a .marks .now) (a .bytes .now) (c .before .before .before .before .before .before .before .before .before .before .before .before .before .before .before .before .before .before .before .before .before .before .before .pre .1 .1)) _ _ (c .before .before .before .before .before .before .before .before .before .before .before .before .check-contents .ensures) _ _ (c .before .before .before .before .before .before .before .before .contents .given .1))
+    refuses _ _ _ _ _ (closing-dirty (a .bytes .now) (a .base) _ _ _ (c .before .before .bad-pad .ensures .0) (sym (c .before .before .before .before .before .are-pads-zero .ensures) ∙ c .before .before .before .before .if3 .left)) ∙ sym (body-passed (schema t) (innerOf t (a .levels)) (a .group) (a .base) (a .bytes .now) _ (ap (λ (n : ℕ). 16 + n) w) (c .before .before .before .before .before .before .before .before .before .before .before .before .before .before .before .before .before .if1 .left) (c .before .before .before .before .before .before .before .before .before .before .before .before .before .before .before .before .before .before .before .before .before .before .before .pre .1 .3) (sym (c .before .before .before .before .before .before .before .before .before .before .before .before .before .before .before .before .extension-inside .ensures (a .base)) ∙ not-false _ (c .before .before .before .before .before .before .before .before .before .before .before .before .before .before .before .if2 .left)) _ _ (c .before .before .before .before .before .before .before .before .before .before .before .before .before .longer .ensures) _ (nothing-taken (16 + c .before .before .before .before .before .before .before .before .before .before .before .before .before .before .before .before .before .before .group-width .result) (a .marks .now) (a .bytes .now) (c .before .before .before .before .before .before .before .before .before .before .before .before .before .before .before .before .before .before .before .before .before .before .before .pre .1 .1) (omega (arith, c .before .before .before .before .before .before .before .before .before .before .before .before .before .before .before .before .before .if1 .left, c .before .before .before .before .before .before .before .before .before .before .before .before .before .before .before .before .before .before .before .before .before .before .before .pre .1 .2))) _ _ (c .before .before .before .before .before .before .before .before .before .before .before .before .check-contents .ensures) _ _ (c .before .before .before .before .before .before .before .before .contents .given .1))
 
 check-body-returns-5 : (t : ℕ) → check-body-lts.Need-returns-5 (check-body-claims t) (check-body-at t) check-body.Post
 check-body-returns-5 t c = let a = c .before .before .before .before .before .before .before .before .before .before .before .before .before .before .before .before .args in let t = a .table .now in let w = c .before .before .before .before .before .before .before .before .before .before .before .group-width .ensures .0 ∙ layout-width t (a .index .now) (c .before .before .before .before .before .before .before .before .before .before .before .before .before .before .before .before .pre .1 .0) (a .group) in
-    body-stopped (schema t) (innerOf t (a .levels)) (a .group) (a .base) (a .bytes .now) _ (ap (λ (n : ℕ). 16 + n) w) (c .before .before .before .before .before .before .before .before .before .before .if1 .left) (c .before .before .before .before .before .before .before .before .before .before .before .before .before .before .before .before .pre .1 .3) (sym (c .before .before .before .before .before .before .before .before .before .extension-inside .ensures (a .base)) ∙ not-false _ (c .before .before .before .before .before .before .before .before .if2 .left)) _ _ (c .before .before .before .before .before .before .longer .ensures) _ (nothing-taken _ (a .marks .now) (a .bytes .now) (c .before .before .before .before .before .before .before .before .before .before .before .before .before .before .before .before .pre .1 .1)) _ _ (c .before .before .before .before .before .check-contents .ensures) _ _ _ (c .before .contents2 .given .1)
+    body-stopped (schema t) (innerOf t (a .levels)) (a .group) (a .base) (a .bytes .now) _ (ap (λ (n : ℕ). 16 + n) w) (c .before .before .before .before .before .before .before .before .before .before .if1 .left) (c .before .before .before .before .before .before .before .before .before .before .before .before .before .before .before .before .pre .1 .3) (sym (c .before .before .before .before .before .before .before .before .before .extension-inside .ensures (a .base)) ∙ not-false _ (c .before .before .before .before .before .before .before .before .if2 .left)) _ _ (c .before .before .before .before .before .before .longer .ensures) _ (nothing-taken (16 + c .before .before .before .before .before .before .before .before .before .before .before .group-width .result) (a .marks .now) (a .bytes .now) (c .before .before .before .before .before .before .before .before .before .before .before .before .before .before .before .before .pre .1 .1) (omega (arith, c .before .before .before .before .before .before .before .before .before .before .if1 .left, c .before .before .before .before .before .before .before .before .before .before .before .before .before .before .before .before .pre .1 .2))) _ _ (c .before .before .before .before .before .check-contents .ensures) _ _ _ (c .before .contents2 .given .1)
 
 abbrev check-contents-claims : ℕ → check-contents-lts.Claims
 check-contents-claims t = (check-fields-below t, check-fields.Post, check-extension-below t, check-extension.Post)
@@ -452,7 +452,7 @@ check-field-returns-3 t c = let a = c .before .before .before .before .before .b
     c .before .before .check-value2 .ensures ∙ ap (λ x. after (a .before) (count x)) (sym (field-required I sw S f (within (a .bytes .now) (a .frame)) (a .at) (marksOf (a .frame .area) (a .taken) (a .marks .now)) (sym (c .before .before .before .before .before .is-optional .ensures (enums t)) ∙ c .before .before .before .before .if1 .left)))
 
 abbrev check-fields-Inv-loop : check-fields-lts.InvT-loop
-check-fields-Inv-loop table index bytes marks₀ frame depth group at before start total deeper i₀ field₀ place₀ sum₀ holds₀ marks i field place sum holds =
+check-fields-Inv-loop table index bytes marks₀ frame depth group at taken before start total deeper i₀ field₀ place₀ sum₀ holds₀ marks i field place sum holds =
     (i ≤ total) × (length marks ≡ length marks₀) × (field + 16 * (total - i) ≤ length table)
     × (place + fieldsWidth (widthOf table deeper) (fieldsAt (enums table) (total - i) (drop field table)) ≤ length bytes)
     × (shallowFields (shallow (schema table) deeper) (widthOf table deeper) (fieldsAt (enums table) (total - i) (drop field table)) ≡ true) × (sum < 2 ^ 64)
@@ -460,7 +460,7 @@ check-fields-Inv-loop table index bytes marks₀ frame depth group at before sta
     ≡ after sum (count (fieldsR (innerOf table (frame .levels)) (widthOf table deeper) (staticOf table (frame .levels) deeper) (fieldsAt (enums table) (total - i) (drop field table)) (within bytes frame) place (marksOf (frame .area) holds marks))))
 
 abbrev check-fields-μ-loop : check-fields-lts.MeasureT-loop
-check-fields-μ-loop table index bytes marks₀ frame depth group at before start total deeper i₀ field₀ place₀ sum₀ holds₀ marks i field place sum holds =
+check-fields-μ-loop table index bytes marks₀ frame depth group at taken before start total deeper i₀ field₀ place₀ sum₀ holds₀ marks i field place sum holds =
     total - i
 
 abbrev check-fields-claims : ℕ → check-fields-lts.Claims
@@ -570,12 +570,12 @@ check-group-returns-5 t c = let a = c .before .before .before .before .before .b
     refuses _ _ _ _ _ (group-other gs (a .allowed) (a .base) (a .bytes .now) (a .levels) (c .before .before .before .before .before .before .if1 .left) _ g (omega (arith, n, c .before .before .if2 .left)) (sym (c .before .allows .ensures) ∙ c .if3 .left))
 
 abbrev check-groups-Inv-loop : check-groups-lts.InvT-loop
-check-groups-Inv-loop table index bytes marks₀ frame total at before i₀ place₀ sum₀ holds₀ marks i place sum holds =
+check-groups-Inv-loop table index bytes marks₀ frame total at taken before i₀ place₀ sum₀ holds₀ marks i place sum holds =
     (i ≤ total) × (length marks ≡ length marks₀) × (place + (total - i) * 4 ≤ length bytes) × (sum < 2 ^ 64)
     × (after before (count (itemsR 4 (indirectR 26 1 (extendingR (schema table) (innerOf table (frame .levels)))) total (within bytes frame) at (marksOf (frame .area) holds₀ marks₀))) ≡ after sum (count (itemsR 4 (indirectR 26 1 (extendingR (schema table) (innerOf table (frame .levels)))) (total - i) (within bytes frame) place (marksOf (frame .area) holds marks))))
 
 abbrev check-groups-μ-loop : check-groups-lts.MeasureT-loop
-check-groups-μ-loop table index bytes marks₀ frame total at before i₀ place₀ sum₀ holds₀ marks i place sum holds =
+check-groups-μ-loop table index bytes marks₀ frame total at taken before i₀ place₀ sum₀ holds₀ marks i place sum holds =
     total - i
 
 abbrev check-groups-claims : ℕ → check-groups-lts.Claims
@@ -657,12 +657,12 @@ check-item-returns-6 t c = let a = c .before .before .before .before .before .be
     c .before .before .check-dynamic .ensures ∙ sym (goes-on (a .before) 2 _ _ _ (item-dynamic I S (a .bytes .now) (a .frame .base) (a .frame .area) (marksOf (a .frame .area) (a .taken) (a .marks .now)) (enums t) (a .kind) (a .at) _ (c .before .before .before .before .before .before .kind6 .given .1)) (c .before .before .before .longer3 .ensures))
 
 abbrev check-items-Inv-loop : check-items-lts.InvT-loop
-check-items-Inv-loop table index bytes marks₀ frame depth kind width total at before i₀ place₀ sum₀ holds₀ marks i place sum holds =
+check-items-Inv-loop table index bytes marks₀ frame depth kind width total at taken before i₀ place₀ sum₀ holds₀ marks i place sum holds =
     (i ≤ total) × (length marks ≡ length marks₀) × (place + (total - i) * width ≤ length bytes) × (sum < 2 ^ 64)
     × (after before (count (itemsR width (itemR (innerOf table (frame .levels)) (staticOf table (frame .levels) depth) (kindFrom (enums table) kind)) total (within bytes frame) at (marksOf (frame .area) holds₀ marks₀))) ≡ after sum (count (itemsR width (itemR (innerOf table (frame .levels)) (staticOf table (frame .levels) depth) (kindFrom (enums table) kind)) (total - i) (within bytes frame) place (marksOf (frame .area) holds marks))))
 
 abbrev check-items-μ-loop : check-items-lts.MeasureT-loop
-check-items-μ-loop table index bytes marks₀ frame depth kind width total at before i₀ place₀ sum₀ holds₀ marks i place sum holds =
+check-items-μ-loop table index bytes marks₀ frame depth kind width total at taken before i₀ place₀ sum₀ holds₀ marks i place sum holds =
     total - i
 
 abbrev check-items-claims : ℕ → check-items-lts.Claims
@@ -764,7 +764,7 @@ pub +check-body+check-contents+check-dynamic+check-extending+check-extension+che
     μ-check-items
     μ-check-nested
     μ-check-value (λ t. check-body-lts.spec (check-body-claims t) (check-body-at t)
-    check-body.Post (λ c κs. search needs) (λ c. search needs) (check-body-returns t) (λ c κs. search needs) (λ c. search needs) (check-body-returns-2 t) (λ c κs. search needs) (check-body-check-contents-requires t) (λ c. search needs) (λ c κs. search needs) (λ c κs. search needs) (λ c. search needs) (check-body-returns-3 t) (λ c. search needs) (λ c κs. search needs) (check-body-add-t32 t) (λ c. search needs) (λ c. search needs) (check-body-returns-4 t) (λ c. search needs) (check-body-returns-5 t)) (λ t. check-contents-lts.spec (check-contents-claims t) (check-contents-at t)
+    check-body.Post (λ c κs. search needs) (λ c. search needs) (check-body-returns t) (λ c κs. search needs) (λ c. search needs) (check-body-returns-2 t) (λ c κs. search needs) (check-body-check-contents-requires t) (λ c. search needs) (λ c κs. search needs) (λ c κs. search needs) (λ c. search needs) (check-body-returns-3 t) (λ c. search needs) (λ c κs. search needs) (check-body-add-t31 t) (λ c. search needs) (λ c. search needs) (check-body-returns-4 t) (λ c. search needs) (check-body-returns-5 t)) (λ t. check-contents-lts.spec (check-contents-claims t) (check-contents-at t)
     check-contents.Post (check-contents-check-fields-requires t) (λ c. search needs) (check-contents-check-extension-requires t) (λ c. search needs) (λ c. search needs) (check-contents-returns t) (λ c. search needs) (check-contents-returns-2 t)) (λ t. check-dynamic-lts.spec (check-dynamic-claims t) (check-dynamic-at t)
     check-dynamic.Post (λ c κs. search needs) (λ c. search needs) (check-dynamic-add-check-nested t) (check-dynamic-check-nested-requires t) (λ c. search needs) (λ c. search needs) (check-dynamic-returns t) (λ c. search needs) (check-dynamic-returns-2 t)) (λ t. check-extending-lts.spec (check-extending-claims t) (check-extending-at t)
     check-extending.Post (λ c κs. search needs) (λ c. search needs) (check-extending-add-t19 t) (λ c. search needs) (check-extending-returns t) (check-extending-add-read-u64 t) (check-extending-read-u64-requires t) (λ c κs. search needs) (check-extending-add-check-nested t) (λ c κs. search needs) (check-extending-check-nested-requires t) (λ c. search needs) (check-extending-returns-2 t) (check-extending-add-longer t) (λ c κs. search needs) (λ c. search needs) (λ c. search needs) (check-extending-returns-3 t) (λ c. search needs) (check-extending-returns-4 t)) (λ t. check-extension-lts.spec (check-extension-claims t) (check-extension-at t)

@@ -4,15 +4,16 @@ use Rattle.message.proofs.write_marks.Statement.{statement}
 use Rattle.message.proofs.write_marks.Tie as tie
 
 returns : tie.Need-returns
-returns c = let a = c .before .before .before .before .before .before .before .before .before .before .before .args in written-some (a .area) (a .taken) (a .marks .now) _ (c .before .before .before .before .before .before .before .before .clear-unless .ensures) _ (c .before .before .before .before .before .earlier .ensures) _ (c .before .before .fill .ensures)
+returns c = let a = c .before .before .before .before .before .before .before .before .before .before .before .before .args in written-some (a .area) (a .taken) (a .marks .now) _ (c .before .before .before .before .before .before .before .before .before .clear-unless .ensures) _ (rw (c .before .before .before .before .before .before .packed-end .ensures) at (c .before .before .before .before .before .earlier .ensures)) _ (c .before .before .fill .ensures)
 
 returns-2 : tie.Need-returns-2
-returns-2 c = let a = c .before .before .before .before .before .before .before .args in written-none (a .area) (a .taken) (a .marks .now) _ (c .before .before .before .before .clear-unless .ensures) _ (c .before .earlier .ensures) (c .if1 .left)
+returns-2 c = let a = c .before .before .before .before .before .before .before .before .args in written-none (a .area) (a .taken) (a .marks .now) _ (c .before .before .before .before .before .clear-unless .ensures) _ (rw (c .before .before .packed-end .ensures) at (c .before .earlier .ensures)) (c .if1 .left)
 
 pub write-marks-spec : {M : Type 1} → statement M
 write-marks-spec =
     tie.close
     (tie.spec
+    (λ c κs. search needs)
     (λ c κs. search needs)
     (λ c κs. search needs)
     (λ c. search needs)

@@ -1,2 +1,2 @@
-pub mod Casts
+pub mod Flag
 pub mod Nan

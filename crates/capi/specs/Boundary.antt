@@ -1,9 +1,10 @@
 -- The answers as C takes them.
 use mathlib.Core.Bool.{Bool, true, false, not, cond}
-use Prim.Native.Nat.{ℕ, _-_, _^_}
+use Prim.Native.Nat.{ℕ}
 use lib.Dec.{T}
-use lib.IntN.{ℤ, pos, negsuc}
+use lib.IntN.{ℤ, pos}
 use lib.Ieee.{binary64, isNan, toBits}
+use Rattle.wire.specs.Bytes.{pattern}
 use Rattle.schema.specs.declared.Verdict.{Verdict}
 use Rattle.schema.specs.declared.Verdict.the-variants.{Accepted, Refused}
 use Rattle.reading.specs.declared.Number.{Number}
@@ -32,21 +33,16 @@ unfoldable pub exportedSpan : Span → BlinkPart
 exportedSpan (Lie s n) = record { number = 0; place = 0; offset = s; length = n }
 exportedSpan (NoBytes n p) = record { number = n; place = p; offset = 0; length = 0 }
 
--- A signed number's 64 bits: two's complement.
-unfoldable pub twos : ℤ → ℕ
-twos (pos n) = n
-twos (negsuc n) = 2 ^ 64 - 1 - n
-
 -- An answer that is a number, of a kind.
 abbrev pub answered : ℕ → ℤ → ℕ → BlinkNumber
 answered k e x = record { number = 0; place = 0; kind = k; exponent = e; bits = x }
 
 -- A number's kind, a decimal's exponent, and its bits: of a float, its pattern.
 unfoldable pub exportedNumber : Number → BlinkNumber
-exportedNumber (Signed x) = answered 1 (pos 0) (twos x)
+exportedNumber (Signed x) = answered 1 (pos 0) (pattern 63 x)
 exportedNumber (Unsigned x) = answered 2 (pos 0) x
 exportedNumber (Flag x) = answered 3 (pos 0) (cond x 1 0)
-exportedNumber (Decimal e x) = answered 4 e (twos x)
+exportedNumber (Decimal e x) = answered 4 e (pattern 63 x)
 exportedNumber (Float x) = answered 5 (pos 0) (toBits binary64 x)
 exportedNumber (NanBits x) = answered 6 (pos 0) x
 exportedNumber (NotRead n p) = record { number = n; place = p; kind = 0; exponent = pos 0; bits = 0 }

@@ -4,7 +4,7 @@ ghost use mathlib.Core.Path.{_≡_};
 ghost use lib.ListN.{length};
 ghost use Rattle.schema.specs.Table.{tableVerdict};
 ghost use Rattle.codec.specs.Answers.{messageVerdict, scratchAfter, writtenOf, roomAfter, toSheet, numberAnswer, spanAnswer};
-ghost use Rattle.capi.specs.Boundary.{exported, exportedWritten, exportedNumber, exportedSpan, answered, twos, NoNan};
+ghost use Rattle.capi.specs.Boundary.{exported, exportedWritten, exportedNumber, exportedSpan, answered, NoNan};
 
 // number 0: accepted.
 #[repr(C)]
@@ -92,17 +92,6 @@ fn export_span(s: codec::Span) -> BlinkPart
     }
 }
 
-// The bits of a signed number, in two's complement.
-fn bits_of(x: i64) -> u64
-    ensures { λ r. ⌜ r ≡ twos x ⌝ }
-{
-    if x < 0 {
-        0xffff_ffff_ffff_ffff - ((-1 - x) as u64)
-    } else {
-        x as u64
-    }
-}
-
 fn answer(kind: u32, exponent: i32, bits: u64) -> BlinkNumber
     ensures { λ r. ⌜ r ≡ answered kind exponent bits ⌝ }
 {
@@ -120,11 +109,11 @@ fn export_number(n: codec::Number) -> BlinkNumber
     ensures { λ r. ⌜ r ≡ exportedNumber n ⌝ }
 {
     match n {
-        codec::Number::Signed(x) => answer(1, 0, bits_of(x)),
+        codec::Number::Signed(x) => answer(1, 0, wire::i64_to_bits(x)),
         codec::Number::Unsigned(x) => answer(2, 0, x),
         codec::Number::Bool(x) => answer(3, 0, x as u64),
         codec::Number::Decimal { exponent, mantissa } => {
-            answer(4, exponent as i32, bits_of(mantissa))
+            answer(4, exponent as i32, wire::i64_to_bits(mantissa))
         }
         codec::Number::Float(x) => answer(5, 0, f64::to_bits(x)),
         codec::Number::NanBits(x) => answer(6, 0, x),

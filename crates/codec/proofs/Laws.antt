@@ -1,16 +1,18 @@
 -- The public answers, by what the crates below found.
-use Prim.Native.Nat.{ℕ, _<_, _≤_}
+use Prim.Native.Nat.{ℕ, _+_, _<_, _≤_}
 use mathlib.Core.Path.{_≡_, refl, sym, ap, _∙_}
-use mathlib.Core.Bool.{true}
+use mathlib.Core.Bool.{Bool, true, false, _&&_}
 use mathlib.Core.List.{List, [], _∷_}
 use native.Mathlib.Omega.{arith}
 use lib.ListN.{length, replicate}
+use lib.Dec.{leb}
 use borrow.Author.Tests.{le-leb, lt-leb, leb-true}
-use Rattle.wire.specs.Bytes.{splice}
+use Rattle.wire.specs.Bytes.{part, splice}
+use Rattle.wire.proofs.Laws.{length-splice, part-splice}
 use Rattle.schema.specs.declared.Verdict.{Verdict}
 use Rattle.schema.specs.declared.Verdict.the-variants.{Accepted, Refused}
 use Rattle.schema.specs.Faults.{need, also}
-use Rattle.schema.specs.Schema.{Kind, plain, inline, indirect, static, dynamic, Field}
+use Rattle.schema.specs.Schema.{Kind, plain, inline, indirect, static, dynamic, Field, Group}
 use Rattle.schema.specs.Table.{schema, tableVerdict}
 use Rattle.schema.specs.Layout.{Layout}
 use Rattle.message.specs.declared.Walked.{Walked}
@@ -22,19 +24,23 @@ use Rattle.table.proofs.Accepted as table
 use Rattle.message.specs.Count.{count}
 use Rattle.message.specs.Proper.{SizedKind, SizedFields, Sized}
 use Rattle.message.proofs.CheckExact.{after-exact}
-use Rattle.sheet.specs.Written.{Writing, stopped, wrote}
-use Rattle.sheet.specs.Rewritten.{sheetIn}
+use Rattle.sheet.specs.Written.{Writing, stopped, wrote, sheetW, fitted, written}
+use Rattle.sheet.specs.Rewritten.{sheetIn, onward}
+use Rattle.sheet.proofs.RoundTrip as trip
+use Rattle.parsing.specs.Count.{capped}
+use Rattle.parsing.specs.Parse.{parsedOf}
+use Rattle.parsing.specs.declared.Parsed.the-variants.{Counted as Parsed, Refused as Unparsed}
 use Rattle.message.specs.Check.{countOf, after}
 use Rattle.reading.specs.declared.Number.the-variants.{Refused as NotRead}
 use Rattle.reading.specs.declared.Part.the-variants.{Refusal}
 use Rattle.reading.specs.Item.{itemOf}
 use Rattle.reading.specs.Number.{numberAt}
 use Rattle.reading.specs.Part.{partAt}
-use Rattle.reading.specs.Part as part
+use Rattle.reading.specs.Part as parts
 use Rattle.codec.specs.declared.Span.the-variants.{Refused as NoBytes}
 use Rattle.codec.specs.declared.Written.{Written}
 use Rattle.codec.specs.declared.Written.the-variants.{Bytes, Refused as Unwritten}
-use Rattle.codec.specs.Answers.{accepted, messageReading, verdictOf, messageVerdict, scratchAfter, Opened, writtenOf, roomAfter, toSheet, numberUnder, numberAnswer, partUnder, partAnswer, bytesVerdict, spanOf, spanUnder, spanAnswer}
+use Rattle.codec.specs.Answers.{accepted, messageReading, verdictOf, messageVerdict, scratchAfter, Opened, writtenOf, roomAfter, Writes, toSheet, toMessage, Allowed, numberUnder, numberAnswer, partUnder, partAnswer, bytesVerdict, spanOf, spanUnder, spanAnswer}
 
 -- a refusal opens nothing
 pub opens-nothing : (t b : List ℕ) (scratch : ℕ) (k : List ℕ) (w : Walked) (n p : ℕ) → w ≡ Failed n p → messageReading t b scratch ≡ refused n p → Opened t b scratch k w
@@ -115,7 +121,7 @@ module _ (t b s : List ℕ) (e : Accepted ≡ tableVerdict t) where
           refuses = λ n p f. walked ∙ walked-refuses _ n p (ap (λ (v : Walked). countOf v []) (sym f) ∙ exact);
           opens = λ n f.
               let x = walked-means _ n (ap (λ (v : Walked). countOf v []) (sym f) ∙ exact) in
-              record { layout = l; small = fits; sheet = x .0; walks = x .1; means = walked ∙ x .1; long = x .2 };
+              record { table = sym e; layout = l; small = fits; sheet = x .0; walks = x .1; means = walked ∙ x .1; long = x .2 };
         }
 
     pub scratch-cleared : scratchAfter t b s ≡ splice (length b) 0 (replicate (length b) 0) s
@@ -136,16 +142,13 @@ module _ (t b : List ℕ) (scratch : ℕ) where
 -- MESSAGE TO SHEET
 
 -- what a question that writes answers, and what it leaves in its room
-abbrev pub Answers : Writing → Written → List ℕ → List ℕ → Type 0
-Answers x r before left = (r ≡ writtenOf x) × (left ≡ roomAfter x before)
-
-pub answers-refused : (x : Writing) (n p : ℕ) (room : List ℕ) → x ≡ stopped n p → Answers x (Unwritten n p) room room
+pub writes-nothing : (x : Writing) (n p : ℕ) (room : List ℕ) → x ≡ stopped n p → Writes x (Unwritten n p) room room
 unfolding writtenOf roomAfter
-answers-refused x n p room e = (rw e, rw e)
+writes-nothing x n p room e = (rw e, rw e)
 
-pub answers-written : (x : Writing) (X : List ℕ) (n : ℕ) (before left : List ℕ) → x ≡ wrote X [] [] → n ≡ length X → left ≡ splice (length X) 0 X before → Answers x (Bytes n) before left
+pub writes-it : (x : Writing) (X : List ℕ) (n : ℕ) (before left : List ℕ) → x ≡ wrote X [] [] → n ≡ length X → left ≡ splice (length X) 0 X before → Writes x (Bytes n) before left
 unfolding writtenOf roomAfter
-answers-written x X n before left e l f = (rw e (ap Bytes l), rw e f)
+writes-it x X n before left e l f = (rw e (ap Bytes l), rw e f)
 
 module _ (t b : List ℕ) (scratch room : ℕ) where
   pub sheet-refused : (n p : ℕ) → messageReading t b scratch ≡ refused n p → toSheet t b scratch room ≡ stopped n p
@@ -161,6 +164,104 @@ module _ (t b : List ℕ) (scratch room : ℕ) where
     unfolding toSheet sheetIn need
     sheet-written fits = rw (e, le-leb _ _ fits)
 
+-- SHEET TO MESSAGE
+
+module _ (gs : List Group) (ok : Sized gs) (s : List ℕ) where
+  pub parsed-refuses : (n p : ℕ) → Unparsed n p ≡ parsedOf (sheetW gs s) → sheetW gs s ≡ stopped n p
+  parsed-refuses n p = go (sheetW gs s)
+    where
+      go : (x : Writing) → Unparsed n p ≡ parsedOf x → x ≡ stopped n p
+      go (stopped n′ p′) e = unfold parsedOf in cc
+      go (wrote X D r) e = unfold parsedOf in let z : _≡_ {A = ℕ} 0 1 = cc in absurd (omega arith)
+
+  pub parsed-allows : (n : ℕ) → Parsed n ≡ parsedOf (sheetW gs s) → Allowed gs s n
+  parsed-allows n e = go (sheetW gs s) refl e
+    where
+      go : (x : Writing) → sheetW gs s ≡ x → Parsed n ≡ parsedOf x → Allowed gs s n
+      go (stopped n′ p) w e = unfold parsedOf in let z : _≡_ {A = ℕ} 0 1 = cc in absurd (omega arith)
+      go (wrote X D r) w e = unfold parsedOf in
+          let g = trip.write-read gs ok strict s X D r w in
+          let l : capped (length X) ≡ n = cc in
+          record { message = X; makes = w ∙ let a = g .alone in let b = g .whole in cc; long = l }
+
+and-false : (c : Bool) → c && false ≡ false
+and-false true = refl
+and-false false = refl
+
+pub message-20 : (t : List ℕ) (n p : ℕ) → Refused n p ≡ tableVerdict t → (s : List ℕ) (room : ℕ) → toMessage t s room ≡ stopped 20 0
+unfolding toMessage accepted need
+message-20 t n p e s room = rw (← e)
+
+pub message-under : (t : List ℕ) → tableVerdict t ≡ Accepted → (s : List ℕ) (room : ℕ) → toMessage t s room ≡ written (schema t) room s
+unfolding toMessage accepted need
+message-under t e s room = rw e
+
+module _ (gs : List Group) (s : List ℕ) (room : ℕ) where
+  pub written-refused : (n p : ℕ) → sheetW gs s ≡ stopped n p → written gs room s ≡ stopped n p
+  unfolding written fitted
+  written-refused n p e = rw e
+
+  module _ (n : ℕ) (a : Allowed gs s n) where
+    written-by : (c : Bool) → leb (length (a .message)) room && leb (length (a .message)) 65536 ≡ c → written gs room s ≡ need c (stopped 47 0) (wrote (a .message) [] [])
+    unfolding written fitted
+    written-by c e = rw (a .makes, e)
+
+    pub written-47-room : room < n → written gs room s ≡ stopped 47 0
+    unfolding need capped
+    written-47-room l = written-by false (rw (lt-leb (length (a .message)) room (omega (arith, a .long, l))))
+
+    pub written-47-most : 65536 < n → written gs room s ≡ stopped 47 0
+    unfolding need capped
+    written-47-most l = written-by false (rw (lt-leb (length (a .message)) 65536 (omega (arith, a .long, l))) (and-false (leb (length (a .message)) room)))
+
+    pub written-fits : n ≤ room → n ≤ 65536 → written gs room s ≡ wrote (a .message) [] []
+    unfolding need capped
+    written-fits l h = written-by true (rw (le-leb (length (a .message)) room (omega (arith, a .long, l, h)), le-leb (length (a .message)) 65536 (omega (arith, a .long, h))))
+
+    pub message-within : n ≤ room → n ≤ 65536 → length (a .message) ≤ room
+    unfolding capped
+    message-within l h = omega (arith, a .long, l, h)
+
+-- REWRITING
+
+pub unwritten : (x : Writing) (n p : ℕ) → Unwritten n p ≡ writtenOf x → x ≡ stopped n p
+unfolding writtenOf
+unwritten (stopped n′ p′) n p e = cc
+unwritten (wrote X D r) n p e = let z : _≡_ {A = ℕ} 0 1 = cc in absurd (omega arith)
+
+-- what message to sheet has written, as a part of the room
+pub record Shown (t b : List ℕ) (scratch : ℕ) (s before left : List ℕ) (n : ℕ) : Type 0 where
+  pub is : toSheet t b scratch (length before) ≡ wrote s [] []
+  pub inside : n ≤ length left
+  pub here : part n 0 left ≡ s
+
+pub shown : (t b : List ℕ) (scratch : ℕ) (s : List ℕ) → messageReading t b scratch ≡ done s [] → (n : ℕ) (before left : List ℕ)
+    → (r : Written) → r ≡ Bytes n → Writes (toSheet t b scratch (length before)) r before left → Shown t b scratch s before left n
+unfolding toSheet sheetIn
+shown t b scratch s e n before left r is (w, l) = go (leb (length s) (length before)) refl (sym is ∙ rw e at w) (rw e at l)
+  where
+    go : (c : Bool) → leb (length s) (length before) ≡ c → Bytes n ≡ writtenOf (need c (stopped 46 0) (wrote s [] [])) → left ≡ roomAfter (need c (stopped 46 0) (wrote s [] [])) before
+        → Shown t b scratch s before left n
+    go true q w l = unfold need writtenOf roomAfter in
+        let fits : length s ≤ length before = leb-true _ _ q in
+        let room : 0 + length s ≤ length before = omega (arith, fits) in
+        let k : n ≡ length s = cc in
+        record {
+          is = sheet-written t b scratch (length before) s e fits;
+          inside = omega (arith, k, fits, ap length l, length-splice (length s) 0 s before room refl);
+          here = rw (k, l) (part-splice (length s) 0 s before room refl);
+        }
+    go false q w l = unfold need writtenOf in let z : _≡_ {A = ℕ} 0 1 = cc in absurd (omega arith)
+
+module _ (t b : List ℕ) (scratch room output : ℕ) where
+  pub onward-refused : (n p : ℕ) → toSheet t b scratch room ≡ stopped n p → onward (schema t) output (toSheet t b scratch room) ≡ stopped n p
+  unfolding onward
+  onward-refused n p e = rw e
+
+  pub onward-written : (s : List ℕ) → toSheet t b scratch room ≡ wrote s [] [] → onward (schema t) output (toSheet t b scratch room) ≡ written (schema t) output s
+  unfolding onward
+  onward-written s e = rw e
+
 -- READING ONE FIELD
 
 module _ (t b : List ℕ) (scratch f i : ℕ) where
@@ -173,7 +274,7 @@ module _ (t b : List ℕ) (scratch f i : ℕ) where
     unfolding partAnswer partUnder
     part-read = rw (verdict-accepted t b scratch s m e)
 
-    pub bytes-read : bytesVerdict t b scratch f i ≡ part.verdictOf (partAt b (itemOf (schema t) b f i))
+    pub bytes-read : bytesVerdict t b scratch f i ≡ parts.verdictOf (partAt b (itemOf (schema t) b f i))
     unfolding bytesVerdict also
     bytes-read = rw (verdict-accepted t b scratch s m e)
 

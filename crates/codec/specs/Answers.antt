@@ -9,6 +9,7 @@ use Rattle.wire.specs.Bytes.{splice}
 use Rattle.schema.specs.declared.Verdict.{Verdict}
 use Rattle.schema.specs.declared.Verdict.the-variants.{Accepted, Refused}
 use Rattle.schema.specs.Faults.{need, also}
+use Rattle.schema.specs.Schema.{Group}
 use Rattle.schema.specs.Table.{schema, tableVerdict}
 use Rattle.schema.specs.Layout.{Layout}
 use Rattle.message.specs.declared.Walked.{Walked}
@@ -22,7 +23,8 @@ use Rattle.reading.specs.Item.{itemOf}
 use Rattle.reading.specs.Number.{numberAt}
 use Rattle.reading.specs.Part.{partAt}
 use Rattle.reading.specs.Part as part
-use Rattle.sheet.specs.Written.{Writing, stopped, wrote, written}
+use Rattle.parsing.specs.Count.{capped}
+use Rattle.sheet.specs.Written.{Writing, stopped, wrote, sheetW, written}
 use Rattle.sheet.specs.Rewritten.{Rooms, sheetIn, onward}
 use Rattle.codec.specs.declared.Span.{Span}
 use Rattle.codec.specs.declared.Span.the-variants.{Bytes as Lie, Refused as NoBytes}
@@ -58,6 +60,7 @@ scratchAfter t b s =
 
 -- An accepted message b of the table t, whose index is k: its sheet, of n bytes.
 pub record Known (t b : List ℕ) (scratch : ℕ) (k : List ℕ) (n : ℕ) : Type 0 where
+  pub table : tableVerdict t ≡ Accepted
   pub layout : Layout t k
   pub small : length b ≤ 65536
   pub sheet : List ℕ
@@ -82,6 +85,10 @@ unfoldable pub roomAfter : Writing → List ℕ → List ℕ
 roomAfter (stopped n p) room = room
 roomAfter (wrote X D r) room = splice (length X) 0 X room
 
+-- Both: the answer r, and what was in the room before and is left there.
+abbrev pub Writes : Writing → Written → List ℕ → List ℕ → Type 0
+Writes x r before left = (r ≡ writtenOf x) × (left ≡ roomAfter x before)
+
 -- The sheet of the message b, for a room of this length.
 unfoldable pub toSheet : List ℕ → List ℕ → ℕ → ℕ → Writing
 toSheet t b scratch room = sheetIn room (messageReading t b scratch)
@@ -92,9 +99,18 @@ toSheet t b scratch room = sheetIn room (messageReading t b scratch)
 unfoldable pub toMessage : List ℕ → List ℕ → ℕ → Writing
 toMessage t s room = need (accepted (tableVerdict t)) (stopped 20 0) (written (schema t) room s)
 
+-- What the sheet's check finds of a sheet s without a fault: the message X that it makes, of n bytes. A count above 65,536 stops at 65,537.
+pub record Allowed (gs : List Group) (s : List ℕ) (n : ℕ) : Type 0 where
+  pub message : List ℕ
+  pub makes : sheetW gs s ≡ wrote message [] []
+  pub long : capped (length message) ≡ n
+
+abbrev pub rooms : List ℕ → List ℕ → List ℕ → Rooms
+rooms scratch sheet output = record { scratch = length scratch; sheet = length sheet; output = length output }
+
 -- "Rewriting checks the message, then 46, then 47."
 unfoldable pub rewriting : List ℕ → List ℕ → Rooms → Writing
-rewriting t b rooms = onward (schema t) (rooms .output) (toSheet t b (rooms .scratch) (rooms .sheet))
+rewriting t b r = onward (schema t) (r .output) (toSheet t b (r .scratch) (r .sheet))
 
 -- READING ONE FIELD
 -- "After the message's own faults: 28 no such field, 29 absent, 28 no such item, 48 other kind (each at place 0)."

@@ -1,5 +1,6 @@
 // The public questions. Any bytes may arrive, so none has a `requires`.
 use message::Walked;
+use parsing::Parsed;
 pub use reading::Number;
 use reading::Part;
 pub use schema::Verdict;
@@ -7,11 +8,14 @@ ghost use mathlib.Core.Path.{_≡_};
 ghost use Prim.Native.Nat.{ℕ, _+_};
 ghost use lib.ListN.{length, replicate};
 ghost use denote.Ref.{ptr};
-ghost use Rattle.schema.specs.Table.{tableVerdict};
+ghost use Rattle.schema.specs.Table.{schema, tableVerdict};
+ghost use Rattle.schema.specs.Layout.{Layout};
 ghost use Rattle.table.specs.Index.{Checked};
 ghost use Rattle.message.specs.declared.Walked.the-variants.{Refused as Failed};
+ghost use Rattle.sheet.specs.Written.{written};
+ghost use Rattle.sheet.specs.Rewritten.{onward};
 ghost use Rattle.reading.specs.Part.{bytesIn, startOf};
-ghost use Rattle.codec.specs.Answers.{messageVerdict, scratchAfter, Known, Opened, writtenOf, roomAfter, toSheet, numberAnswer, partAnswer, bytesVerdict, spanOf, spanAnswer};
+ghost use Rattle.codec.specs.Answers.{messageVerdict, scratchAfter, Known, Opened, writtenOf, roomAfter, Writes, toSheet, toMessage, Allowed, rooms, rewriting, numberAnswer, partAnswer, bytesVerdict, spanOf, spanAnswer};
 
 // How many bytes were written, or why none.
 pub enum Written {
@@ -60,6 +64,45 @@ pub fn message_to_sheet(
     let walked = open_message(table, &mut index, message, scratch);
     match walked {
         Walked::Counted { length } => sheet_of(table, &index, message, length, sheet),
+        Walked::Refused { number, place } => Written::Refused { number, place },
+    }
+}
+
+// The message of a sheet, at the start of `output`.
+pub fn sheet_to_message(table: &[u8], sheet: &[u8], output: &mut [u8]) -> Written
+    ensures { λ r. ⌜ r ≡ writtenOf (toMessage (now (table .entry)) (now (sheet .entry)) (length (now (output .entry)))) ⌝ }
+    ensures { λ _. ⌜ now (output .exit) ≡ roomAfter (toMessage (now (table .entry)) (now (sheet .entry)) (length (now (output .entry)))) (now (output .entry)) ⌝ }
+{
+    let mut index = [0u16; 322];
+    let v = table::index_table(table, &mut index);
+    match v {
+        Verdict::Accepted => message_of(table, &index, sheet, output),
+        Verdict::Refused { number, place } => Written::Refused {
+            number: 20,
+            place: 0,
+        },
+    }
+}
+
+// A message with the same sheet, as short as can be, at the start of `output`. The sheet goes into the room `sheet`.
+pub fn rewrite(
+    table: &[u8],
+    message: &[u8],
+    scratch: &mut [u8],
+    sheet: &mut [u8],
+    output: &mut [u8],
+) -> Written
+    ensures { λ r. ⌜ r ≡ writtenOf (rewriting (now (table .entry)) (now (message .entry)) (rooms (now (scratch .entry)) (now (sheet .entry)) (now (output .entry)))) ⌝ }
+    ensures { λ _. ⌜ now (scratch .exit) ≡ scratchAfter (now (table .entry)) (now (message .entry)) (now (scratch .entry)) ⌝ }
+    ensures { λ _. ⌜ now (sheet .exit) ≡ roomAfter (toSheet (now (table .entry)) (now (message .entry)) (length (now (scratch .entry))) (length (now (sheet .entry)))) (now (sheet .entry)) ⌝ }
+    ensures { λ _. ⌜ now (output .exit) ≡ roomAfter (rewriting (now (table .entry)) (now (message .entry)) (rooms (now (scratch .entry)) (now (sheet .entry)) (now (output .entry)))) (now (output .entry)) ⌝ }
+{
+    let mut index = [0u16; 322];
+    let walked = open_message(table, &mut index, message, scratch);
+    match walked {
+        Walked::Counted { length } => {
+            rewrite_under(table, &index, message, length, sheet, output)
+        }
         Walked::Refused { number, place } => Written::Refused { number, place },
     }
 }
@@ -196,7 +239,7 @@ fn open_under(table: &[u8], index: &[u16], message: &[u8], scratch: &mut [u8]) -
 // The sheet, of `size` bytes, of an accepted message: 46 where it does not fit the room.
 fn sheet_of(table: &[u8], index: &[u16], message: &[u8], size: usize, sheet: &mut [u8]) -> Written
     requires { ⌜ ((scratch : ℕ) × Known (now table) (now message) scratch (now index) size) ⌝ }
-    ensures { λ r. ⌜ ((scratch : ℕ) → Known (now (table .entry)) (now (message .entry)) scratch (now (index .entry)) size → (r ≡ writtenOf (toSheet (now (table .entry)) (now (message .entry)) scratch (length (now (sheet .entry))))) × (now (sheet .exit) ≡ roomAfter (toSheet (now (table .entry)) (now (message .entry)) scratch (length (now (sheet .entry)))) (now (sheet .entry)))) ⌝ }
+    ensures { λ r. ⌜ ((scratch : ℕ) → Known (now (table .entry)) (now (message .entry)) scratch (now (index .entry)) size → Writes (toSheet (now (table .entry)) (now (message .entry)) scratch (length (now (sheet .entry)))) r (now (sheet .entry)) (now (sheet .exit))) ⌝ }
 {
     if sheet.len() < size {
         return Written::Refused {
@@ -205,4 +248,58 @@ fn sheet_of(table: &[u8], index: &[u16], message: &[u8], size: usize, sheet: &mu
         };
     }
     Written::Bytes(sheet::write_sheet(table, index, message, sheet))
+}
+
+// The message of a sheet, under an accepted table.
+fn message_of(table: &[u8], index: &[u16], sheet: &[u8], output: &mut [u8]) -> Written
+    requires { ⌜ (tableVerdict (now table) ≡ Verdict.Accepted) × (Layout (now table) (now index)) ⌝ }
+    ensures { λ r. ⌜ Writes (written (schema (now (table .entry))) (length (now (output .entry))) (now (sheet .entry))) r (now (output .entry)) (now (output .exit)) ⌝ }
+{
+    let parsed = parsing::check_sheet(table, index, sheet);
+    match parsed {
+        Parsed::Counted { length } => fit_message(table, index, sheet, length, output),
+        Parsed::Refused { number, place } => Written::Refused { number, place },
+    }
+}
+
+// The message of an allowed sheet, of `size` bytes: 47 where it does not fit the output, or is too long.
+fn fit_message(table: &[u8], index: &[u16], sheet: &[u8], size: usize, output: &mut [u8]) -> Written
+    requires { ⌜ (Layout (now table) (now index)) × (Allowed (schema (now table)) (now sheet) size) ⌝ }
+    ensures { λ r. ⌜ Writes (written (schema (now (table .entry))) (length (now (output .entry))) (now (sheet .entry))) r (now (output .entry)) (now (output .exit)) ⌝ }
+{
+    if output.len() < size {
+        return too_long();
+    }
+    if 65536 < size {
+        return too_long();
+    }
+    Written::Bytes(writing::write_message(table, index, sheet, output))
+}
+
+fn too_long() -> Written
+    ensures { λ r. ⌜ r ≡ Written.Refused 47 0 ⌝ }
+{
+    Written::Refused {
+        number: 47,
+        place: 0,
+    }
+}
+
+// "Rewriting checks the message, then 46, then 47": what follows the message's faults.
+fn rewrite_under(
+    table: &[u8],
+    index: &[u16],
+    message: &[u8],
+    size: usize,
+    sheet: &mut [u8],
+    output: &mut [u8],
+) -> Written
+    requires { ⌜ ((scratch : ℕ) × Known (now table) (now message) scratch (now index) size) ⌝ }
+    ensures { λ r. ⌜ ((scratch : ℕ) → Known (now (table .entry)) (now (message .entry)) scratch (now (index .entry)) size → (Writes (onward (schema (now (table .entry))) (length (now (output .entry))) (toSheet (now (table .entry)) (now (message .entry)) scratch (length (now (sheet .entry))))) r (now (output .entry)) (now (output .exit))) × (now (sheet .exit) ≡ roomAfter (toSheet (now (table .entry)) (now (message .entry)) scratch (length (now (sheet .entry)))) (now (sheet .entry)))) ⌝ }
+{
+    let shown = sheet_of(table, index, message, size, sheet);
+    match shown {
+        Written::Bytes(n) => message_of(table, index, &sheet[0..n], output),
+        Written::Refused { number, place } => Written::Refused { number, place },
+    }
 }

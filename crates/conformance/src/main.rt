@@ -36,6 +36,12 @@ fn answer_sheet(table: &[u8], message: &[u8], scratch: &mut [u8], sheet: &mut [u
     print::sum(sheet);
 }
 
+fn answer_number(table: &[u8], message: &[u8], scratch: &mut [u8], field: usize, item: usize) {
+    room::fill(scratch);
+    print::answer(codec::read_number(table, message, scratch, field, item));
+    print::sum(scratch);
+}
+
 // The part, its twin question, and where it lies.
 fn answer_bytes(table: &[u8], message: &[u8], scratch: &mut [u8], field: usize, item: usize) {
     room::fill(scratch);
@@ -53,6 +59,7 @@ fn ask(r: Record, table: &[u8], input: &[u8], scratch: &mut [u8], sheet: &mut [u
     match kind {
         2 => answer_check(table, input, scratch),
         3 => answer_sheet(table, input, scratch, sheet),
+        6 => answer_number(table, input, scratch, r.field as usize, r.item as usize),
         _ => answer_bytes(table, input, scratch, r.field as usize, r.item as usize),
     }
 }
@@ -160,5 +167,6 @@ fn main() {
     answer_file(b"table.vec");
     answer_file(b"check.vec");
     answer_file(b"sheet.vec");
+    answer_file(b"number.vec");
     answer_file(b"bytes.vec");
 }

@@ -1,4 +1,5 @@
 // Answers as text.
+use codec::Number;
 use codec::Span;
 use codec::Verdict;
 use codec::Written;
@@ -53,10 +54,68 @@ fn two(start: usize, length: usize) {
     number(length);
 }
 
+// What kind of number it is and its value; or the fault, and that it is refused.
+pub fn answer(n: Number) {
+    match n {
+        Number::Signed(x) => signed(b"signed ", x),
+        Number::Unsigned(x) => unsigned(b"unsigned ", x),
+        Number::Bool(x) => unsigned(b"bool ", x as u64),
+        Number::Decimal { exponent, mantissa } => {
+            signed(b"decimal ", wide(exponent));
+            signed_after(b" ", mantissa);
+        }
+        Number::Float(x) => float(x),
+        Number::NanBits(x) => unsigned(b"float ", x),
+        Number::Refused { number, place } => {
+            fault(number as usize, place);
+            text(b" refused");
+        }
+    }
+}
+
 // A lent buffer's checksum, after a space.
 pub fn sum(room: &[u8]) {
     space();
     number(crate::room::adler32(room));
+}
+
+fn wide(x: i8) -> i64 {
+    x as i64
+}
+
+fn text(bytes: &[u8]) {
+    io::write_all(STDOUT_FILENO, bytes);
+}
+
+fn unsigned(kind: &[u8], x: u64) {
+    fault(0, 0);
+    space();
+    text(kind);
+    io::print_decimal(STDOUT_FILENO, x);
+}
+
+fn signed(kind: &[u8], x: i64) {
+    fault(0, 0);
+    space();
+    signed_after(kind, x);
+}
+
+fn signed_after(before: &[u8], x: i64) {
+    text(before);
+    let bits = wire::i64_to_bits(x);
+    if bits < 0x8000_0000_0000_0000 {
+        io::print_decimal(STDOUT_FILENO, bits);
+        return;
+    }
+    text(b"-");
+    io::print_decimal(STDOUT_FILENO, 0xffff_ffff_ffff_ffff - bits + 1);
+}
+
+// A NaN is answered by its bits, so none comes here.
+fn float(x: f64) {
+    if x == x {
+        unsigned(b"float ", f64::to_bits(x));
+    }
 }
 
 fn fault(number: usize, place: usize) {

@@ -1,13 +1,13 @@
 -- Fields, sequences and items: each way through them, and one turn of each loop.
 use Prim.Native.Nat.{ℕ, zero, suc, _+_, _-_, _*_, _%_, _^_, _<_, _≤_}
 use mathlib.Core.Path.{_≡_, refl, sym, ap, _∙_}
-use mathlib.Core.Bool.{Bool, true, false, _&&_}
+use mathlib.Core.Bool.{Bool, true, false, cond, not, _&&_}
 use mathlib.Core.List.{List}
 use native.Mathlib.Omega.{arith}
 use native.Mathlib.Nat.{add-mul, sub-zero}
 use lib.ListN.{length, drop}
-use lib.Dec.{leb}
-use borrow.Author.Tests.{eq-eqb}
+use lib.Dec.{leb, eqb}
+use borrow.Author.Tests.{eq-eqb, eqb-true, eqb-false, not-true, not-false}
 use Rattle.schema.specs.Schema.{Kind, plain, inline, any, Field, Group, kindWidth, valueWidth, fieldWidth, fieldsOf, fieldsWidth, width, shallowKind, shallowFields, shallow}
 use Rattle.schema.specs.Table.{fieldAt, fieldsAt, fieldCount, enums, schema}
 use Rattle.schema.specs.Layout.{groupPlace, Layout}
@@ -17,8 +17,9 @@ use Rattle.schema.specs.declared.FieldKind.the-variants.{Plain, Number, Inline,
 use Rattle.schema.specs.declared.Tested.{Tested}
 use Rattle.schema.proofs.Records.{fields-more, fields-none}
 use Rattle.schema.proofs.Groups.{placed-fields}
-use Rattle.schema.proofs.Depth.{shallow-fields, width-fields}
-use Rattle.message.specs.Sheet.{ST, kindMark, fieldMark}
+use Rattle.schema.proofs.Types.{width-optional, width-required}
+use Rattle.schema.proofs.Depth.{and-both, shallow-fields, width-fields}
+use Rattle.message.specs.Sheet.{ST, GB, kindMark, fieldMark}
 use Rattle.message.specs.Walk.{Here, here, strict, Reader, Inner, byte, locate, indirectR, innerR, itemsR, listR, textR, kindR, markedR, optionalR, valueR, fieldR, fieldsR, staticR}
 use Rattle.message.specs.Count.{failed, counted, count, more, andThen}
 use Rattle.message.specs.Check.{countBy, after, placeBy, itemR, markedValueR, Ready}
@@ -84,6 +85,13 @@ module _ (I : Inner) (sw : ℕ → ℕ) (S : ℕ → Reader) (es : List (List �
 
 -- ONE FIELD
 
+pub flag-wide : (sw : ℕ → ℕ) (f : Field) (o : Bool) → o ≡ f .optional → cond o 1 0 + valueWidth sw f ≡ fieldWidth sw f
+flag-wide sw f true i = let w = width-optional sw f (sym i) in omega (arith, w)
+flag-wide sw f false i = let w = width-required sw f (sym i) in omega (arith, w)
+
+pub flag-unset : (o : Bool) (v : ℕ) → o && not (eqb v 1) ≡ true → (o ≡ true) × (v ≡ 1 → ⊥)
+flag-unset o v e = let q = and-both o (not (eqb v 1)) e in (q .0, eqb-false _ _ (not-true _ (q .1)))
+
 module _ (I : Inner) (sw : ℕ → ℕ) (S : ℕ → Reader) (f : Field) (h : Here) (at : ℕ) (m : List ℕ) where
   pub field-required : f .optional ≡ false → fieldR I sw S f h at m ≡ markedValueR I sw S f h at m
   unfolding fieldR fieldMark valueR
@@ -96,6 +104,11 @@ module _ (I : Inner) (sw : ℕ → ℕ) (S : ℕ → Reader) (f : Field) (h : He
   pub field-there : f .optional ≡ true → byte at (h .bytes) ≡ 1 → fieldR I sw S f h at m ≡ markedValueR I sw S f h (at + 1) m
   unfolding optionalR
   field-there e o = field-optional e ∙ rw (eq-eqb _ _ o)
+
+  -- its value stands behind the flag, if it has one and that is set
+  pub field-set : (o : Bool) → o ≡ f .optional → o && not (eqb (byte at (h .bytes)) 1) ≡ false → (k : ℕ) → k ≡ cond o 1 0 → fieldR I sw S f h at m ≡ markedValueR I sw S f h (at + k) m
+  field-set true i e k q = rw q (field-there (sym i) (eqb-true _ _ (not-false _ e)))
+  field-set false i e k q = let z : at + k ≡ at = omega (arith, q) in rw z (field-required (sym i))
 
   module _ (x : Kind) (ix : x ≡ f .kind) where
     pub value-one : f .sequence ≡ false → markedValueR I sw S f h at m ≡ itemR I S x h at m
@@ -158,6 +171,18 @@ module _ (I : Inner) (S : ℕ → Reader) (b : List ℕ) (base area : ℕ) (m : 
         let q : w ≡ c = iw ∙ rw e in
         let l′ = rw q at l in
         rw (q, e) (plain-items c n at l′)
+
+    -- strings, and dynamic groups
+    module _ (sw : ℕ → ℕ) (w n at : ℕ) (iw : w ≡ kindWidth sw (kindFrom es kind)) where
+      pub items-indirect : (u : Bool) → kind ≡ Indirect u
+          → itemsR w (itemR I S (kindFrom es kind)) n (here strict b base area) at m ≡ itemsR 4 (markedR ST (indirectR 26 1 (textR u))) n (here strict b base area) at m
+      unfolding kindFrom kindWidth kindMark kindR
+      items-indirect u e = let q : w ≡ 4 = iw ∙ rw e in rw (q, e)
+
+      pub items-dynamic : (g : ℕ) → kind ≡ Dynamic g
+          → itemsR w (itemR I S (kindFrom es kind)) n (here strict b base area) at m ≡ itemsR 4 (markedR GB (indirectR 26 1 (innerR I g))) n (here strict b base area) at m
+      unfolding kindFrom kindWidth kindMark kindR
+      items-dynamic g e = let q : w ≡ 4 = iw ∙ rw e in rw (q, e)
 
     module _ (at : ℕ) where
       pub item-plain : (sw : ℕ → ℕ) (c : ℕ) → kind ≡ Plain c → at + kindWidth sw (kindFrom es kind) ≤ length b → count (itemR I S (kindFrom es kind) (here strict b base area) at m) ≡ counted (2 + c) m

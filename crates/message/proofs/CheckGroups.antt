@@ -15,12 +15,12 @@ use Rattle.message.specs.Marks.{padsZero, padsBefore, mark}
 use Rattle.message.specs.Sheet.{GB, XT, XU, GE}
 use Rattle.message.specs.Walk.{Reading, refused, done, prefixed, next, Here, here, strict, Inner, word, locate, indirectR, innerR, itemsR, listR, textR, staticR, extendingR, groupsR, extensionR, extensionIn, behindR, padded, bodyR, headR, groupR, walk}
 use Rattle.message.specs.Count.{Count, failed, counted, count, more, andThen}
-use Rattle.message.specs.Check.{packed, marksOf, countBy, after, placeBy}
+use Rattle.message.specs.Check.{packed, marksOf, closing, countBy, after, placeBy}
 use Rattle.message.specs.declared.Step.{Step}
 use Rattle.message.specs.declared.Step.the-variants.{Counted, Refused}
 use Rattle.message.specs.declared.Located.{Located}
 use Rattle.message.specs.declared.Located.the-variants.{At, Nowhere}
-use Rattle.message.proofs.Count.{more-more, count-prefixed, count-marked, count-list, count-inner, length-mark}
+use Rattle.message.proofs.Count.{more-zero, more-more, more-then, then-then, then-passed, count-next, count-prefixed, count-marked, count-list, count-inner, length-mark}
 use Rattle.message.proofs.CheckMarks.{packed-is, not-scattered}
 use Rattle.message.proofs.CheckAnswers.{stays, goes-on, passed, stopped, bounded}
 use Rattle.message.proofs.CheckFields.{leads-nowhere, leads-to}
@@ -80,10 +80,6 @@ module _ (gs : List Group) (I : Inner) (h : Here) (at : ℕ) (m : List ℕ) wher
 
 -- THE BODY
 
--- what comes behind the fields and the extension
-unfoldable pub closing : List ℕ → ℕ → ℕ → List ℕ → Count
-closing b base area m = need (padsZero (drop area m) (drop area b)) (failed 6 (base + area + padsBefore (drop area m) (drop area b))) (counted 2 [])
-
 close-is : (s u b m : List ℕ) (base area : ℕ) → length s ≡ 8
     → count (padded (here strict b base area) (prefixed s (next (done u m) (λ m. done GE m)))) ≡ andThen (more 8 (counted (length u) m)) (closing b base area)
 unfolding padded prefixed next andThen more closing count need
@@ -115,17 +111,34 @@ module _ (gs : List Group) (I : Inner) (g base : ℕ) (b : List ℕ) (a : ℕ) (
     unfolding bodyR behindR need
     body-is e = rw (← ia, le-leb a (length b) l, e) (closes (part 8 4 b) b base a _ (length-part 8 4 b (omega arith)))
 
-    -- after the walk of what is inside, on marks that are all 0 and behind the eight bytes of the id
+    -- what is behind the fields
+    abbrev rest : List ℕ → Count
+    rest m = andThen (count (extensionR gs I (here strict b base a) 12 m)) (closing b base a)
+
+    body-rest : extensionIn (here strict b base a) 12 ≡ true → count (bodyR strict gs I g base b)
+        ≡ andThen (more 8 (count (staticR gs I 5 g (here strict b base a) 16 (replicate (length b) 0)))) rest
+    body-rest e =
+        let r : Reading = staticR gs I 5 g (here strict b base a) 16 (replicate (length b) 0) in
+        let f : List ℕ → Count = λ m. count (extensionR gs I (here strict b base a) 12 m) in
+        body-is e ∙ ap (λ (c : Count). andThen (more 8 c) (closing b base a)) (count-next r (λ m. extensionR gs I (here strict b base a) 12 m))
+        ∙ ap (λ (c : Count). andThen c (closing b base a)) (more-then 8 (count r) f) ∙ then-then (more 8 (count r)) f (closing b base a)
+
+    -- after the fields, on marks that are all 0 and behind the eight bytes of the id
     module _ (e : extensionIn (here strict b base a) 12 ≡ true) (k j : ℕ) (q : j ≡ (k + 8) % 2 ^ 64) (o : List ℕ) (z : o ≡ replicate (length b) 0) (F : ℕ → List ℕ) (v : Step)
-        (s : countBy F v ≡ after j (count (next (staticR gs I 5 g (here strict b base a) 16 o) (λ m. extensionR gs I (here strict b base a) 12 m)))) where
-      body-contents : countBy F v ≡ after k (more 8 (count (next (staticR gs I 5 g (here strict b base a) 16 (replicate (length b) 0)) (λ m. extensionR gs I (here strict b base a) 12 m))))
-      body-contents = rw z at s ∙ sym (goes-on k 8 j _ _ refl q)
+        (s : countBy F v ≡ after j (count (staticR gs I 5 g (here strict b base a) 16 o))) where
+      body-fields : countBy F v ≡ after k (more 8 (count (staticR gs I 5 g (here strict b base a) 16 (replicate (length b) 0))))
+      body-fields = rw z at s ∙ sym (goes-on k 8 j _ _ refl q)
 
       pub body-stopped : (G : ℕ → List ℕ) (n p : ℕ) → v ≡ Refused n p → countBy G (Refused n p) ≡ after k (count (bodyR strict gs I g base b))
-      body-stopped G n p r = stopped F k _ v body-contents G n p (closing b base a) r ∙ ap (after k) (sym (body-is e))
+      body-stopped G n p r = stopped F k _ v body-fields G n p rest r ∙ ap (after k) (sym (body-rest e))
 
-      pub body-passed : (i : ℕ) (x : ℕ) → v ≡ Counted i x → after k (count (bodyR strict gs I g base b)) ≡ after i (closing b base a (F x))
-      body-passed i x r = ap (after k) (body-is e) ∙ passed F k _ v body-contents i x (closing b base a) r
+      pub body-passed : (i : ℕ) (x : ℕ) → v ≡ Counted i x → after k (count (bodyR strict gs I g base b)) ≡ after i (rest (F x))
+      body-passed i x r = ap (after k) (body-rest e) ∙ passed F k _ v body-fields i x rest r
+
+      pub body-plain : (i : ℕ) (x : ℕ) → v ≡ Counted i x → word 12 b ≡ 0 → after k (count (bodyR strict gs I g base b)) ≡ after i (closing b base a (F x))
+      body-plain i x r w =
+          body-passed i x r
+          ∙ ap (after i) (then-passed _ 0 (F x) (closing b base a) (extension-zero gs I (here strict b base a) 12 (F x) w) ∙ more-zero _)
 
 module _ (b : List ℕ) (base a : ℕ) (m : List ℕ) where
   pub closing-clean : padsZero (drop a m) (drop a b) ≡ true → closing b base a m ≡ counted 2 []

@@ -322,6 +322,14 @@ module _ (a : ℕ) (s : ℕ) (m b : List ℕ) (same : length m ≡ length b) (ro
         let t : length (drop x b) ≤ length b - x = simp length-drop (omega arith) in
         sym (pads-from x e ∙ rw (f, take-all (length b - x) (drop x b) t) (zeros-pads (drop x (replicate (length m) 0)) (drop x b) (zeros-drop x (replicate (length m) 0) (zeros-all (length m))) k))
 
+  -- the values fill the data area
+  pub pads-none : s ≡ length b → s < 131072 → padsZero (drop a (marksOf a s m)) (drop a b) ≡ true
+  unfolding allZero
+  pads-none e h =
+      let x : s ≡ max a (packed s) = omega (arith, packed-is s h) in
+      let k : length b - s ≡ 0 = omega arith in
+      sym (pads-packed s x (not-scattered s h) (omega arith)) ∙ rw k
+
 -- the marks, written out
 module _ (a : ℕ) (s : ℕ) (m o : List ℕ) (e : o ≡ cond (scattered s) m (replicate (length m) 0)) (y : ℕ) (iy : y ≡ min (packed s) (length o)) where
   o-length : length o ≡ length m

@@ -1,5 +1,5 @@
 -- Laws of the walk's count, for code that reads a message and writes no sheet: each way to join readers, and one turn of each loop.
-use mathlib.Core.Path.{_≡_, refl, _∙_}
+use mathlib.Core.Path.{_≡_, refl, sym, _∙_}
 use mathlib.Core.Bool.{Bool, true, false, cond}
 use mathlib.Core.List.{List, [], _∷_}
 use Prim.Native.Nat.{ℕ, suc, _+_, _≤_}
@@ -29,6 +29,11 @@ pub more-then : (k : ℕ) (c : Count) (f : List ℕ → Count) → more k (andTh
 unfolding more andThen
 more-then k (failed n p) f = refl
 more-then k (counted j m) f = more-more k j (f m)
+
+pub then-then : (c : Count) (f g : List ℕ → Count) → andThen (andThen c f) g ≡ andThen c (λ m. andThen (f m) g)
+unfolding andThen
+then-then (failed n p) f g = refl
+then-then (counted k m) f g = sym (more-then k (f m) g)
 
 -- a step that passed, and one that did not
 pub then-passed : (c : Count) (k : ℕ) (m : List ℕ) (f : List ℕ → Count) → c ≡ counted k m → andThen c f ≡ more k (f m)

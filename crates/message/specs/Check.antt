@@ -3,12 +3,13 @@ use mathlib.Core.Path.{_≡_}
 use mathlib.Core.Bool.{Bool, cond}
 use mathlib.Core.List.{List, []}
 use Prim.Native.Nat.{ℕ, _+_, _-_, min, _*_, _%_, _^_, _<_, _≤_}
-use lib.ListN.{length, replicate}
+use lib.ListN.{length, drop, replicate}
 use lib.Dec.{leb}
+use Rattle.schema.specs.Faults.{need}
 use Rattle.schema.specs.Schema.{Kind, Field, width}
 use Rattle.schema.specs.Table.{schema}
 use Rattle.schema.specs.Layout.{Layout}
-use Rattle.message.specs.Marks.{mark}
+use Rattle.message.specs.Marks.{mark, padsZero, padsBefore}
 use Rattle.message.specs.Sheet.{kindMark, fieldMark}
 use Rattle.message.specs.Walk.{Here, here, strict, Reader, Inner, Place, lost, found, markedR, kindR, valueR, staticR, groupR}
 use Rattle.message.specs.Count.{Count, failed, counted}
@@ -68,6 +69,10 @@ pub record Lands (F : ℕ → List ℕ) (w : ℕ) (b : List ℕ) (r : Located) :
   pub four : (p n : ℕ) (s : ℕ) → r ≡ At p n s → n < 2 ^ 32
   pub inside : (p n : ℕ) (s : ℕ) → r ≡ At p n s → p + (4 + n * w) ≤ length b
   pub taken : (p n : ℕ) (s : ℕ) → r ≡ At p n s → mark p (4 + n * w) (F s) ≡ F s
+
+-- What comes behind a group's fields and its extension: "6", and the group's end mark.
+unfoldable pub closing : List ℕ → ℕ → ℕ → List ℕ → Count
+closing b base area m = need (padsZero (drop area m) (drop area b)) (failed 6 (base + area + padsBefore (drop area m) (drop area b))) (counted 2 [])
 
 -- READERS, AS THE CODE CALLS THEM
 

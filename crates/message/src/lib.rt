@@ -4,7 +4,7 @@
 // taken by where the packed ones end and, for others, in the scratch that the caller lends. `index` is that of crate `schema`. Functions count the
 // sheet's length on from `before`, what comes before them.
 ghost use mathlib.Core.Path.{_≡_};
-ghost use mathlib.Core.Bool.{true, cond, not, _||_};
+ghost use mathlib.Core.Bool.{true, cond, not, _&&_, _||_};
 ghost use mathlib.Core.List.{List, []};
 ghost use Prim.Native.Nat.{ℕ, min, max, _+_, _*_, _%_, _<_, _≤_, _^_};
 ghost use lib.ListN.{length, take, drop, getD, replicate};
@@ -16,10 +16,10 @@ ghost use Rattle.schema.specs.Table.{fieldAt, enums, schema};
 ghost use Rattle.schema.specs.Layout.{widthIn, Layout};
 ghost use Rattle.schema.specs.FieldKinds.{kindFrom, testedKind};
 ghost use Rattle.message.specs.Marks.{free, mark, padsZero, padsBefore};
-ghost use Rattle.message.specs.Sheet.{Mark, ST};
+ghost use Rattle.message.specs.Sheet.{Mark, ST, GB};
 ghost use Rattle.message.specs.Walk.{Here, lost, found, Reader, Inner, byte, here, strict, markedR, optionalR, inlineR, indirectR, textR, innerR, locate, itemsR, fieldR, extendingR, extensionR, extensionIn, bodyR, groupR, next, walk};
 ghost use Rattle.message.specs.Count.{count, andThen, counted};
-ghost use Rattle.message.specs.Check.{packed, scattered, marksOf, countBy, countOf, after, placeBy, Claims, Lands, within, itemR, markedValueR, innerOf, widthOf, staticOf, Ready};
+ghost use Rattle.message.specs.Check.{packed, scattered, marksOf, closing, countBy, countOf, after, placeBy, Claims, Lands, within, itemR, markedValueR, innerOf, widthOf, staticOf, Ready};
 
 // Which bytes of a data area are taken, as one number, since a struct would pass through memory at each
 // call: where the packed values end, and, once a value did not stand straight behind the others, this
@@ -283,6 +283,23 @@ fn earlier(a: usize, b: usize) -> usize
     b
 }
 
+// "6", and the group's end.
+fn check_pads(bytes: &[u8], marks: &mut [u8], frame: Frame, taken: usize, before: usize) -> Step
+    requires { ⌜ (length (now marks) ≡ length (now bytes)) × (frame .base + length (now bytes) ≤ 65536) × (frame .area ≤ length (now bytes)) ⌝ }
+    ensures { λ r. ⌜ countBy (λ _. []) r ≡ after before (closing (now (bytes .entry)) (frame .base) (frame .area) (marksOf (frame .area) taken (now (marks .entry)))) ⌝ }
+{
+    if are_pads_zero(marks, bytes, frame.area, taken) {
+        return Step::Counted {
+            length: longer(before, 2),
+            taken,
+        };
+    }
+    Step::Refused {
+        number: 6,
+        place: frame.base + frame.area + bad_pad(marks, bytes, frame.area, taken),
+    }
+}
+
 // VALUES THAT HOLD NO OTHER
 
 // "10, 11, 12: no such symbol; bool or flag not 0, 1; 24 hours or more"
@@ -387,6 +404,46 @@ fn check_text(
     }
 }
 
+fn check_texts(
+    bytes: &[u8],
+    marks: &mut [u8],
+    frame: Frame,
+    utf8: bool,
+    total: usize,
+    at: usize,
+    taken: usize,
+    before: usize,
+) -> Step
+    requires { ⌜ (length (now marks) ≡ length (now bytes)) × (frame .base + length (now bytes) ≤ 65536) × (frame .area ≤ length (now bytes)) × (at + total * 4 ≤ length (now bytes)) ⌝ }
+    ensures { λ r. ⌜ countBy (λ s. marksOf (frame .area) s (now (marks .exit))) r ≡ after before (count (itemsR 4 (markedR ST (indirectR 26 1 (textR utf8))) total (within (now (bytes .entry)) frame) at (marksOf (frame .area) taken (now (marks .entry))))) ⌝ }
+{
+    let mut i = 0;
+    let mut place = at;
+    let mut length = before;
+    let mut holds = taken;
+    while i < total {
+        let text = check_text(bytes, marks, frame, utf8, place, holds, length);
+        match text {
+            Step::Counted {
+                length: sum,
+                taken: now,
+            } => {
+                length = sum;
+                holds = now;
+            }
+            Step::Refused { number, place } => {
+                return Step::Refused { number, place };
+            }
+        }
+        place += 4;
+        i += 1;
+    }
+    Step::Counted {
+        length,
+        taken: holds,
+    }
+}
+
 // An optional field whose flag is not 1: "11 on its flag, 4", or absent.
 fn check_absent(
     bytes: &[u8],
@@ -415,6 +472,29 @@ fn check_absent(
         number: 4,
         place: base + (at + 1) + wire::count_zeros(bytes, at + 1, width),
     }
+}
+
+// Whether a field has a flag that is not 1.
+fn is_unset(optional: bool, bytes: &[u8], at: usize) -> bool
+    requires { ⌜ (optional ≡ true → at < length (now bytes)) ⌝ }
+    ensures { λ r. ⌜ r ≡ optional && not (eqb (byte at (now (bytes .entry))) 1) ⌝ }
+{
+    if optional {
+        if bytes[at] != 1 {
+            return true;
+        }
+        return false;
+    }
+    false
+}
+
+fn flag_width(optional: bool) -> usize
+    ensures { λ r. ⌜ r ≡ cond optional 1 0 ⌝ }
+{
+    if optional {
+        return 1;
+    }
+    0
 }
 
 // Whether the extension's offset, which stands at 12, is zero or leads into the data area.
@@ -506,46 +586,6 @@ fn check_body(
         };
     }
     let frame = Frame { base, area, levels };
-    let contents = check_contents(
-        table,
-        index,
-        bytes,
-        marks,
-        frame,
-        group,
-        area,
-        longer(before, 8),
-    );
-    match contents {
-        Step::Counted { length, taken } => {
-            if are_pads_zero(marks, bytes, area, taken) {
-                return Step::Counted {
-                    length: longer(length, 2),
-                    taken,
-                };
-            }
-            Step::Refused {
-                number: 6,
-                place: base + area + bad_pad(marks, bytes, area, taken),
-            }
-        }
-        Step::Refused { number, place } => Step::Refused { number, place },
-    }
-}
-
-fn check_contents(
-    table: &[u8],
-    index: &[u16],
-    bytes: &[u8],
-    marks: &mut [u8],
-    frame: Frame,
-    group: usize,
-    taken: usize,
-    before: usize,
-) -> Step
-    requires { ⌜ (Ready (now table) (now index) (now bytes) (now marks) frame) × (16 + widthOf (now table) 5 group ≤ length (now bytes)) × (group < length (schema (now table))) ⌝ }
-    ensures { λ r. ⌜ countBy (λ s. marksOf (frame .area) s (now (marks .exit))) r ≡ after before (count (next (staticOf (now (table .entry)) (frame .levels) 5 group (within (now (bytes .entry)) frame) 16 (marksOf (frame .area) taken (now (marks .entry)))) (λ m. extensionR (schema (now (table .entry))) (innerOf (now (table .entry)) (frame .levels)) (within (now (bytes .entry)) frame) 12 m))) ⌝ }
-{
     let fields = check_fields(
         table,
         index,
@@ -555,19 +595,43 @@ fn check_contents(
         5,
         group,
         16,
-        taken,
-        before,
+        area,
+        longer(before, 8),
     );
     match fields {
-        Step::Counted { length, taken: now } => check_extension(
-            table,
-            index,
-            bytes,
-            marks,
-            frame,
-            now,
-            length,
-        ),
+        Step::Counted { length, taken } => {
+            if wire::read_u32(bytes, 12) == 0 {
+                // Where the values fill the data area there is no pad.
+                if taken == bytes.len() {
+                    return Step::Counted {
+                        length: longer(length, 2),
+                        taken,
+                    };
+                }
+                return check_pads(bytes, marks, frame, taken, length);
+            }
+            check_rest(table, index, bytes, marks, frame, taken, length)
+        }
+        Step::Refused { number, place } => Step::Refused { number, place },
+    }
+}
+
+// "extension, 6"
+fn check_rest(
+    table: &[u8],
+    index: &[u16],
+    bytes: &[u8],
+    marks: &mut [u8],
+    frame: Frame,
+    taken: usize,
+    before: usize,
+) -> Step
+    requires { ⌜ (Ready (now table) (now index) (now bytes) (now marks) frame) × (16 ≤ length (now bytes)) ⌝ }
+    ensures { λ r. ⌜ countBy (λ _. []) r ≡ after before (andThen (count (extensionR (schema (now (table .entry))) (innerOf (now (table .entry)) (frame .levels)) (within (now (bytes .entry)) frame) 12 (marksOf (frame .area) taken (now (marks .entry))))) (closing (now (bytes .entry)) (frame .base) (frame .area))) ⌝ }
+{
+    let extension = check_extension(table, index, bytes, marks, frame, taken, before);
+    match extension {
+        Step::Counted { length, taken: now } => check_pads(bytes, marks, frame, now, length),
         Step::Refused { number, place } => Step::Refused { number, place },
     }
 }
@@ -657,23 +721,10 @@ fn check_field(
     requires { ⌜ (Ready (now table) (now index) (now bytes) (now marks) frame) × (field + 16 ≤ length (now table)) × (at + fieldWidth (widthOf (now table) depth) (fieldAt (enums (now table)) (drop field (now table))) ≤ length (now bytes)) × (shallowKind (shallow (schema (now table)) depth) (widthOf (now table) depth) ((fieldAt (enums (now table)) (drop field (now table))) .kind) ≡ true) ⌝ }
     ensures { λ r. ⌜ countBy (λ s. marksOf (frame .area) s (now (marks .exit))) r ≡ after before (count (fieldR (innerOf (now (table .entry)) (frame .levels)) (widthOf (now (table .entry)) depth) (staticOf (now (table .entry)) (frame .levels) depth) (fieldAt (enums (now (table .entry))) (drop field (now (table .entry)))) (within (now (bytes .entry)) frame) at (marksOf (frame .area) taken (now (marks .entry))))) ⌝ }
 {
-    if schema::is_optional(table, field) {
-        if bytes[at] != 1 {
-            let width = schema::value_width(table, index, field);
-            return check_absent(bytes, frame.base, at, width, taken, before);
-        }
-        return check_value(
-            table,
-            index,
-            bytes,
-            marks,
-            frame,
-            depth,
-            field,
-            at + 1,
-            taken,
-            before,
-        );
+    let optional = schema::is_optional(table, field);
+    if is_unset(optional, bytes, at) {
+        let width = schema::value_width(table, index, field);
+        return check_absent(bytes, frame.base, at, width, taken, before);
     }
     check_value(
         table,
@@ -683,7 +734,7 @@ fn check_field(
         frame,
         depth,
         field,
-        at,
+        at + flag_width(optional),
         taken,
         before,
     )
@@ -748,7 +799,8 @@ fn check_value(
     )
 }
 
-// So many items, each of `width` bytes. Plain values need no test, and are only counted.
+// So many items, each of `width` bytes. Plain values need no test, and are only counted; strings and
+// dynamic groups, of which there may be thousands, have loops of their own.
 fn check_items(
     table: &[u8],
     index: &[u16],
@@ -771,6 +823,23 @@ fn check_items(
             length: longer(before, total * (2 + wire::wide(plain))),
             taken,
         };
+    }
+    if let schema::FieldKind::Indirect { utf8 } = kind {
+        return check_texts(bytes, marks, frame, utf8, total, at, taken, before);
+    }
+    if let schema::FieldKind::Dynamic { allowed } = kind {
+        return check_dynamics(
+            table,
+            index,
+            bytes,
+            marks,
+            frame,
+            allowed,
+            total,
+            at,
+            taken,
+            before,
+        );
     }
     let mut i = 0;
     let mut place = at;
@@ -881,6 +950,58 @@ fn check_item(
             taken,
             longer(before, 2),
         ),
+    }
+}
+
+fn check_dynamics(
+    table: &[u8],
+    index: &[u16],
+    bytes: &[u8],
+    marks: &mut [u8],
+    frame: Frame,
+    allowed: usize,
+    total: usize,
+    at: usize,
+    taken: usize,
+    before: usize,
+) -> Step
+    requires { ⌜ (Ready (now table) (now index) (now bytes) (now marks) frame) × (at + total * 4 ≤ length (now bytes)) ⌝ }
+    ensures { λ r. ⌜ countBy (λ s. marksOf (frame .area) s (now (marks .exit))) r ≡ after before (count (itemsR 4 (markedR GB (indirectR 26 1 (innerR (innerOf (now (table .entry)) (frame .levels)) allowed))) total (within (now (bytes .entry)) frame) at (marksOf (frame .area) taken (now (marks .entry))))) ⌝ }
+{
+    let mut i = 0;
+    let mut place = at;
+    let mut length = before;
+    let mut holds = taken;
+    while i < total {
+        let group = check_dynamic(
+            table,
+            index,
+            bytes,
+            marks,
+            frame,
+            allowed,
+            place,
+            holds,
+            longer(length, 2),
+        );
+        match group {
+            Step::Counted {
+                length: sum,
+                taken: now,
+            } => {
+                length = sum;
+                holds = now;
+            }
+            Step::Refused { number, place } => {
+                return Step::Refused { number, place };
+            }
+        }
+        place += 4;
+        i += 1;
+    }
+    Step::Counted {
+        length,
+        taken: holds,
     }
 }
 

@@ -31,14 +31,6 @@ eight w h a b c = eqb-true w 8 (or-false _ (rw (ne-eqb _ _ a, ne-eqb _ _ b, ne-e
     or-false true e = refl
     or-false false e = e
 
--- a signed number of a narrower width, as an i64
-module _ {w : Width} {z : ℤ} (narrower : T (leb (hbits w) (hbits w64))) (fits : SFits w z) where
-  pub widens : SFits w64 (toZ w (ofZ w z))
-  widens = subst (SFits w64) (sym (toZ-ofZ fits)) (sfits-widen narrower fits)
-
-  pub widened : toZ w64 (ofZ w64 (toZ w (ofZ w z))) ≡ z
-  widened = toZ-ofZ widens ∙ toZ-ofZ fits
-
 -- FLOATS AND DECIMALS
 
 pub float-nan : (n : ℕ) → nanBits binary64 n ≡ true → NanBits n ≡ floatOf n

@@ -31,6 +31,11 @@ bytesOf (suc n) x = x % 256 ∷ bytesOf n (x / 256)
 abbrev pub signed : ℕ → ℕ → ℤ
 signed k n = cond (ltb n (2 ^ k)) (pos n) (negsuc (2 ^ (k + 1) - 1 - n))
 
+-- And back: the pattern of a signed number, of k + 1 bits.
+unfoldable pub pattern : ℕ → ℤ → ℕ
+pattern k (pos n) = n
+pattern k (negsuc n) = 2 ^ (k + 1) - 1 - n
+
 -- Whether two lists are the same, as the records' marks are tested.
 -- Document 01: "a two-byte mark before each record's contents".
 unfoldable pub same : List ℕ → List ℕ → Bool

@@ -7,7 +7,7 @@ ghost use mathlib.Core.Bool.{true};
 ghost use Prim.Native.Nat.{ℕ, _+_, _<_, _≤_, _^_};
 ghost use lib.ListN.{length, getD, replicate};
 ghost use lib.Ieee.{ofBits, nanBits, binary64};
-ghost use Rattle.wire.specs.Bytes.{part, splice, le, bytesOf, signed, same, allZero, zeros};
+ghost use Rattle.wire.specs.Bytes.{part, splice, le, bytesOf, signed, pattern, same, allZero, zeros};
 ghost use Rattle.wire.specs.Utf8.{utf8, begins, lowest, highest};
 ghost use Rattle.wire.specs.Scan.{Form, Ascii, next};
 
@@ -108,6 +108,17 @@ pub fn i64_from_bits(bits: u64) -> i64
         bits as i64
     } else {
         -1 - ((0xffff_ffff_ffff_ffff - bits) as i64)
+    }
+}
+
+// And back to its bits.
+pub fn i64_to_bits(x: i64) -> u64
+    ensures { λ r. ⌜ r ≡ pattern 63 x ⌝ }
+{
+    if x < 0 {
+        0xffff_ffff_ffff_ffff - ((-1 - x) as u64)
+    } else {
+        x as u64
     }
 }
 

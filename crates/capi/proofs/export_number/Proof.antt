@@ -3,8 +3,10 @@ use lib.IntN.{pos}
 use mir.Syntax.{w8, w32, w64}
 use mir.Facts.{toZ-ofZ}
 use borrow.Author.Needs.{needs}
-use Rattle.capi.specs.Boundary.{answered, twos, exportedNumber, NoNan}
-use Rattle.capi.proofs.Casts.{widens, widened, flag-bits}
+use Rattle.wire.specs.Bytes.{pattern}
+use Rattle.wire.proofs.Signed.{widens, widened}
+use Rattle.capi.specs.Boundary.{answered, exportedNumber, NoNan}
+use Rattle.capi.proofs.Flag.{flag-bits}
 use Rattle.capi.proofs.export_number.Statement.{statement}
 use Rattle.capi.proofs.export_number.Tie as tie
 
@@ -19,7 +21,7 @@ returns : tie.Need-returns
 unfolding exportedNumber
 returns c =
     let x = toZ-ofZ {w = w64} {z = c .before .before .before .n .given .0 .0} (record { sfits = c .before .before .known-told .given .0 .1 }) in
-    c .answer .ensures ∙ ap (answered 1 (pos 0)) (c .before .bits-of .ensures ∙ ap twos x) ∙ sym (ap exportedNumber (c .before .before .before .n .given .1))
+    c .answer .ensures ∙ ap (answered 1 (pos 0)) (c .before .i64-to-bits .ensures ∙ ap (pattern 63) x) ∙ sym (ap exportedNumber (c .before .before .before .n .given .1))
 
 returns-2 : tie.Need-returns-2
 unfolding exportedNumber
@@ -35,7 +37,7 @@ returns-4 c =
     let told = c .before .before .known-told4 .given in
     let e = widened w8 w32 (c .before .before .before .n4 .given .0 .0) tt (record { sfits = told .0 .1 }) in
     let x = toZ-ofZ {w = w64} {z = c .before .before .before .n4 .given .0 .1 .0} (record { sfits = told .1 .0 .1 }) in
-    c .answer4 .ensures ∙ ap₂ (answered 4) e (c .before .bits-of2 .ensures ∙ ap twos x) ∙ sym (ap exportedNumber (c .before .before .before .n4 .given .1))
+    c .answer4 .ensures ∙ ap₂ (answered 4) e (c .before .i64-to-bits2 .ensures ∙ ap (pattern 63) x) ∙ sym (ap exportedNumber (c .before .before .before .n4 .given .1))
 
 returns-5 : tie.Need-returns-5
 unfolding exportedNumber

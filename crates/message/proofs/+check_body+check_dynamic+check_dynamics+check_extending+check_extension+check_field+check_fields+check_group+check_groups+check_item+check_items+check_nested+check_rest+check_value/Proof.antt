@@ -1,5 +1,5 @@
 use borrow.Author.Needs.{needs}
-use Rattle.message.specs.Sheet.{fieldMark}
+use Rattle.message.specs.Sheet.{GB, fieldMark}
 use borrow.Author.Tests.{not-true, not-false}
 use Prim.Native.Nat.{ℕ, _+_, _-_, _*_, _^_, _<_, _≤_}
 use native.Mathlib.Omega.{arith}
@@ -14,66 +14,71 @@ use Rattle.schema.specs.Table.{fieldAt, fieldsAt, enums, schema}
 use Rattle.schema.specs.Layout.{widthIn}
 use Rattle.schema.specs.FieldKinds.{kindFrom}
 use Rattle.schema.proofs.Records.{fields-more}
-use Rattle.schema.proofs.Types.{width-sequence, width-one, width-optional, width-required}
+use Rattle.schema.proofs.Types.{width-sequence, width-one, width-optional}
 use Rattle.schema.proofs.Groups.{static-inside, placed-inside, find-whole, layout-width}
 use Rattle.schema.proofs.Depth.{and-both, shallow-some, width-cons, shallow-cons, wide-kind, wide-value, wide-field}
-use Rattle.message.specs.Walk.{indirectR, innerR, itemsR, fieldsR, extendingR, extensionR, valueR}
+use Rattle.message.specs.Walk.{byte, markedR, indirectR, innerR, itemsR, fieldsR, extendingR, valueR}
 use Rattle.message.specs.Count.{count, counted}
-use Rattle.message.specs.Check.{marksOf, after, within, itemR, innerOf, widthOf, staticOf}
-use Rattle.message.proofs.Count.{count-next, count-inner}
+use Rattle.message.specs.Check.{marksOf, closing, after, within, itemR, innerOf, widthOf, staticOf}
+use Rattle.message.proofs.Count.{count-marked, count-inner}
 use Rattle.message.proofs.CheckAnswers.{refuses, counts, stays, goes-on, passed, stopped, bounded}
-use Rattle.message.proofs.CheckMarks.{retaken}
-use Rattle.message.proofs.CheckFields.{leads-nowhere, leads-to, fields-passed, fields-stopped, fields-end, plain-wide, fields-plain, field-required, field-optional, field-there, value-one, sequence-nowhere, sequence-found, items-passed, items-stopped, items-end, items-left, items-plain, item-plain, item-number, item-inline, item-indirect, item-static, item-dynamic, wide-number, wide-inline, wide-indirect, wide-static, wide-dynamic, kind-static, start-inside, start-static, start-width, start-shallow, ready}
-use Rattle.message.proofs.CheckGroups.{nested-passed, nothing-taken, extension-zero, extension-nowhere, extension-empty, extension-some, extending-short, extending-known, extending-kept, body-narrow, body-loose, body-stopped, body-passed, closing-clean, closing-dirty, group-short, group-unknown, group-other, group-deep, group-body}
+use Rattle.message.proofs.CheckMarks.{retaken, pads-none}
+use Rattle.message.proofs.CheckFields.{leads-nowhere, leads-to, fields-passed, fields-stopped, fields-end, plain-wide, fields-plain, flag-wide, flag-unset, field-optional, field-set, value-one, sequence-nowhere, sequence-found, items-passed, items-stopped, items-end, items-left, items-plain, items-indirect, items-dynamic, item-plain, item-number, item-inline, item-indirect, item-static, item-dynamic, wide-number, wide-inline, wide-indirect, wide-static, wide-dynamic, kind-static, start-inside, start-static, start-width, start-shallow, ready}
+use Rattle.message.proofs.CheckGroups.{nested-passed, nothing-taken, extension-zero, extension-nowhere, extension-empty, extension-some, extending-short, extending-known, extending-kept, body-narrow, body-loose, body-stopped, body-passed, body-plain, closing-clean, group-short, group-unknown, group-other, group-deep, group-body}
 use borrow.Fn.Kinds.{In}
 use borrow.Fn.PlainCycle.{Measures, is, falls, and}
 use Rattle.message.proofs.check_body.Reads as check-body
 use Rattle.message.proofs.check_body.Kinds as check-body-kinds
-use Rattle.message.proofs.+check_body+check_contents+check_dynamic+check_extending+check_extension+check_field+check_fields+check_group+check_groups+check_item+check_items+check_nested+check_value.Lts-check_body as check-body-lts
-use Rattle.message.proofs.check_contents.Reads as check-contents
-use Rattle.message.proofs.check_contents.Kinds as check-contents-kinds
-use Rattle.message.proofs.+check_body+check_contents+check_dynamic+check_extending+check_extension+check_field+check_fields+check_group+check_groups+check_item+check_items+check_nested+check_value.Lts-check_contents as check-contents-lts
+use Rattle.message.proofs.+check_body+check_dynamic+check_dynamics+check_extending+check_extension+check_field+check_fields+check_group+check_groups+check_item+check_items+check_nested+check_rest+check_value.Lts-check_body as check-body-lts
 use Rattle.message.proofs.check_dynamic.Reads as check-dynamic
 use Rattle.message.proofs.check_dynamic.Kinds as check-dynamic-kinds
-use Rattle.message.proofs.+check_body+check_contents+check_dynamic+check_extending+check_extension+check_field+check_fields+check_group+check_groups+check_item+check_items+check_nested+check_value.Lts-check_dynamic as check-dynamic-lts
+use Rattle.message.proofs.+check_body+check_dynamic+check_dynamics+check_extending+check_extension+check_field+check_fields+check_group+check_groups+check_item+check_items+check_nested+check_rest+check_value.Lts-check_dynamic as check-dynamic-lts
+use Rattle.message.proofs.check_dynamics.Reads as check-dynamics
+use Rattle.message.proofs.check_dynamics.Kinds as check-dynamics-kinds
+use Rattle.message.proofs.+check_body+check_dynamic+check_dynamics+check_extending+check_extension+check_field+check_fields+check_group+check_groups+check_item+check_items+check_nested+check_rest+check_value.Lts-check_dynamics as check-dynamics-lts
 use Rattle.message.proofs.check_extending.Reads as check-extending
 use Rattle.message.proofs.check_extending.Kinds as check-extending-kinds
-use Rattle.message.proofs.+check_body+check_contents+check_dynamic+check_extending+check_extension+check_field+check_fields+check_group+check_groups+check_item+check_items+check_nested+check_value.Lts-check_extending as check-extending-lts
+use Rattle.message.proofs.+check_body+check_dynamic+check_dynamics+check_extending+check_extension+check_field+check_fields+check_group+check_groups+check_item+check_items+check_nested+check_rest+check_value.Lts-check_extending as check-extending-lts
 use Rattle.message.proofs.check_extension.Reads as check-extension
 use Rattle.message.proofs.check_extension.Kinds as check-extension-kinds
-use Rattle.message.proofs.+check_body+check_contents+check_dynamic+check_extending+check_extension+check_field+check_fields+check_group+check_groups+check_item+check_items+check_nested+check_value.Lts-check_extension as check-extension-lts
+use Rattle.message.proofs.+check_body+check_dynamic+check_dynamics+check_extending+check_extension+check_field+check_fields+check_group+check_groups+check_item+check_items+check_nested+check_rest+check_value.Lts-check_extension as check-extension-lts
 use Rattle.message.proofs.check_field.Reads as check-field
 use Rattle.message.proofs.check_field.Kinds as check-field-kinds
-use Rattle.message.proofs.+check_body+check_contents+check_dynamic+check_extending+check_extension+check_field+check_fields+check_group+check_groups+check_item+check_items+check_nested+check_value.Lts-check_field as check-field-lts
+use Rattle.message.proofs.+check_body+check_dynamic+check_dynamics+check_extending+check_extension+check_field+check_fields+check_group+check_groups+check_item+check_items+check_nested+check_rest+check_value.Lts-check_field as check-field-lts
 use Rattle.message.proofs.check_fields.Reads as check-fields
 use Rattle.message.proofs.check_fields.Kinds as check-fields-kinds
-use Rattle.message.proofs.+check_body+check_contents+check_dynamic+check_extending+check_extension+check_field+check_fields+check_group+check_groups+check_item+check_items+check_nested+check_value.Lts-check_fields as check-fields-lts
+use Rattle.message.proofs.+check_body+check_dynamic+check_dynamics+check_extending+check_extension+check_field+check_fields+check_group+check_groups+check_item+check_items+check_nested+check_rest+check_value.Lts-check_fields as check-fields-lts
 use Rattle.message.proofs.check_group.Reads as check-group
 use Rattle.message.proofs.check_group.Kinds as check-group-kinds
-use Rattle.message.proofs.+check_body+check_contents+check_dynamic+check_extending+check_extension+check_field+check_fields+check_group+check_groups+check_item+check_items+check_nested+check_value.Lts-check_group as check-group-lts
+use Rattle.message.proofs.+check_body+check_dynamic+check_dynamics+check_extending+check_extension+check_field+check_fields+check_group+check_groups+check_item+check_items+check_nested+check_rest+check_value.Lts-check_group as check-group-lts
 use Rattle.message.proofs.check_groups.Reads as check-groups
 use Rattle.message.proofs.check_groups.Kinds as check-groups-kinds
-use Rattle.message.proofs.+check_body+check_contents+check_dynamic+check_extending+check_extension+check_field+check_fields+check_group+check_groups+check_item+check_items+check_nested+check_value.Lts-check_groups as check-groups-lts
+use Rattle.message.proofs.+check_body+check_dynamic+check_dynamics+check_extending+check_extension+check_field+check_fields+check_group+check_groups+check_item+check_items+check_nested+check_rest+check_value.Lts-check_groups as check-groups-lts
 use Rattle.message.proofs.check_item.Reads as check-item
 use Rattle.message.proofs.check_item.Kinds as check-item-kinds
-use Rattle.message.proofs.+check_body+check_contents+check_dynamic+check_extending+check_extension+check_field+check_fields+check_group+check_groups+check_item+check_items+check_nested+check_value.Lts-check_item as check-item-lts
+use Rattle.message.proofs.+check_body+check_dynamic+check_dynamics+check_extending+check_extension+check_field+check_fields+check_group+check_groups+check_item+check_items+check_nested+check_rest+check_value.Lts-check_item as check-item-lts
 use Rattle.message.proofs.check_items.Reads as check-items
 use Rattle.message.proofs.check_items.Kinds as check-items-kinds
-use Rattle.message.proofs.+check_body+check_contents+check_dynamic+check_extending+check_extension+check_field+check_fields+check_group+check_groups+check_item+check_items+check_nested+check_value.Lts-check_items as check-items-lts
+use Rattle.message.proofs.+check_body+check_dynamic+check_dynamics+check_extending+check_extension+check_field+check_fields+check_group+check_groups+check_item+check_items+check_nested+check_rest+check_value.Lts-check_items as check-items-lts
 use Rattle.message.proofs.check_nested.Reads as check-nested
 use Rattle.message.proofs.check_nested.Kinds as check-nested-kinds
-use Rattle.message.proofs.+check_body+check_contents+check_dynamic+check_extending+check_extension+check_field+check_fields+check_group+check_groups+check_item+check_items+check_nested+check_value.Lts-check_nested as check-nested-lts
+use Rattle.message.proofs.+check_body+check_dynamic+check_dynamics+check_extending+check_extension+check_field+check_fields+check_group+check_groups+check_item+check_items+check_nested+check_rest+check_value.Lts-check_nested as check-nested-lts
+use Rattle.message.proofs.check_rest.Reads as check-rest
+use Rattle.message.proofs.check_rest.Kinds as check-rest-kinds
+use Rattle.message.proofs.+check_body+check_dynamic+check_dynamics+check_extending+check_extension+check_field+check_fields+check_group+check_groups+check_item+check_items+check_nested+check_rest+check_value.Lts-check_rest as check-rest-lts
 use Rattle.message.proofs.check_value.Reads as check-value
 use Rattle.message.proofs.check_value.Kinds as check-value-kinds
-use Rattle.message.proofs.+check_body+check_contents+check_dynamic+check_extending+check_extension+check_field+check_fields+check_group+check_groups+check_item+check_items+check_nested+check_value.Lts-check_value as check-value-lts
-use Rattle.message.proofs.are_pads_zero.Reads as are-pads-zero-reads
-use Rattle.message.proofs.bad_pad.Reads as bad-pad-reads
+use Rattle.message.proofs.+check_body+check_dynamic+check_dynamics+check_extending+check_extension+check_field+check_fields+check_group+check_groups+check_item+check_items+check_nested+check_rest+check_value.Lts-check_value as check-value-lts
 use Rattle.message.proofs.check_absent.Reads as check-absent-reads
 use Rattle.message.proofs.check_inline.Reads as check-inline-reads
 use Rattle.message.proofs.check_number.Reads as check-number-reads
+use Rattle.message.proofs.check_pads.Reads as check-pads-reads
 use Rattle.message.proofs.check_text.Reads as check-text-reads
+use Rattle.message.proofs.check_texts.Reads as check-texts-reads
 use Rattle.message.proofs.extension_inside.Reads as extension-inside-reads
 use Rattle.schema.proofs.is_known.Reads as is-known-reads
+use Rattle.message.proofs.flag_width.Reads as flag-width-reads
+use Rattle.message.proofs.is_unset.Reads as is-unset-reads
 use Rattle.message.proofs.locate.Reads as locate-reads
 use Rattle.message.proofs.longer.Reads as longer-reads
 use Rattle.message.proofs.retake.Reads as retake-reads
@@ -93,21 +98,21 @@ use Rattle.schema.proofs.plain_width.Reads as plain-width-reads
 use Rattle.schema.proofs.value_width.Reads as value-width-reads
 use Rattle.wire.proofs.read_u32.Reads as read-u32-reads
 use Rattle.wire.proofs.read_u64.Reads as read-u64-reads
-use Rattle.message.proofs.+check_body+check_contents+check_dynamic+check_extending+check_extension+check_field+check_fields+check_group+check_groups+check_item+check_items+check_nested+check_value.{
+use Rattle.message.proofs.+check_body+check_dynamic+check_dynamics+check_extending+check_extension+check_field+check_fields+check_group+check_groups+check_item+check_items+check_nested+check_rest+check_value.{
   statement,
 }
-use Rattle.message.proofs.+check_body+check_contents+check_dynamic+check_extending+check_extension+check_field+check_fields+check_group+check_groups+check_item+check_items+check_nested+check_value.Tie.{
+use Rattle.message.proofs.+check_body+check_dynamic+check_dynamics+check_extending+check_extension+check_field+check_fields+check_group+check_groups+check_item+check_items+check_nested+check_rest+check_value.Tie.{
   close,
 }
 
 abbrev μ-check-body : Measures 4 check-body-kinds.ps ℕ
 μ-check-body κs a = 64 * a .1 .1 .1 .1 .1 .0 + 63
 
-abbrev μ-check-contents : Measures 4 check-contents-kinds.ps ℕ
-μ-check-contents κs a = 64 * a .1 .1 .1 .1 .0 .levels + 62
-
 abbrev μ-check-dynamic : Measures 4 check-dynamic-kinds.ps ℕ
 μ-check-dynamic κs a = 64 * a .1 .1 .1 .1 .0 .levels + 4
+
+abbrev μ-check-dynamics : Measures 4 check-dynamics-kinds.ps ℕ
+μ-check-dynamics κs a = 64 * a .1 .1 .1 .1 .0 .levels + 5
 
 abbrev μ-check-extending : Measures 4 check-extending-kinds.ps ℕ
 μ-check-extending κs a = 64 * a .1 .1 .1 .1 .0 .levels + 6
@@ -136,6 +141,9 @@ abbrev μ-check-items : Measures 4 check-items-kinds.ps ℕ
 abbrev μ-check-nested : Measures 4 check-nested-kinds.ps ℕ
 μ-check-nested κs a = 64 * a .1 .1 .1 .1 .0 .levels + 3
 
+abbrev μ-check-rest : Measures 4 check-rest-kinds.ps ℕ
+μ-check-rest κs a = 64 * a .1 .1 .1 .1 .0 .levels + 62
+
 abbrev μ-check-value : Measures 4 check-value-kinds.ps ℕ
 μ-check-value κs a = 64 * a .1 .1 .1 .1 .0 .levels + 10 * a .1 .1 .1 .1 .1 .0 + 8
 
@@ -146,22 +154,6 @@ check-body-at t =
 abbrev check-body-below : ℕ → In 4 check-body-kinds.ps
 check-body-below t =
     and 4 check-body-kinds.ps (falls 4 check-body-kinds.ps _<_ μ-check-body t) check-body.Pre
-
-abbrev check-contents-at : ℕ → In 4 check-contents-kinds.ps
-check-contents-at t =
-    and
-    4
-    check-contents-kinds.ps
-    (is 4 check-contents-kinds.ps μ-check-contents t)
-    check-contents.Pre
-
-abbrev check-contents-below : ℕ → In 4 check-contents-kinds.ps
-check-contents-below t =
-    and
-    4
-    check-contents-kinds.ps
-    (falls 4 check-contents-kinds.ps _<_ μ-check-contents t)
-    check-contents.Pre
 
 abbrev check-dynamic-at : ℕ → In 4 check-dynamic-kinds.ps
 check-dynamic-at t =
@@ -174,6 +166,18 @@ check-dynamic-below t =
     check-dynamic-kinds.ps
     (falls 4 check-dynamic-kinds.ps _<_ μ-check-dynamic t)
     check-dynamic.Pre
+
+abbrev check-dynamics-at : ℕ → In 4 check-dynamics-kinds.ps
+check-dynamics-at t =
+    and 4 check-dynamics-kinds.ps (is 4 check-dynamics-kinds.ps μ-check-dynamics t) check-dynamics.Pre
+
+abbrev check-dynamics-below : ℕ → In 4 check-dynamics-kinds.ps
+check-dynamics-below t =
+    and
+    4
+    check-dynamics-kinds.ps
+    (falls 4 check-dynamics-kinds.ps _<_ μ-check-dynamics t)
+    check-dynamics.Pre
 
 abbrev check-extending-at : ℕ → In 4 check-extending-kinds.ps
 check-extending-at t =
@@ -275,6 +279,14 @@ check-nested-below t =
     (falls 4 check-nested-kinds.ps _<_ μ-check-nested t)
     check-nested.Pre
 
+abbrev check-rest-at : ℕ → In 4 check-rest-kinds.ps
+check-rest-at t =
+    and 4 check-rest-kinds.ps (is 4 check-rest-kinds.ps μ-check-rest t) check-rest.Pre
+
+abbrev check-rest-below : ℕ → In 4 check-rest-kinds.ps
+check-rest-below t =
+    and 4 check-rest-kinds.ps (falls 4 check-rest-kinds.ps _<_ μ-check-rest t) check-rest.Pre
+
 abbrev check-value-at : ℕ → In 4 check-value-kinds.ps
 check-value-at t =
     and 4 check-value-kinds.ps (is 4 check-value-kinds.ps μ-check-value t) check-value.Pre
@@ -284,7 +296,7 @@ check-value-below t =
     and 4 check-value-kinds.ps (falls 4 check-value-kinds.ps _<_ μ-check-value t) check-value.Pre
 
 abbrev check-body-claims : ℕ → check-body-lts.Claims
-check-body-claims t = (group-width-reads.Asked, group-width-reads.Learnt, extension-inside-reads.Asked, extension-inside-reads.Learnt, longer-reads.Asked, longer-reads.Learnt, check-contents-below t, check-contents.Post, are-pads-zero-reads.Asked, are-pads-zero-reads.Learnt, bad-pad-reads.Asked, bad-pad-reads.Learnt)
+check-body-claims t = (group-width-reads.Asked, group-width-reads.Learnt, extension-inside-reads.Asked, extension-inside-reads.Learnt, longer-reads.Asked, longer-reads.Learnt, check-fields-below t, check-fields.Post, read-u32-reads.Asked, read-u32-reads.Learnt, check-pads-reads.Asked, check-pads-reads.Learnt, check-rest-below t, check-rest.Post)
 
 check-body-returns : (t : ℕ) → check-body-lts.Need-returns (check-body-claims t) (check-body-at t) check-body.Post
 check-body-returns t c = let a = c .before .before .before .before .before .before .args in let t = a .table .now in let w = c .before .group-width .ensures .0 ∙ layout-width t (a .index .now) (c .before .before .before .before .before .before .pre .1 .0) (a .group) in
@@ -294,47 +306,31 @@ check-body-returns-2 : (t : ℕ) → check-body-lts.Need-returns-2 (check-body-c
 check-body-returns-2 t c = let a = c .before .before .before .before .before .before .before .before .args in let t = a .table .now in let w = c .before .before .before .group-width .ensures .0 ∙ layout-width t (a .index .now) (c .before .before .before .before .before .before .before .before .pre .1 .0) (a .group) in
     refuses _ _ _ _ _ (body-loose (schema t) (innerOf t (a .levels)) (a .group) (a .base) (a .bytes .now) _ (ap (λ (n : ℕ). 16 + n) w) (c .before .before .if1 .left) (c .before .before .before .before .before .before .before .before .pre .1 .3) (sym (c .before .extension-inside .ensures (a .base)) ∙ not-true _ (c .if2 .taken)))
 
-check-body-check-contents-requires : (t : ℕ) → check-body-lts.Need-check-contents-requires (check-body-claims t) (check-body-at t) check-body.Post
-check-body-check-contents-requires t c κs = let a = c .before .before .before .before .before .before .before .before .before .before .args in let t = a .table .now in let w = c .before .before .before .before .before .group-width .ensures .0 ∙ layout-width t (a .index .now) (c .before .before .before .before .before .before .before .before .before .before .pre .1 .0) (a .group) in
-    (search needs, (record { layout = c .before .before .before .before .before .before .before .before .before .before .pre .1 .0; same = c .before .before .before .before .before .before .before .before .before .before .pre .1 .1; small = c .before .before .before .before .before .before .before .before .before .before .pre .1 .2; room = c .before .before .before .before .if1 .left }, omega (arith, w, c .before .before .before .before .if1 .left), c .before .before .before .before .before .before .before .before .before .before .pre .1 .4))
+check-body-check-fields-requires : (t : ℕ) → check-body-lts.Need-check-fields-requires (check-body-claims t) (check-body-at t) check-body.Post
+check-body-check-fields-requires t c κs = let a = c .before .before .before .before .before .before .before .before .before .before .args in let t = a .table .now in let w = c .before .before .before .before .before .group-width .ensures .0 ∙ layout-width t (a .index .now) (c .before .before .before .before .before .before .before .before .before .before .pre .1 .0) (a .group) in
+    (search needs, (record { layout = c .before .before .before .before .before .before .before .before .before .before .pre .1 .0; same = c .before .before .before .before .before .before .before .before .before .before .pre .1 .1; small = c .before .before .before .before .before .before .before .before .before .before .pre .1 .2; room = c .before .before .before .before .if1 .left }, omega (arith, w, c .before .before .before .before .if1 .left), c .before .before .before .before .before .before .before .before .before .before .pre .1 .4, c .before .before .before .before .before .before .before .before .before .before .pre .1 .0 .shallows (a .group)))
+
+check-body-check-pads-requires : (t : ℕ) → check-body-lts.Need-check-pads-requires (check-body-claims t) (check-body-at t) check-body.Post
+check-body-check-pads-requires t c κs = (omega (arith, c .before .before .before .before .before .before .before .before .before .check-fields .kept, c .before .before .before .before .before .before .before .before .before .before .before .before .before .before .before .before .before .before .before .before .pre .1 .1), c .before .before .before .before .before .before .before .before .before .before .before .before .before .before .before .before .before .before .before .before .pre .1 .2, c .before .before .before .before .before .before .before .before .before .before .before .before .before .before .if1 .left)
+
+check-body-check-rest-requires : (t : ℕ) → check-body-lts.Need-check-rest-requires (check-body-claims t) (check-body-at t) check-body.Post
+check-body-check-rest-requires t c κs = (search needs, (record { layout = c .before .before .before .before .before .before .before .before .before .before .before .before .before .before .before .before .before .before .before .pre .1 .0; same = omega (arith, c .before .before .before .before .before .before .before .before .check-fields .kept, c .before .before .before .before .before .before .before .before .before .before .before .before .before .before .before .before .before .before .before .pre .1 .1); small = c .before .before .before .before .before .before .before .before .before .before .before .before .before .before .before .before .before .before .before .pre .1 .2; room = c .before .before .before .before .before .before .before .before .before .before .before .before .before .if1 .left }, c .before .before .before .before .before .before .before .before .before .before .before .before .before .before .before .before .before .before .before .pre .1 .3))
 
 check-body-returns-3 : (t : ℕ) → check-body-lts.Need-returns-3 (check-body-claims t) (check-body-at t) check-body.Post
 check-body-returns-3 t c = let a = c .before .before .before .before .before .before .before .before .before .before .before .before .before .before .before .before .before .before .before .before .args in let t = a .table .now in let w = c .before .before .before .before .before .before .before .before .before .before .before .before .before .before .before .group-width .ensures .0 ∙ layout-width t (a .index .now) (c .before .before .before .before .before .before .before .before .before .before .before .before .before .before .before .before .before .before .before .before .pre .1 .0) (a .group) in
-    counts _ _ _ _ _ _ (closing-clean (a .bytes .now) (a .base) _ _ (sym (c .before .before .are-pads-zero .ensures) ∙ c .before .if3 .taken)) (c .longer2 .ensures) ∙ sym (body-passed (schema t) (innerOf t (a .levels)) (a .group) (a .base) (a .bytes .now) _ (ap (λ (n : ℕ). 16 + n) w) (c .before .before .before .before .before .before .before .before .before .before .before .before .before .before .if1 .left) (c .before .before .before .before .before .before .before .before .before .before .before .before .before .before .before .before .before .before .before .before .pre .1 .3) (sym (c .before .before .before .before .before .before .before .before .before .before .before .before .before .extension-inside .ensures (a .base)) ∙ not-false _ (c .before .before .before .before .before .before .before .before .before .before .before .before .if2 .left)) _ _ (c .before .before .before .before .before .before .before .before .before .before .longer .ensures) _ (nothing-taken (16 + c .before .before .before .before .before .before .before .before .before .before .before .before .before .before .before .group-width .result) (a .marks .now) (a .bytes .now) (c .before .before .before .before .before .before .before .before .before .before .before .before .before .before .before .before .before .before .before .before .pre .1 .1) (omega (arith, c .before .before .before .before .before .before .before .before .before .before .before .before .before .before .if1 .left, c .before .before .before .before .before .before .before .before .before .before .before .before .before .before .before .before .before .before .before .before .pre .1 .2))) _ _ (c .before .before .before .before .before .before .before .before .before .check-contents .ensures) _ _ (c .before .before .before .before .before .contents .given .1))
-
-check-body-add-t31 : (t : ℕ) → check-body-lts.Need-add-t31 (check-body-claims t) (check-body-at t) check-body.Post
-check-body-add-t31 t c = omega (arith, c .before .before .bad-pad .ensures .1, c .before .before .before .before .before .before .before .before .before .before .before .before .before .before .before .before .before .before .before .before .before .before .before .pre .1 .2)
+    counts _ _ _ _ _ _ (closing-clean (a .bytes .now) (a .base) (16 + c .before .before .before .before .before .before .before .before .before .before .before .before .before .before .before .group-width .result) _ (pads-none (16 + c .before .before .before .before .before .before .before .before .before .before .before .before .before .before .before .group-width .result) _ (c .before .before .before .before .before .before .before .before .before .check-fields .last .1 .1 .1 .0) (a .bytes .now) (omega (arith, c .before .before .before .before .before .before .before .before .before .check-fields .kept, c .before .before .before .before .before .before .before .before .before .before .before .before .before .before .before .before .before .before .before .before .pre .1 .1)) (c .before .before .before .before .before .before .before .before .before .before .before .before .before .before .if1 .left) (c .before .if4 .taken) (omega (arith, c .before .if4 .taken, c .before .before .before .before .before .before .before .before .before .before .before .before .before .before .before .before .before .before .before .before .pre .1 .2)))) (c .longer2 .ensures) ∙ sym (body-plain (schema t) (innerOf t (a .levels)) (a .group) (a .base) (a .bytes .now) _ (ap (λ (n : ℕ). 16 + n) w) (c .before .before .before .before .before .before .before .before .before .before .before .before .before .before .if1 .left) (c .before .before .before .before .before .before .before .before .before .before .before .before .before .before .before .before .before .before .before .before .pre .1 .3) (sym (c .before .before .before .before .before .before .before .before .before .before .before .before .before .extension-inside .ensures (a .base)) ∙ not-false _ (c .before .before .before .before .before .before .before .before .before .before .before .before .if2 .left)) _ _ (c .before .before .before .before .before .before .before .before .before .before .longer .ensures) _ (nothing-taken (16 + c .before .before .before .before .before .before .before .before .before .before .before .before .before .before .before .group-width .result) (a .marks .now) (a .bytes .now) (c .before .before .before .before .before .before .before .before .before .before .before .before .before .before .before .before .before .before .before .before .pre .1 .1) (omega (arith, c .before .before .before .before .before .before .before .before .before .before .before .before .before .before .if1 .left, c .before .before .before .before .before .before .before .before .before .before .before .before .before .before .before .before .before .before .before .before .pre .1 .2))) _ _ (c .before .before .before .before .before .before .before .before .before .check-fields .ensures) _ _ (c .before .before .before .before .before .fields .given .1) (sym (c .before .before .before .read-u32 .ensures .0) ∙ c .before .before .if3 .taken))
 
 check-body-returns-4 : (t : ℕ) → check-body-lts.Need-returns-4 (check-body-claims t) (check-body-at t) check-body.Post
 check-body-returns-4 t c = let a = c .before .before .before .before .before .before .before .before .before .before .before .before .before .before .before .before .before .before .before .before .before .before .before .args in let t = a .table .now in let w = c .before .before .before .before .before .before .before .before .before .before .before .before .before .before .before .before .before .before .group-width .ensures .0 ∙ layout-width t (a .index .now) (c .before .before .before .before .before .before .before .before .before .before .before .before .before .before .before .before .before .before .before .before .before .before .before .pre .1 .0) (a .group) in
-    refuses _ _ _ _ _ (closing-dirty (a .bytes .now) (a .base) _ _ _ (c .before .before .bad-pad .ensures .0) (sym (c .before .before .before .before .before .are-pads-zero .ensures) ∙ c .before .before .before .before .if3 .left)) ∙ sym (body-passed (schema t) (innerOf t (a .levels)) (a .group) (a .base) (a .bytes .now) _ (ap (λ (n : ℕ). 16 + n) w) (c .before .before .before .before .before .before .before .before .before .before .before .before .before .before .before .before .before .if1 .left) (c .before .before .before .before .before .before .before .before .before .before .before .before .before .before .before .before .before .before .before .before .before .before .before .pre .1 .3) (sym (c .before .before .before .before .before .before .before .before .before .before .before .before .before .before .before .before .extension-inside .ensures (a .base)) ∙ not-false _ (c .before .before .before .before .before .before .before .before .before .before .before .before .before .before .before .if2 .left)) _ _ (c .before .before .before .before .before .before .before .before .before .before .before .before .before .longer .ensures) _ (nothing-taken (16 + c .before .before .before .before .before .before .before .before .before .before .before .before .before .before .before .before .before .before .group-width .result) (a .marks .now) (a .bytes .now) (c .before .before .before .before .before .before .before .before .before .before .before .before .before .before .before .before .before .before .before .before .before .before .before .pre .1 .1) (omega (arith, c .before .before .before .before .before .before .before .before .before .before .before .before .before .before .before .before .before .if1 .left, c .before .before .before .before .before .before .before .before .before .before .before .before .before .before .before .before .before .before .before .before .before .before .before .pre .1 .2))) _ _ (c .before .before .before .before .before .before .before .before .before .before .before .before .check-contents .ensures) _ _ (c .before .before .before .before .before .before .before .before .contents .given .1))
+    c .before .before .check-pads .ensures ∙ sym (body-plain (schema t) (innerOf t (a .levels)) (a .group) (a .base) (a .bytes .now) _ (ap (λ (n : ℕ). 16 + n) w) (c .before .before .before .before .before .before .before .before .before .before .before .before .before .before .before .before .before .if1 .left) (c .before .before .before .before .before .before .before .before .before .before .before .before .before .before .before .before .before .before .before .before .before .before .before .pre .1 .3) (sym (c .before .before .before .before .before .before .before .before .before .before .before .before .before .before .before .before .extension-inside .ensures (a .base)) ∙ not-false _ (c .before .before .before .before .before .before .before .before .before .before .before .before .before .before .before .if2 .left)) _ _ (c .before .before .before .before .before .before .before .before .before .before .before .before .before .longer .ensures) _ (nothing-taken (16 + c .before .before .before .before .before .before .before .before .before .before .before .before .before .before .before .before .before .before .group-width .result) (a .marks .now) (a .bytes .now) (c .before .before .before .before .before .before .before .before .before .before .before .before .before .before .before .before .before .before .before .before .before .before .before .pre .1 .1) (omega (arith, c .before .before .before .before .before .before .before .before .before .before .before .before .before .before .before .before .before .if1 .left, c .before .before .before .before .before .before .before .before .before .before .before .before .before .before .before .before .before .before .before .before .before .before .before .pre .1 .2))) _ _ (c .before .before .before .before .before .before .before .before .before .before .before .before .check-fields .ensures) _ _ (c .before .before .before .before .before .before .before .before .fields .given .1) (sym (c .before .before .before .before .before .before .read-u32 .ensures .0) ∙ c .before .before .before .before .before .if3 .taken))
 
 check-body-returns-5 : (t : ℕ) → check-body-lts.Need-returns-5 (check-body-claims t) (check-body-at t) check-body.Post
-check-body-returns-5 t c = let a = c .before .before .before .before .before .before .before .before .before .before .before .before .before .before .before .before .args in let t = a .table .now in let w = c .before .before .before .before .before .before .before .before .before .before .before .group-width .ensures .0 ∙ layout-width t (a .index .now) (c .before .before .before .before .before .before .before .before .before .before .before .before .before .before .before .before .pre .1 .0) (a .group) in
-    body-stopped (schema t) (innerOf t (a .levels)) (a .group) (a .base) (a .bytes .now) _ (ap (λ (n : ℕ). 16 + n) w) (c .before .before .before .before .before .before .before .before .before .before .if1 .left) (c .before .before .before .before .before .before .before .before .before .before .before .before .before .before .before .before .pre .1 .3) (sym (c .before .before .before .before .before .before .before .before .before .extension-inside .ensures (a .base)) ∙ not-false _ (c .before .before .before .before .before .before .before .before .if2 .left)) _ _ (c .before .before .before .before .before .before .longer .ensures) _ (nothing-taken (16 + c .before .before .before .before .before .before .before .before .before .before .before .group-width .result) (a .marks .now) (a .bytes .now) (c .before .before .before .before .before .before .before .before .before .before .before .before .before .before .before .before .pre .1 .1) (omega (arith, c .before .before .before .before .before .before .before .before .before .before .if1 .left, c .before .before .before .before .before .before .before .before .before .before .before .before .before .before .before .before .pre .1 .2))) _ _ (c .before .before .before .before .before .check-contents .ensures) _ _ _ (c .before .contents2 .given .1)
+check-body-returns-5 t c = let a = c .before .before .before .before .before .before .before .before .before .before .before .before .before .before .before .before .before .before .before .before .before .before .args in let t = a .table .now in let w = c .before .before .before .before .before .before .before .before .before .before .before .before .before .before .before .before .before .group-width .ensures .0 ∙ layout-width t (a .index .now) (c .before .before .before .before .before .before .before .before .before .before .before .before .before .before .before .before .before .before .before .before .before .before .pre .1 .0) (a .group) in
+    c .before .before .check-rest .ensures ∙ sym (body-passed (schema t) (innerOf t (a .levels)) (a .group) (a .base) (a .bytes .now) _ (ap (λ (n : ℕ). 16 + n) w) (c .before .before .before .before .before .before .before .before .before .before .before .before .before .before .before .before .if1 .left) (c .before .before .before .before .before .before .before .before .before .before .before .before .before .before .before .before .before .before .before .before .before .before .pre .1 .3) (sym (c .before .before .before .before .before .before .before .before .before .before .before .before .before .before .before .extension-inside .ensures (a .base)) ∙ not-false _ (c .before .before .before .before .before .before .before .before .before .before .before .before .before .before .if2 .left)) _ _ (c .before .before .before .before .before .before .before .before .before .before .before .before .longer .ensures) _ (nothing-taken (16 + c .before .before .before .before .before .before .before .before .before .before .before .before .before .before .before .before .before .group-width .result) (a .marks .now) (a .bytes .now) (c .before .before .before .before .before .before .before .before .before .before .before .before .before .before .before .before .before .before .before .before .before .before .pre .1 .1) (omega (arith, c .before .before .before .before .before .before .before .before .before .before .before .before .before .before .before .before .if1 .left, c .before .before .before .before .before .before .before .before .before .before .before .before .before .before .before .before .before .before .before .before .before .before .pre .1 .2))) _ _ (c .before .before .before .before .before .before .before .before .before .before .before .check-fields .ensures) _ _ (c .before .before .before .before .before .before .before .fields .given .1))
 
-abbrev check-contents-claims : ℕ → check-contents-lts.Claims
-check-contents-claims t = (check-fields-below t, check-fields.Post, check-extension-below t, check-extension.Post)
-
-check-contents-check-fields-requires : (t : ℕ) → check-contents-lts.Need-check-fields-requires (check-contents-claims t) (check-contents-at t) check-contents.Post
-check-contents-check-fields-requires t c κs = let a = c .before .before .before .before .before .args in (search needs, (c .before .before .before .before .before .pre .1 .0, c .before .before .before .before .before .pre .1 .1, c .before .before .before .before .before .pre .1 .2, c .before .before .before .before .before .pre .1 .0 .layout .shallows (a .group)))
-
-check-contents-check-extension-requires :
-    (t : ℕ) → check-contents-lts.Need-check-extension-requires (
-      check-fields-below t,
-      check-fields.Post,
-      check-extension-below t,
-      check-extension.Post,
-    ) (check-contents-at t) check-contents.Post
-check-contents-check-extension-requires t c κs = (search needs, (ready _ _ _ _ _ _ (c .before .before .before .before .before .before .before .before .before .before .before .before .pre .1 .0) (search needs), omega (arith, c .before .before .before .before .before .before .before .before .before .before .before .before .pre .1 .1)))
-
-check-contents-returns : (t : ℕ) → check-contents-lts.Need-returns (check-contents-claims t) (check-contents-at t) check-contents.Post
-check-contents-returns t c = let a = c .before .before .before .before .before .before .before .before .before .before .before .before .before .before .before .args in let t = a .table .now in let I = innerOf t (a .frame .levels) in let h = within (a .bytes .now) (a .frame) in
-    c .before .before .check-extension .ensures ∙ sym (ap (after (a .before)) (count-next (staticOf t (a .frame .levels) 5 (a .group) h 16 (marksOf (a .frame .area) (a .taken) (a .marks .now))) (λ m. extensionR (schema t) I h 12 m)) ∙ passed _ (a .before) _ _ (c .before .before .before .before .before .before .before .before .before .check-fields .ensures) _ _ (λ m. count (extensionR (schema t) I h 12 m)) (c .before .before .before .before .before .fields .given .1))
-
-check-contents-returns-2 : (t : ℕ) → check-contents-lts.Need-returns-2 (check-contents-claims t) (check-contents-at t) check-contents.Post
-check-contents-returns-2 t c = let a = c .before .before .before .before .before .before .before .before .before .before .before .args in let t = a .table .now in let I = innerOf t (a .frame .levels) in let h = within (a .bytes .now) (a .frame) in
-    stopped _ (a .before) _ _ (c .before .before .before .before .before .check-fields .ensures) _ _ _ (λ m. count (extensionR (schema t) I h 12 m)) (c .before .fields2 .given .1) ∙ ap (after (a .before)) (sym (count-next (staticOf t (a .frame .levels) 5 (a .group) h 16 (marksOf (a .frame .area) (a .taken) (a .marks .now))) (λ m. extensionR (schema t) I h 12 m)))
+check-body-returns-6 : (t : ℕ) → check-body-lts.Need-returns-6 (check-body-claims t) (check-body-at t) check-body.Post
+check-body-returns-6 t c = let a = c .before .before .before .before .before .before .before .before .before .before .before .before .before .before .before .before .args in let t = a .table .now in let w = c .before .before .before .before .before .before .before .before .before .before .before .group-width .ensures .0 ∙ layout-width t (a .index .now) (c .before .before .before .before .before .before .before .before .before .before .before .before .before .before .before .before .pre .1 .0) (a .group) in
+    body-stopped (schema t) (innerOf t (a .levels)) (a .group) (a .base) (a .bytes .now) _ (ap (λ (n : ℕ). 16 + n) w) (c .before .before .before .before .before .before .before .before .before .before .if1 .left) (c .before .before .before .before .before .before .before .before .before .before .before .before .before .before .before .before .pre .1 .3) (sym (c .before .before .before .before .before .before .before .before .before .extension-inside .ensures (a .base)) ∙ not-false _ (c .before .before .before .before .before .before .before .before .if2 .left)) _ _ (c .before .before .before .before .before .before .longer .ensures) _ (nothing-taken (16 + c .before .before .before .before .before .before .before .before .before .before .before .group-width .result) (a .marks .now) (a .bytes .now) (c .before .before .before .before .before .before .before .before .before .before .before .before .before .before .before .before .pre .1 .1) (omega (arith, c .before .before .before .before .before .before .before .before .before .before .if1 .left, c .before .before .before .before .before .before .before .before .before .before .before .before .before .before .before .before .pre .1 .2))) _ _ (c .before .before .before .before .before .check-fields .ensures) _ _ _ (c .before .fields2 .given .1)
 
 abbrev check-dynamic-claims : ℕ → check-dynamic-lts.Claims
 check-dynamic-claims t = (locate-reads.Asked, locate-reads.Learnt, check-nested-below t, check-nested.Post)
@@ -352,6 +348,42 @@ check-dynamic-returns t c = let a = c .before .before .before .before .before .b
 
 check-dynamic-returns-2 : (t : ℕ) → check-dynamic-lts.Need-returns-2 (check-dynamic-claims t) (check-dynamic-at t) check-dynamic.Post
 check-dynamic-returns-2 t c = let a = c .before .before .before .before .before .before .before .before .before .before .before .args in refuses _ _ _ _ _ (leads-nowhere 26 1 (innerR (innerOf (a .table .now) (a .frame .levels)) (a .allowed)) (within (a .bytes .now) (a .frame)) (a .at) (marksOf (a .frame .area) (a .taken) (a .marks .now)) _ _ (c .before .before .before .before .before .locate .ensures .0) _ _ (c .before .found2 .given .1))
+
+abbrev check-dynamics-Inv-loop : check-dynamics-lts.InvT-loop
+check-dynamics-Inv-loop table index bytes marks₀ frame allowed total at taken before i₀ place₀ sum₀ holds₀ marks i place sum holds =
+    (i ≤ total) × (length marks ≡ length marks₀) × (place + (total - i) * 4 ≤ length bytes) × (sum < 2 ^ 64)
+    × (after before (count (itemsR 4 (markedR GB (indirectR 26 1 (innerR (innerOf table (frame .levels)) allowed))) total (within bytes frame) at (marksOf (frame .area) holds₀ marks₀))) ≡ after sum (count (itemsR 4 (markedR GB (indirectR 26 1 (innerR (innerOf table (frame .levels)) allowed))) (total - i) (within bytes frame) place (marksOf (frame .area) holds marks))))
+
+abbrev check-dynamics-μ-loop : check-dynamics-lts.MeasureT-loop
+check-dynamics-μ-loop table index bytes marks₀ frame allowed total at taken before i₀ place₀ sum₀ holds₀ marks i place sum holds =
+    total - i
+
+abbrev check-dynamics-claims : ℕ → check-dynamics-lts.Claims
+check-dynamics-claims t = (longer-reads.Asked, longer-reads.Learnt, check-dynamic-below t, check-dynamic.Post)
+
+check-dynamics-loop-holds : (t : ℕ) → check-dynamics-lts.Need-loop-holds (check-dynamics-claims t) (check-dynamics-at t) check-dynamics.Post check-dynamics-Inv-loop check-dynamics-μ-loop
+check-dynamics-loop-holds t c = let a = c .before .before .before .before .args in (search needs, search needs, rw sub-zero (c .before .before .before .before .pre .1 .1), search needs, rw sub-zero refl)
+
+check-dynamics-check-dynamic-requires : (t : ℕ) → check-dynamics-lts.Need-check-dynamic-requires (check-dynamics-claims t) (check-dynamics-at t) check-dynamics.Post check-dynamics-Inv-loop check-dynamics-μ-loop
+check-dynamics-check-dynamic-requires t c κs = let a = c .before .before .before .before .before .before .before .before .args in let i = c .before .before .before .loop .inv in let w = items-left (a .total) (c .before .before .before .loop .i) 4 (c .before .before .loop-test .taken) in
+    (search needs, (ready _ _ _ _ _ _ (c .before .before .before .before .before .before .before .before .pre .1 .0) (i .1 ∙ c .before .before .before .before .before .before .before .before .pre .1 .0 .same), omega (arith, i .2, w)))
+
+check-dynamics-returns : (t : ℕ) → check-dynamics-lts.Need-returns (check-dynamics-claims t) (check-dynamics-at t) check-dynamics.Post check-dynamics-Inv-loop check-dynamics-μ-loop
+check-dynamics-returns t c = let a = c .before .before .before .before .before .before .before .before .before .before .before .before .before .before .args in
+    items-stopped 4 _ (within (a .bytes .now) (a .frame)) (a .total) (c .before .before .before .before .before .before .before .before .before .loop .i) (c .before .before .before .before .before .before .before .before .before .loop .place) (c .before .before .before .before .before .before .before .before .before .loop .length) (marksOf (a .frame .area) (c .before .before .before .before .before .before .before .before .before .loop .holds) (c .before .before .before .before .before .before .before .before .before .loop .marks)) _ _ (c .before .before .before .before .before .check-dynamic .ensures ∙ sym (goes-on (c .before .before .before .before .before .before .before .before .before .loop .length) 2 _ _ _ (count-marked (within (a .bytes .now) (a .frame)) (c .before .before .before .before .before .before .before .before .before .loop .place) _ GB (indirectR 26 1 (innerR (innerOf (a .table .now) (a .frame .levels)) (a .allowed)))) (c .before .before .before .before .before .before .longer .ensures))) (c .before .before .before .before .before .before .before .before .loop-test .taken) _ _ _ (c .before .group2 .given .1) ∙ sym (c .before .before .before .before .before .before .before .before .before .loop .inv .4)
+
+check-dynamics-loop-again : (t : ℕ) → check-dynamics-lts.Need-loop-again (check-dynamics-claims t) (check-dynamics-at t) check-dynamics.Post check-dynamics-Inv-loop check-dynamics-μ-loop
+check-dynamics-loop-again t c = let a = c .before .before .before .before .before .before .before .before .before .before .before .before .before .before .args in let i = c .before .before .before .before .before .before .before .before .before .loop .inv in let w = items-left (a .total) (c .before .before .before .before .before .before .before .before .before .loop .i) 4 (c .before .before .before .before .before .before .before .before .loop-test .taken) in (
+  search needs,
+  search needs,
+  omega (arith, i .2, w),
+  bounded _ _ _ _ (c .before .before .before .before .before .check-dynamic .ensures ∙ sym (goes-on (c .before .before .before .before .before .before .before .before .before .loop .length) 2 _ _ _ (count-marked (within (a .bytes .now) (a .frame)) (c .before .before .before .before .before .before .before .before .before .loop .place) _ GB (indirectR 26 1 (innerR (innerOf (a .table .now) (a .frame .levels)) (a .allowed)))) (c .before .before .before .before .before .before .longer .ensures))) _ _ (c .before .group .given .1),
+  i .4 ∙ items-passed 4 _ (within (a .bytes .now) (a .frame)) (a .total) (c .before .before .before .before .before .before .before .before .before .loop .i) (c .before .before .before .before .before .before .before .before .before .loop .place) (c .before .before .before .before .before .before .before .before .before .loop .length) (marksOf (a .frame .area) (c .before .before .before .before .before .before .before .before .before .loop .holds) (c .before .before .before .before .before .before .before .before .before .loop .marks)) _ _ (c .before .before .before .before .before .check-dynamic .ensures ∙ sym (goes-on (c .before .before .before .before .before .before .before .before .before .loop .length) 2 _ _ _ (count-marked (within (a .bytes .now) (a .frame)) (c .before .before .before .before .before .before .before .before .before .loop .place) _ GB (indirectR 26 1 (innerR (innerOf (a .table .now) (a .frame .levels)) (a .allowed)))) (c .before .before .before .before .before .before .longer .ensures))) (c .before .before .before .before .before .before .before .before .loop-test .taken) _ _ (c .before .group .given .1),
+)
+
+check-dynamics-returns-2 : (t : ℕ) → check-dynamics-lts.Need-returns-2 (check-dynamics-claims t) (check-dynamics-at t) check-dynamics.Post check-dynamics-Inv-loop check-dynamics-μ-loop
+check-dynamics-returns-2 t c = let a = c .before .before .before .before .before .before .args in
+    items-end 4 _ (within (a .bytes .now) (a .frame)) (a .total) (c .before .loop .i) (c .before .loop .place) (c .before .loop .length) (marksOf (a .frame .area) (c .before .loop .holds) (c .before .loop .marks)) _ _ refl (c .loop-test .left) (c .before .loop .inv .3) ∙ sym (c .before .loop .inv .4)
 
 abbrev check-extending-claims : ℕ → check-extending-lts.Claims
 check-extending-claims t = (locate-reads.Asked, locate-reads.Learnt, read-u64-reads.Asked, read-u64-reads.Learnt, is-known-reads.Asked, is-known-reads.Learnt, longer-reads.Asked, longer-reads.Learnt, check-nested-below t, check-nested.Post)
@@ -413,43 +445,37 @@ check-extension-returns-4 : (t : ℕ) → check-extension-lts.Need-returns-4 (ch
 check-extension-returns-4 t c = let a = c .before .before .before .before .before .before .before .before .before .before .before .before .before .args in refuses _ _ _ _ _ (extension-nowhere (schema (a .table .now)) (innerOf (a .table .now) (a .frame .levels)) (within (a .bytes .now) (a .frame)) 12 (marksOf (a .frame .area) (a .taken) (a .marks .now)) (λ z. c .before .before .before .before .before .before .before .if1 .left (c .before .before .before .before .before .before .before .before .read-u32 .ensures .0 ∙ z)) _ _ (c .before .before .before .before .before .locate .ensures .0) _ _ (c .before .found2 .given .1))
 
 abbrev check-field-claims : ℕ → check-field-lts.Claims
-check-field-claims t = (is-optional-reads.Asked, is-optional-reads.Learnt, value-width-reads.Asked, value-width-reads.Learnt, check-absent-reads.Asked, check-absent-reads.Learnt, check-value-below t, check-value.Post)
+check-field-claims t = (is-optional-reads.Asked, is-optional-reads.Learnt, is-unset-reads.Asked, is-unset-reads.Learnt, value-width-reads.Asked, value-width-reads.Learnt, check-absent-reads.Asked, check-absent-reads.Learnt, flag-width-reads.Asked, flag-width-reads.Learnt, check-value-below t, check-value.Post)
 
-check-field-shared-slice-read-if2 : (t : ℕ) → check-field-lts.Need-shared-slice-read-if2 (check-field-claims t) (check-field-at t) check-field.Post
-check-field-shared-slice-read-if2 t c = let a = c .before .before .before .before .before .before .before .args in let t = a .table .now in
-    let w = width-optional (widthOf t (a .depth)) (fieldAt (enums t) (drop (a .field) t)) (sym (c .before .before .is-optional .ensures (enums t)) ∙ c .before .if1 .taken) in omega (arith, w, c .before .before .before .before .before .before .before .pre .1 .2)
+check-field-is-unset-requires : (t : ℕ) → check-field-lts.Need-is-unset-requires (check-field-claims t) (check-field-at t) check-field.Post
+check-field-is-unset-requires t c κs = let a = c .before .before .before .before .before .args in let t = a .table .now in
+    λ e. let w = width-optional (widthOf t (a .depth)) (fieldAt (enums t) (drop (a .field) t)) (sym (c .is-optional .ensures (enums t)) ∙ e) in omega (arith, w, c .before .before .before .before .before .pre .1 .2)
 
 check-field-check-absent-requires : (t : ℕ) → check-field-lts.Need-check-absent-requires (check-field-claims t) (check-field-at t) check-field.Post
-check-field-check-absent-requires t c κs = let a = c .before .before .before .before .before .before .before .before .before .args in let t = a .table .now in
-    let w = width-optional (widthOf t (a .depth)) (fieldAt (enums t) (drop (a .field) t)) (sym (c .before .before .before .before .is-optional .ensures (enums t)) ∙ c .before .before .before .if1 .taken) in
-    let v = c .value-width .ensures .0 (enums t) ∙ wide-value t (a .index .now) (c .before .before .before .before .before .before .before .before .before .pre .1 .0 .layout) (a .depth) _ (c .before .before .before .before .before .before .before .before .before .pre .1 .3) in
-    (c .before .if2 .taken, omega (arith, w, v, c .before .before .before .before .before .before .before .before .before .pre .1 .2), c .before .before .before .before .before .before .before .before .before .pre .1 .0 .small)
+check-field-check-absent-requires t c κs = let a = c .before .before .before .before .before .before .before .before .args in let t = a .table .now in let u = flag-unset (c .before .before .before .is-optional .result) (byte (a .at) (a .bytes .now)) (sym (c .before .before .is-unset .ensures) ∙ c .before .if1 .taken) in
+    let w = width-optional (widthOf t (a .depth)) (fieldAt (enums t) (drop (a .field) t)) (sym (c .before .before .before .is-optional .ensures (enums t)) ∙ u .0) in
+    let v = c .value-width .ensures .0 (enums t) ∙ wide-value t (a .index .now) (c .before .before .before .before .before .before .before .before .pre .1 .0 .layout) (a .depth) _ (c .before .before .before .before .before .before .before .before .pre .1 .3) in
+    (u .1, omega (arith, w, v, c .before .before .before .before .before .before .before .before .pre .1 .2), c .before .before .before .before .before .before .before .before .pre .1 .0 .small)
 
 check-field-returns : (t : ℕ) → check-field-lts.Need-returns (check-field-claims t) (check-field-at t) check-field.Post
-check-field-returns t c = let a = c .before .before .before .before .before .before .before .before .before .before .args in let t = a .table .now in
+check-field-returns t c = let a = c .before .before .before .before .before .before .before .before .before .args in let t = a .table .now in let u = flag-unset (c .before .before .before .before .is-optional .result) (byte (a .at) (a .bytes .now)) (sym (c .before .before .before .is-unset .ensures) ∙ c .before .before .if1 .taken) in
     let f = fieldAt (enums t) (drop (a .field) t) in let I = innerOf t (a .frame .levels) in let S = staticOf t (a .frame .levels) (a .depth) in let sw = widthOf t (a .depth) in
-    let v = c .before .value-width .ensures .0 (enums t) ∙ wide-value t (a .index .now) (c .before .before .before .before .before .before .before .before .before .before .pre .1 .0 .layout) (a .depth) _ (c .before .before .before .before .before .before .before .before .before .before .pre .1 .3) in
-    rw v at (c .check-absent .ensures (fieldMark f) (valueR I sw S f) (a .frame .area) (λ s. marksOf (a .frame .area) s (a .marks .now))) ∙ ap (λ x. after (a .before) (count x)) (sym (field-optional I sw S f (within (a .bytes .now) (a .frame)) (a .at) (marksOf (a .frame .area) (a .taken) (a .marks .now)) (sym (c .before .before .before .before .before .is-optional .ensures (enums t)) ∙ c .before .before .before .before .if1 .taken)))
+    let v = c .before .value-width .ensures .0 (enums t) ∙ wide-value t (a .index .now) (c .before .before .before .before .before .before .before .before .before .pre .1 .0 .layout) (a .depth) _ (c .before .before .before .before .before .before .before .before .before .pre .1 .3) in
+    rw v at (c .check-absent .ensures (fieldMark f) (valueR I sw S f) (a .frame .area) (λ s. marksOf (a .frame .area) s (a .marks .now))) ∙ ap (λ x. after (a .before) (count x)) (sym (field-optional I sw S f (within (a .bytes .now) (a .frame)) (a .at) (marksOf (a .frame .area) (a .taken) (a .marks .now)) (sym (c .before .before .before .before .is-optional .ensures (enums t)) ∙ u .0)))
+
+check-field-add-check-value : (t : ℕ) → check-field-lts.Need-add-check-value (check-field-claims t) (check-field-at t) check-field.Post
+check-field-add-check-value t c = let a = c .before .before .before .before .before .before .before .before .before .args in let t = a .table .now in
+    let w = flag-wide (widthOf t (a .depth)) (fieldAt (enums t) (drop (a .field) t)) _ (c .before .before .before .before .is-optional .ensures (enums t)) in omega (arith, w, c .flag-width .ensures, c .before .before .before .before .before .before .before .before .before .pre .1 .2, c .before .before .before .before .before .before .before .before .before .pre .1 .0 .small)
 
 check-field-check-value-requires : (t : ℕ) → check-field-lts.Need-check-value-requires (check-field-claims t) (check-field-at t) check-field.Post
 check-field-check-value-requires t c κs = let a = c .before .before .before .before .before .before .before .before .before .args in let t = a .table .now in
-    let w = width-optional (widthOf t (a .depth)) (fieldAt (enums t) (drop (a .field) t)) (sym (c .before .before .before .before .is-optional .ensures (enums t)) ∙ c .before .before .before .if1 .taken) in
-    (search needs, (c .before .before .before .before .before .before .before .before .before .pre .1 .0, c .before .before .before .before .before .before .before .before .before .pre .1 .1, omega (arith, w, c .before .before .before .before .before .before .before .before .before .pre .1 .2), c .before .before .before .before .before .before .before .before .before .pre .1 .3))
+    let w = flag-wide (widthOf t (a .depth)) (fieldAt (enums t) (drop (a .field) t)) _ (c .before .before .before .before .is-optional .ensures (enums t)) in
+    (search needs, (c .before .before .before .before .before .before .before .before .before .pre .1 .0, c .before .before .before .before .before .before .before .before .before .pre .1 .1, omega (arith, w, c .flag-width .ensures, c .before .before .before .before .before .before .before .before .before .pre .1 .2), c .before .before .before .before .before .before .before .before .before .pre .1 .3))
 
 check-field-returns-2 : (t : ℕ) → check-field-lts.Need-returns-2 (check-field-claims t) (check-field-at t) check-field.Post
 check-field-returns-2 t c = let a = c .before .before .before .before .before .before .before .before .before .before .before .before .args in let t = a .table .now in
     let f = fieldAt (enums t) (drop (a .field) t) in let I = innerOf t (a .frame .levels) in let S = staticOf t (a .frame .levels) (a .depth) in let sw = widthOf t (a .depth) in
-    c .before .before .check-value .ensures ∙ ap (λ x. after (a .before) (count x)) (sym (field-there I sw S f (within (a .bytes .now) (a .frame)) (a .at) (marksOf (a .frame .area) (a .taken) (a .marks .now)) (sym (c .before .before .before .before .before .before .before .is-optional .ensures (enums t)) ∙ c .before .before .before .before .before .before .if1 .taken) (c .before .before .before .before .if2 .left)))
-
-check-field-check-value-requires-2 : (t : ℕ) → check-field-lts.Need-check-value-requires-2 (check-field-claims t) (check-field-at t) check-field.Post
-check-field-check-value-requires-2 t c κs = let a = c .before .before .before .before .before .before .before .args in let t = a .table .now in
-    let w = width-required (widthOf t (a .depth)) (fieldAt (enums t) (drop (a .field) t)) (sym (c .before .before .is-optional .ensures (enums t)) ∙ c .before .if1 .left) in
-    (search needs, (c .before .before .before .before .before .before .before .pre .1 .0, c .before .before .before .before .before .before .before .pre .1 .1, omega (arith, w, c .before .before .before .before .before .before .before .pre .1 .2), c .before .before .before .before .before .before .before .pre .1 .3))
-
-check-field-returns-3 : (t : ℕ) → check-field-lts.Need-returns-3 (check-field-claims t) (check-field-at t) check-field.Post
-check-field-returns-3 t c = let a = c .before .before .before .before .before .before .before .before .before .before .args in let t = a .table .now in
-    let f = fieldAt (enums t) (drop (a .field) t) in let I = innerOf t (a .frame .levels) in let S = staticOf t (a .frame .levels) (a .depth) in let sw = widthOf t (a .depth) in
-    c .before .before .check-value2 .ensures ∙ ap (λ x. after (a .before) (count x)) (sym (field-required I sw S f (within (a .bytes .now) (a .frame)) (a .at) (marksOf (a .frame .area) (a .taken) (a .marks .now)) (sym (c .before .before .before .before .before .is-optional .ensures (enums t)) ∙ c .before .before .before .before .if1 .left)))
+    c .before .before .check-value .ensures ∙ ap (λ x. after (a .before) (count x)) (sym (field-set I sw S f (within (a .bytes .now) (a .frame)) (a .at) (marksOf (a .frame .area) (a .taken) (a .marks .now)) (c .before .before .before .before .before .before .before .is-optional .result) (c .before .before .before .before .before .before .before .is-optional .ensures (enums t)) (sym (c .before .before .before .before .before .before .is-unset .ensures) ∙ c .before .before .before .before .before .if1 .left) _ (c .before .before .before .flag-width .ensures)))
 
 abbrev check-fields-Inv-loop : check-fields-lts.InvT-loop
 check-fields-Inv-loop table index bytes marks₀ frame depth group at taken before start total deeper i₀ field₀ place₀ sum₀ holds₀ marks i field place sum holds =
@@ -666,7 +692,7 @@ check-items-μ-loop table index bytes marks₀ frame depth kind width total at t
     total - i
 
 abbrev check-items-claims : ℕ → check-items-lts.Claims
-check-items-claims t = (wide-reads.Asked, wide-reads.Learnt, longer-reads.Asked, longer-reads.Learnt, check-item-below t, check-item.Post)
+check-items-claims t = (wide-reads.Asked, wide-reads.Learnt, longer-reads.Asked, longer-reads.Learnt, check-texts-reads.Asked, check-texts-reads.Learnt, check-dynamics-below t, check-dynamics.Post, check-item-below t, check-item.Post)
 
 check-items-mul-longer : (t : ℕ) → check-items-lts.Need-mul-longer (check-items-claims t) (check-items-at t) check-items.Post check-items-Inv-loop check-items-μ-loop
 check-items-mul-longer t c = omega (arith, mul-le-mul-right {m = c .before .before .before .before .before .before .before .before .args .total} {n = 4294967296} (2 + c .wide .result) (omega (arith, c .before .before .before .before .before .before .before .before .pre .1 .2)), c .wide .ensures .1)
@@ -674,19 +700,35 @@ check-items-mul-longer t c = omega (arith, mul-le-mul-right {m = c .before .befo
 check-items-returns : (t : ℕ) → check-items-lts.Need-returns (check-items-claims t) (check-items-at t) check-items.Post check-items-Inv-loop check-items-μ-loop
 check-items-returns t c = let a = c .before .before .before .before .before .before .before .before .before .args in let t = a .table .now in counts _ _ _ _ _ _ (items-plain (innerOf t (a .frame .levels)) (staticOf t (a .frame .levels) (a .depth)) (a .bytes .now) (a .frame .base) (a .frame .area) (marksOf (a .frame .area) (a .taken) (a .marks .now)) (enums t) (a .kind) (widthOf t (a .depth)) _ (a .width) (a .total) (a .at) (c .before .before .before .kind .given .1) (c .before .before .before .before .before .before .before .before .before .pre .1 .4) (c .before .before .before .before .before .before .before .before .before .pre .1 .1)) (c .longer .ensures ∙ rw (c .before .wide .ensures .0))
 
-check-items-loop-holds : (t : ℕ) → check-items-lts.Need-loop-holds (check-items-claims t) (check-items-at t) check-items.Post check-items-Inv-loop check-items-μ-loop
-check-items-loop-holds t c = let a = c .before .before .before .before .before .args in (search needs, search needs, rw sub-zero (c .before .before .before .before .before .pre .1 .1), search needs, rw sub-zero refl)
-
-check-items-check-item-requires : (t : ℕ) → check-items-lts.Need-check-item-requires (check-items-claims t) (check-items-at t) check-items.Post check-items-Inv-loop check-items-μ-loop
-check-items-check-item-requires t c κs = let a = c .before .before .before .before .before .before .before .before .args in let i = c .before .before .loop .inv in let w = items-left (a .total) (c .before .before .loop .i) (a .width) (c .before .loop-test .taken) in
-    (search needs, (ready _ _ _ _ _ _ (c .before .before .before .before .before .before .before .before .pre .1 .0) (i .1 ∙ c .before .before .before .before .before .before .before .before .pre .1 .0 .same), omega (arith, i .2, w, c .before .before .before .before .before .before .before .before .pre .1 .4), c .before .before .before .before .before .before .before .before .pre .1 .5))
+check-items-check-texts-requires : (t : ℕ) → check-items-lts.Need-check-texts-requires (check-items-claims t) (check-items-at t) check-items.Post check-items-Inv-loop check-items-μ-loop
+check-items-check-texts-requires t c κs = let a = c .before .before .before .before .before .before .before .before .before .args in let t = a .table .now in let q : a .width ≡ 4 = c .before .before .before .before .before .before .before .before .before .pre .1 .4 ∙ wide-indirect (widthOf t (a .depth)) (enums t) (a .kind) _ (c .before .before .kind2 .given .1) in
+    (c .before .before .before .before .before .before .before .before .before .pre .1 .0 .same, c .before .before .before .before .before .before .before .before .before .pre .1 .0 .small, c .before .before .before .before .before .before .before .before .before .pre .1 .0 .room, rw q at (c .before .before .before .before .before .before .before .before .before .pre .1 .1))
 
 check-items-returns-2 : (t : ℕ) → check-items-lts.Need-returns-2 (check-items-claims t) (check-items-at t) check-items.Post check-items-Inv-loop check-items-μ-loop
-check-items-returns-2 t c = let a = c .before .before .before .before .before .before .before .before .before .before .before .before .before .before .args in
+check-items-returns-2 t c = let a = c .before .before .before .before .before .before .before .before .before .before .before .before .args in let t = a .table .now in
+    c .before .before .check-texts .ensures ∙ ap (λ x. after (a .before) (count x)) (sym (items-indirect (innerOf t (a .frame .levels)) (staticOf t (a .frame .levels) (a .depth)) (a .bytes .now) (a .frame .base) (a .frame .area) (marksOf (a .frame .area) (a .taken) (a .marks .now)) (enums t) (a .kind) (widthOf t (a .depth)) (a .width) (a .total) (a .at) (c .before .before .before .before .before .before .before .before .before .before .before .before .pre .1 .4) _ (c .before .before .before .before .before .kind2 .given .1)))
+
+check-items-check-dynamics-requires : (t : ℕ) → check-items-lts.Need-check-dynamics-requires (check-items-claims t) (check-items-at t) check-items.Post check-items-Inv-loop check-items-μ-loop
+check-items-check-dynamics-requires t c κs = let a = c .before .before .before .before .before .before .before .before .before .before .args in let t = a .table .now in let q : a .width ≡ 4 = c .before .before .before .before .before .before .before .before .before .before .pre .1 .4 ∙ wide-dynamic (widthOf t (a .depth)) (enums t) (a .kind) _ (c .before .before .kind3 .given .1) in
+    (search needs, (c .before .before .before .before .before .before .before .before .before .before .pre .1 .0, rw q at (c .before .before .before .before .before .before .before .before .before .before .pre .1 .1)))
+
+check-items-returns-3 : (t : ℕ) → check-items-lts.Need-returns-3 (check-items-claims t) (check-items-at t) check-items.Post check-items-Inv-loop check-items-μ-loop
+check-items-returns-3 t c = let a = c .before .before .before .before .before .before .before .before .before .before .before .before .before .args in let t = a .table .now in
+    c .before .before .check-dynamics .ensures ∙ ap (λ x. after (a .before) (count x)) (sym (items-dynamic (innerOf t (a .frame .levels)) (staticOf t (a .frame .levels) (a .depth)) (a .bytes .now) (a .frame .base) (a .frame .area) (marksOf (a .frame .area) (a .taken) (a .marks .now)) (enums t) (a .kind) (widthOf t (a .depth)) (a .width) (a .total) (a .at) (c .before .before .before .before .before .before .before .before .before .before .before .before .before .pre .1 .4) _ (c .before .before .before .before .before .kind3 .given .1)))
+
+check-items-loop-holds : (t : ℕ) → check-items-lts.Need-loop-holds (check-items-claims t) (check-items-at t) check-items.Post check-items-Inv-loop check-items-μ-loop
+check-items-loop-holds t c = let a = c .before .before .before .before .before .before .before .args in (search needs, search needs, rw sub-zero (c .before .before .before .before .before .before .before .pre .1 .1), search needs, rw sub-zero refl)
+
+check-items-check-item-requires : (t : ℕ) → check-items-lts.Need-check-item-requires (check-items-claims t) (check-items-at t) check-items.Post check-items-Inv-loop check-items-μ-loop
+check-items-check-item-requires t c κs = let a = c .before .before .before .before .before .before .before .before .before .before .args in let i = c .before .before .loop .inv in let w = items-left (a .total) (c .before .before .loop .i) (a .width) (c .before .loop-test .taken) in
+    (search needs, (ready _ _ _ _ _ _ (c .before .before .before .before .before .before .before .before .before .before .pre .1 .0) (i .1 ∙ c .before .before .before .before .before .before .before .before .before .before .pre .1 .0 .same), omega (arith, i .2, w, c .before .before .before .before .before .before .before .before .before .before .pre .1 .4), c .before .before .before .before .before .before .before .before .before .before .pre .1 .5))
+
+check-items-returns-4 : (t : ℕ) → check-items-lts.Need-returns-4 (check-items-claims t) (check-items-at t) check-items.Post check-items-Inv-loop check-items-μ-loop
+check-items-returns-4 t c = let a = c .before .before .before .before .before .before .before .before .before .before .before .before .before .before .before .before .args in
     items-stopped (a .width) _ (within (a .bytes .now) (a .frame)) (a .total) (c .before .before .before .before .before .before .before .before .loop .i) (c .before .before .before .before .before .before .before .before .loop .place) (c .before .before .before .before .before .before .before .before .loop .length) (marksOf (a .frame .area) (c .before .before .before .before .before .before .before .before .loop .holds) (c .before .before .before .before .before .before .before .before .loop .marks)) _ _ (c .before .before .before .before .before .check-item .ensures) (c .before .before .before .before .before .before .before .loop-test .taken) _ _ _ (c .before .item2 .given .1) ∙ sym (c .before .before .before .before .before .before .before .before .loop .inv .4)
 
 check-items-loop-again : (t : ℕ) → check-items-lts.Need-loop-again (check-items-claims t) (check-items-at t) check-items.Post check-items-Inv-loop check-items-μ-loop
-check-items-loop-again t c = let a = c .before .before .before .before .before .before .before .before .before .before .before .before .before .before .args in let i = c .before .before .before .before .before .before .before .before .loop .inv in let w = items-left (a .total) (c .before .before .before .before .before .before .before .before .loop .i) (a .width) (c .before .before .before .before .before .before .before .loop-test .taken) in (
+check-items-loop-again t c = let a = c .before .before .before .before .before .before .before .before .before .before .before .before .before .before .before .before .args in let i = c .before .before .before .before .before .before .before .before .loop .inv in let w = items-left (a .total) (c .before .before .before .before .before .before .before .before .loop .i) (a .width) (c .before .before .before .before .before .before .before .loop-test .taken) in (
   search needs,
   search needs,
   omega (arith, i .2, w),
@@ -694,8 +736,8 @@ check-items-loop-again t c = let a = c .before .before .before .before .before .
   i .4 ∙ items-passed (a .width) _ (within (a .bytes .now) (a .frame)) (a .total) (c .before .before .before .before .before .before .before .before .loop .i) (c .before .before .before .before .before .before .before .before .loop .place) (c .before .before .before .before .before .before .before .before .loop .length) (marksOf (a .frame .area) (c .before .before .before .before .before .before .before .before .loop .holds) (c .before .before .before .before .before .before .before .before .loop .marks)) _ _ (c .before .before .before .before .before .check-item .ensures) (c .before .before .before .before .before .before .before .loop-test .taken) _ _ (c .before .item .given .1),
 )
 
-check-items-returns-3 : (t : ℕ) → check-items-lts.Need-returns-3 (check-items-claims t) (check-items-at t) check-items.Post check-items-Inv-loop check-items-μ-loop
-check-items-returns-3 t c = let a = c .before .before .before .before .before .before .before .args in
+check-items-returns-5 : (t : ℕ) → check-items-lts.Need-returns-5 (check-items-claims t) (check-items-at t) check-items.Post check-items-Inv-loop check-items-μ-loop
+check-items-returns-5 t c = let a = c .before .before .before .before .before .before .before .before .before .args in
     items-end (a .width) _ (within (a .bytes .now) (a .frame)) (a .total) (c .before .loop .i) (c .before .loop .place) (c .before .loop .length) (marksOf (a .frame .area) (c .before .loop .holds) (c .before .loop .marks)) _ _ refl (c .loop-test .left) (c .before .loop .inv .3) ∙ sym (c .before .loop .inv .4)
 
 abbrev check-nested-claims : ℕ → check-nested-lts.Claims
@@ -709,6 +751,21 @@ check-nested-returns t c = let a = c .before .before .before .before .before .be
 
 check-nested-returns-2 : (t : ℕ) → check-nested-lts.Need-returns-2 (check-nested-claims t) (check-nested-at t) check-nested.Post
 check-nested-returns-2 t c = let a = c .before .before .before .before .before .before .before .before .before .before .before .before .before .args in stopped (λ _. []) (a .before) _ _ (rw add-sub-cancel-left at (c .before .before .before .before .before .check-group .ensures)) _ _ _ (λ _. counted 0 (marksOf (a .frame .area) (a .taken) (a .marks .now))) (c .before .group2 .given .1)
+
+abbrev check-rest-claims : ℕ → check-rest-lts.Claims
+check-rest-claims t = (check-extension-below t, check-extension.Post, check-pads-reads.Asked, check-pads-reads.Learnt)
+
+check-rest-check-extension-requires : (t : ℕ) → check-rest-lts.Need-check-extension-requires (check-rest-claims t) (check-rest-at t) check-rest.Post
+check-rest-check-extension-requires t c κs = (search needs, (c .before .before .before .before .before .pre .1 .0, c .before .before .before .before .before .pre .1 .1))
+
+check-rest-check-pads-requires : (t : ℕ) → check-rest-lts.Need-check-pads-requires (check-rest-claims t) (check-rest-at t) check-rest.Post
+check-rest-check-pads-requires t c κs = (omega (arith, c .before .before .before .before .before .before .check-extension .kept, c .before .before .before .before .before .before .before .before .before .before .before .before .pre .1 .0 .same), c .before .before .before .before .before .before .before .before .before .before .before .before .pre .1 .0 .small, c .before .before .before .before .before .before .before .before .before .before .before .before .pre .1 .0 .room)
+
+check-rest-returns : (t : ℕ) → check-rest-lts.Need-returns (check-rest-claims t) (check-rest-at t) check-rest.Post
+check-rest-returns t c = let a = c .before .before .before .before .before .before .before .before .before .before .before .before .before .before .before .args in c .before .before .check-pads .ensures ∙ sym (passed _ (a .before) _ _ (c .before .before .before .before .before .before .before .before .before .check-extension .ensures) _ _ (closing (a .bytes .now) (a .frame .base) (a .frame .area)) (c .before .before .before .before .before .extension .given .1))
+
+check-rest-returns-2 : (t : ℕ) → check-rest-lts.Need-returns-2 (check-rest-claims t) (check-rest-at t) check-rest.Post
+check-rest-returns-2 t c = let a = c .before .before .before .before .before .before .before .before .before .before .before .args in stopped _ (a .before) _ _ (c .before .before .before .before .before .check-extension .ensures) _ _ _ (closing (a .bytes .now) (a .frame .base) (a .frame .area)) (c .before .extension2 .given .1)
 
 abbrev check-value-claims : ℕ → check-value-lts.Claims
 check-value-claims t = (kind-at-reads.Asked, kind-at-reads.Learnt, is-sequence-reads.Asked, is-sequence-reads.Learnt, kind-width-reads.Asked, kind-width-reads.Learnt, locate-reads.Asked, locate-reads.Learnt, longer-reads.Asked, longer-reads.Learnt, check-items-below t, check-items.Post, check-item-below t, check-item.Post)
@@ -747,13 +804,13 @@ check-value-returns-3 : (t : ℕ) → check-value-lts.Need-returns-3 (check-valu
 check-value-returns-3 t c = let a = c .before .before .before .before .before .before .before .before .before .before .before .args in let t = a .table .now in
     c .before .before .check-item .ensures ∙ ap (λ x. after (a .before) (count x)) (sym (value-one (innerOf t (a .frame .levels)) (widthOf t (a .depth)) (staticOf t (a .frame .levels) (a .depth)) (fieldAt (enums t) (drop (a .field) t)) (within (a .bytes .now) (a .frame)) (a .at) (marksOf (a .frame .area) (a .taken) (a .marks .now)) _ (c .before .before .before .before .before .before .kind-at .ensures (enums t)) (sym (c .before .before .before .before .before .is-sequence .ensures (enums t)) ∙ c .before .before .before .before .if1 .left)))
 
-pub +check-body+check-contents+check-dynamic+check-extending+check-extension+check-field+check-fields+check-group+check-groups+check-item+check-items+check-nested+check-value-spec :
+pub +check-body+check-dynamic+check-dynamics+check-extending+check-extension+check-field+check-fields+check-group+check-groups+check-item+check-items+check-nested+check-rest+check-value-spec :
     {M : Type 1} → statement M
-+check-body+check-contents+check-dynamic+check-extending+check-extension+check-field+check-fields+check-group+check-groups+check-item+check-items+check-nested+check-value-spec =
++check-body+check-dynamic+check-dynamics+check-extending+check-extension+check-field+check-fields+check-group+check-groups+check-item+check-items+check-nested+check-rest+check-value-spec =
     close
     μ-check-body
-    μ-check-contents
     μ-check-dynamic
+    μ-check-dynamics
     μ-check-extending
     μ-check-extension
     μ-check-field
@@ -763,13 +820,16 @@ pub +check-body+check-contents+check-dynamic+check-extending+check-extension+che
     μ-check-item
     μ-check-items
     μ-check-nested
+    μ-check-rest
     μ-check-value (λ t. check-body-lts.spec (check-body-claims t) (check-body-at t)
-    check-body.Post (λ c κs. search needs) (λ c. search needs) (check-body-returns t) (λ c κs. search needs) (λ c. search needs) (check-body-returns-2 t) (λ c κs. search needs) (check-body-check-contents-requires t) (λ c. search needs) (λ c κs. search needs) (λ c κs. search needs) (λ c. search needs) (check-body-returns-3 t) (λ c. search needs) (λ c κs. search needs) (check-body-add-t31 t) (λ c. search needs) (λ c. search needs) (check-body-returns-4 t) (λ c. search needs) (check-body-returns-5 t)) (λ t. check-contents-lts.spec (check-contents-claims t) (check-contents-at t)
-    check-contents.Post (check-contents-check-fields-requires t) (λ c. search needs) (check-contents-check-extension-requires t) (λ c. search needs) (λ c. search needs) (check-contents-returns t) (λ c. search needs) (check-contents-returns-2 t)) (λ t. check-dynamic-lts.spec (check-dynamic-claims t) (check-dynamic-at t)
-    check-dynamic.Post (λ c κs. search needs) (λ c. search needs) (check-dynamic-add-check-nested t) (check-dynamic-check-nested-requires t) (λ c. search needs) (λ c. search needs) (check-dynamic-returns t) (λ c. search needs) (check-dynamic-returns-2 t)) (λ t. check-extending-lts.spec (check-extending-claims t) (check-extending-at t)
+    check-body.Post (λ c κs. search needs) (λ c. search needs) (check-body-returns t) (λ c κs. search needs) (λ c. search needs) (check-body-returns-2 t) (λ c κs. search needs) (check-body-check-fields-requires t) (λ c. search needs) (λ c κs. search needs) (λ c κs. search needs) (λ c. search needs) (check-body-returns-3 t) (check-body-check-pads-requires t) (λ c. search needs) (check-body-returns-4 t) (check-body-check-rest-requires t) (λ c. search needs) (λ c. search needs) (check-body-returns-5 t) (λ c. search needs) (check-body-returns-6 t)) (λ t. check-dynamic-lts.spec (check-dynamic-claims t) (check-dynamic-at t)
+    check-dynamic.Post (λ c κs. search needs) (λ c. search needs) (check-dynamic-add-check-nested t) (check-dynamic-check-nested-requires t) (λ c. search needs) (λ c. search needs) (check-dynamic-returns t) (λ c. search needs) (check-dynamic-returns-2 t)) (λ t. check-dynamics-lts.spec (check-dynamics-claims t) (check-dynamics-at t)
+    check-dynamics.Post
+    check-dynamics-Inv-loop
+    check-dynamics-μ-loop (check-dynamics-loop-holds t) (λ c κs. search needs) (check-dynamics-check-dynamic-requires t) (λ c. search needs) (λ c. search needs) (λ c. search needs) (check-dynamics-returns t) (λ c. search needs) (λ c. search needs) (λ c. search needs) (check-dynamics-loop-again t) (λ c. search needs) (check-dynamics-returns-2 t)) (λ t. check-extending-lts.spec (check-extending-claims t) (check-extending-at t)
     check-extending.Post (λ c κs. search needs) (λ c. search needs) (check-extending-add-t19 t) (λ c. search needs) (check-extending-returns t) (check-extending-add-read-u64 t) (check-extending-read-u64-requires t) (λ c κs. search needs) (check-extending-add-check-nested t) (λ c κs. search needs) (check-extending-check-nested-requires t) (λ c. search needs) (check-extending-returns-2 t) (check-extending-add-longer t) (λ c κs. search needs) (λ c. search needs) (λ c. search needs) (check-extending-returns-3 t) (λ c. search needs) (check-extending-returns-4 t)) (λ t. check-extension-lts.spec (check-extension-claims t) (check-extension-at t)
     check-extension.Post (λ c κs. search needs) (check-extension-returns t) (λ c κs. search needs) (λ c. search needs) (λ c. search needs) (check-extension-returns-2 t) (check-extension-add-check-groups t) (λ c κs. search needs) (check-extension-check-groups-requires t) (λ c. search needs) (λ c. search needs) (check-extension-returns-3 t) (λ c. search needs) (check-extension-returns-4 t)) (λ t. check-field-lts.spec (check-field-claims t) (check-field-at t)
-    check-field.Post (λ c κs. search needs) (check-field-shared-slice-read-if2 t) (λ c κs. search needs) (check-field-check-absent-requires t) (check-field-returns t) (λ c. search needs) (check-field-check-value-requires t) (λ c. search needs) (check-field-returns-2 t) (check-field-check-value-requires-2 t) (λ c. search needs) (check-field-returns-3 t)) (λ t. check-fields-lts.spec (check-fields-claims t) (check-fields-at t)
+    check-field.Post (λ c κs. search needs) (check-field-is-unset-requires t) (λ c κs. search needs) (check-field-check-absent-requires t) (check-field-returns t) (λ c κs. search needs) (check-field-add-check-value t) (check-field-check-value-requires t) (λ c. search needs) (check-field-returns-2 t)) (λ t. check-fields-lts.spec (check-fields-claims t) (check-fields-at t)
     check-fields.Post
     check-fields-Inv-loop
     check-fields-μ-loop (λ c κs. search needs) (check-fields-field-count-requires t) (check-fields-sub-deeper t) (λ c. search needs) (check-fields-loop-holds t) (λ c κs. search needs) (λ c. search needs) (λ c κs. search needs) (λ c. search needs) (λ c. search needs) (λ c. search needs) (λ c. search needs) (check-fields-loop-again t) (λ c κs. search needs) (check-fields-check-field-requires t) (λ c. search needs) (λ c. search needs) (λ c. search needs) (check-fields-returns t) (check-fields-add-place-2 t) (λ c. search needs) (λ c. search needs) (λ c. search needs) (check-fields-loop-again-2 t) (λ c. search needs) (check-fields-returns-2 t)) (λ t. check-group-lts.spec (check-group-claims t) (check-group-at t)
@@ -780,7 +840,8 @@ pub +check-body+check-contents+check-dynamic+check-extending+check-extension+che
     check-item.Post (λ c. search needs) (λ c κs. search needs) (λ c. search needs) (λ c κs. search needs) (λ c. search needs) (check-item-check-number-requires t) (λ c. search needs) (check-item-check-inline-requires t) (λ c. search needs) (check-item-check-text-requires t) (λ c. search needs) (λ c κs. search needs) (check-item-check-fields-requires t) (λ c. search needs) (λ c κs. search needs) (check-item-check-dynamic-requires t) (check-item-returns t) (check-item-returns-2 t) (check-item-returns-3 t) (λ c. search needs) (check-item-returns-4 t) (λ c. search needs) (check-item-returns-5 t) (λ c. search needs) (check-item-returns-6 t)) (λ t. check-items-lts.spec (check-items-claims t) (check-items-at t)
     check-items.Post
     check-items-Inv-loop
-    check-items-μ-loop (λ c. search needs) (λ c κs. search needs) (λ c. search needs) (check-items-mul-longer t) (λ c κs. search needs) (check-items-returns t) (check-items-loop-holds t) (check-items-check-item-requires t) (λ c. search needs) (λ c. search needs) (λ c. search needs) (check-items-returns-2 t) (λ c. search needs) (λ c. search needs) (λ c. search needs) (check-items-loop-again t) (λ c. search needs) (check-items-returns-3 t)) (λ t. check-nested-lts.spec (check-nested-claims t) (check-nested-at t)
-    check-nested.Post (λ c. search needs) (λ c. search needs) (λ c. search needs) (λ c. search needs) (λ c. search needs) (λ c. search needs) (λ c. search needs) (λ c. search needs) (check-nested-check-group-requires t) (λ c. search needs) (λ c κs. search needs) (λ c. search needs) (λ c. search needs) (check-nested-returns t) (λ c. search needs) (check-nested-returns-2 t))
+    check-items-μ-loop (λ c. search needs) (λ c κs. search needs) (λ c. search needs) (check-items-mul-longer t) (λ c κs. search needs) (check-items-returns t) (λ c. search needs) (check-items-check-texts-requires t) (λ c. search needs) (check-items-returns-2 t) (λ c. search needs) (check-items-check-dynamics-requires t) (λ c. search needs) (check-items-returns-3 t) (check-items-loop-holds t) (check-items-check-item-requires t) (λ c. search needs) (λ c. search needs) (λ c. search needs) (check-items-returns-4 t) (λ c. search needs) (λ c. search needs) (λ c. search needs) (check-items-loop-again t) (λ c. search needs) (check-items-returns-5 t)) (λ t. check-nested-lts.spec (check-nested-claims t) (check-nested-at t)
+    check-nested.Post (λ c. search needs) (λ c. search needs) (λ c. search needs) (λ c. search needs) (λ c. search needs) (λ c. search needs) (λ c. search needs) (λ c. search needs) (check-nested-check-group-requires t) (λ c. search needs) (λ c κs. search needs) (λ c. search needs) (λ c. search needs) (check-nested-returns t) (λ c. search needs) (check-nested-returns-2 t)) (λ t. check-rest-lts.spec (check-rest-claims t) (check-rest-at t)
+    check-rest.Post (check-rest-check-extension-requires t) (λ c. search needs) (check-rest-check-pads-requires t) (λ c. search needs) (λ c. search needs) (check-rest-returns t) (λ c. search needs) (check-rest-returns-2 t))
     λ t. check-value-lts.spec (check-value-claims t) (check-value-at t)
     check-value.Post (λ c κs. search needs) (λ c κs. search needs) (λ c κs. search needs) (check-value-locate-requires t) (λ c. search needs) (check-value-add-check-items t) (λ c κs. search needs) (check-value-check-items-requires t) (λ c. search needs) (check-value-returns t) (λ c. search needs) (λ c. search needs) (check-value-returns-2 t) (check-value-check-item-requires t) (λ c. search needs) (check-value-returns-3 t)

@@ -1,0 +1,15 @@
+//! Links the proved static library of this repository (`rt staticlib capi` writes it).
+use std::path::Path;
+
+fn main() {
+    let root = Path::new(env!("CARGO_MANIFEST_DIR"))
+        .ancestors()
+        .nth(2)
+        .expect("bindings/rust stands in the repository");
+    let folder = root.join("target/staticlib");
+    let archive = folder.join("libcapi.a");
+    assert!(archive.exists(), "{} is not there: run `rt staticlib capi` first", archive.display());
+    println!("cargo:rerun-if-changed={}", archive.display());
+    println!("cargo:rustc-link-search=native={}", folder.display());
+    println!("cargo:rustc-link-lib=static=capi");
+}

@@ -1,0 +1,31 @@
+//! Checks messages of the Blank group and prints the barcode of each one that is accepted:
+//!
+//!     cargo run --example check -- TABLE MESSAGE..
+//!
+//! `make examples` runs it on samples/. A refused message hands out nothing but its fault, whichever question is asked.
+use blink_native::{check_message, check_table, read_bytes, MESSAGE_LIMIT};
+use std::error::Error;
+
+/// Blank's first field: fields count from 0.
+const BARCODE: usize = 0;
+
+fn main() -> Result<(), Box<dyn Error>> {
+    let mut names = std::env::args().skip(1);
+    let table = std::fs::read(names.next().ok_or("usage: check TABLE MESSAGE..")?)?;
+    check_table(&table).map_err(|fault| fault.to_string())?;
+
+    let mut scratch = vec![0; MESSAGE_LIMIT];
+    for name in names {
+        let message = std::fs::read(&name)?;
+        match check_message(&table, &message, &mut scratch) {
+            Ok(()) => println!("{name}: accepted"),
+            Err(fault) => println!("{name}: refused, {fault}"),
+        }
+        // It makes every check itself, so it may be asked first.
+        match read_bytes(&table, &message, &mut scratch, BARCODE, 0) {
+            Ok(barcode) => println!("{name}: barcode {}", std::str::from_utf8(barcode)?),
+            Err(fault) => println!("{name}: no barcode, {fault}"),
+        }
+    }
+    Ok(())
+}

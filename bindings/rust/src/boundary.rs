@@ -1,0 +1,77 @@
+//! What include/blink_native.h declares.
+
+#[repr(C)]
+pub struct BlinkVerdict {
+    pub number: u32,
+    pub place: u64,
+}
+
+#[repr(C)]
+pub struct BlinkWritten {
+    pub number: u32,
+    pub place: u64,
+    pub length: u64,
+}
+
+#[repr(C)]
+pub struct BlinkNumber {
+    pub number: u32,
+    pub place: u64,
+    pub kind: u32,
+    pub exponent: i32,
+    pub bits: u64,
+}
+
+#[repr(C)]
+pub struct BlinkPart {
+    pub number: u32,
+    pub place: u64,
+    pub offset: u64,
+    pub length: u64,
+}
+
+extern "C" {
+    pub fn blink_check_table(table: *const u8, table_length: usize) -> BlinkVerdict;
+
+    pub fn blink_check_message(
+        table: *const u8,
+        table_length: usize,
+        message: *const u8,
+        message_length: usize,
+        scratch: *mut u8,
+        scratch_length: usize,
+    ) -> BlinkVerdict;
+
+    pub fn blink_message_to_sheet(
+        table: *const u8,
+        table_length: usize,
+        message: *const u8,
+        message_length: usize,
+        scratch: *mut u8,
+        scratch_length: usize,
+        sheet: *mut u8,
+        sheet_length: usize,
+    ) -> BlinkWritten;
+
+    pub fn blink_read_number(
+        table: *const u8,
+        table_length: usize,
+        message: *const u8,
+        message_length: usize,
+        scratch: *mut u8,
+        scratch_length: usize,
+        field: u64,
+        item: u64,
+    ) -> BlinkNumber;
+
+    pub fn blink_read_bytes(
+        table: *const u8,
+        table_length: usize,
+        message: *const u8,
+        message_length: usize,
+        scratch: *mut u8,
+        scratch_length: usize,
+        field: u64,
+        item: u64,
+    ) -> BlinkPart;
+}

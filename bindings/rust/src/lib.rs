@@ -1,0 +1,240 @@
+//! Blink Native (beta4) messages: the proved questions, safe for Rust.
+//!
+//! Every question takes any bytes, and makes every check it needs: a table, a message or a sheet may be asked about
+//! unseen. A refusal is an [`Err`] with the first [`Fault`]'s number and place, and hands out nothing.
+//!
+//! `scratch` is working room, at least as long as the message; [`MESSAGE_LIMIT`] bytes are enough for every message. After
+//! faults 20, 21 and 23 it is untouched. After every other answer its first bytes, as many as the message has, are zero,
+//! and the rest is untouched.
+//!
+//! ```
+//! // A bill has an amount and, perhaps, a tip.
+//! let table = b"GR\x02\0\0\0\0\0\0\0\x01\0\0\x02\0\0\
+//!               FD\x05\0\0\0\0\0\0\0\0\0\0\0\0\0\
+//!               FD\x05\x01\0\0\0\0\0\0\0\0\0\0\0\0";
+//! let message = b"\x15\0\0\0\x02\0\0\0\0\0\0\0\0\0\0\0\xe8\x03\0\0\x01\x64\0\0\0";
+//! let mut scratch = [0; blink_native::MESSAGE_LIMIT];
+//!
+//! use blink_native::Number;
+//! assert_eq!(blink_native::read_number(table, message, &mut scratch, 0, 0)?, Number::Unsigned(1000));
+//! assert_eq!(blink_native::read_number(table, message, &mut scratch, 1, 0)?, Number::Unsigned(100));
+//!
+//! // The presence flag of the tip, byte 20, must be 0 or 1.
+//! let mut damaged = *message;
+//! damaged[20] = 2;
+//! let fault = blink_native::read_number(table, &damaged, &mut scratch, 0, 0).unwrap_err();
+//! assert_eq!(fault.to_string(), "fault 11 at byte 20: a bool or a presence flag is neither 0 nor 1");
+//! # Ok::<(), blink_native::Fault>(())
+//! ```
+#![warn(missing_docs)]
+
+mod boundary;
+mod fault;
+
+pub use fault::Fault;
+
+/// No message is longer, in bytes.
+pub const MESSAGE_LIMIT: usize = 65_536;
+
+/// A sheet is at most this many times as long as its message.
+pub const SHEET_FACTOR: usize = 11;
+
+/// Whether it is accepted.
+pub type Verdict = Result<(), Fault>;
+
+/// A field's value that is a number.
+#[derive(Clone, Copy, Debug, PartialEq)]
+pub enum Number {
+    /// i8, i16, i32 and i64, dates and times, and the symbols of an enumeration.
+    Signed(i64),
+    /// u8, u16, u32 and u64, and times of day.
+    Unsigned(u64),
+    /// A bool.
+    Bool(bool),
+    /// `mantissa` times ten to `exponent`, as it stands in the message: 1 times ten and 10 times one differ.
+    Decimal {
+        /// The power of ten.
+        exponent: i8,
+        /// What it is times.
+        mantissa: i64,
+    },
+    /// The float whose bits are the message's eight bytes, a NaN's too.
+    Float(f64),
+}
+
+fn verdict(number: u32, place: u64) -> Verdict {
+    match number {
+        0 => Ok(()),
+        _ => Err(Fault { number: number as u8, place: place as usize }),
+    }
+}
+
+/// The bytes that were written at the start of a room.
+fn written(answer: boundary::BlinkWritten, room: &mut [u8]) -> Result<&mut [u8], Fault> {
+    verdict(answer.number, answer.place)?;
+    Ok(&mut room[..answer.length as usize])
+}
+
+/// Is the schema table accepted? Faults 30 to 35.
+///
+/// ```
+/// let fault = blink_native::check_table(b"not a table").unwrap_err();
+/// assert_eq!(fault.number, 30);
+/// ```
+pub fn check_table(table: &[u8]) -> Verdict {
+    // SAFETY: pointer and length are a slice's own.
+    let answer = unsafe { boundary::blink_check_table(table.as_ptr(), table.len()) };
+    verdict(answer.number, answer.place)
+}
+
+/// Is the message accepted under the table?
+///
+/// ```
+/// # let table = b"GR\x02\0\0\0\0\0\0\0\x01\0\0\x02\0\0\
+/// #               FD\x05\0\0\0\0\0\0\0\0\0\0\0\0\0\
+/// #               FD\x05\x01\0\0\0\0\0\0\0\0\0\0\0\0";
+/// # let message = b"\x15\0\0\0\x02\0\0\0\0\0\0\0\0\0\0\0\xe8\x03\0\0\x01\x64\0\0\0";
+/// let mut scratch = vec![0; message.len()];
+/// assert!(blink_native::check_message(table, message, &mut scratch).is_ok());
+///
+/// let cut = &message[..20];
+/// assert_eq!(blink_native::check_message(table, cut, &mut scratch).unwrap_err().number, 22);
+/// ```
+pub fn check_message(table: &[u8], message: &[u8], scratch: &mut [u8]) -> Verdict {
+    // SAFETY: pointers and lengths are slices' own, and no slice shares a byte with the scratch.
+    let answer = unsafe {
+        boundary::blink_check_message(
+            table.as_ptr(),
+            table.len(),
+            message.as_ptr(),
+            message.len(),
+            scratch.as_mut_ptr(),
+            scratch.len(),
+        )
+    };
+    verdict(answer.number, answer.place)
+}
+
+/// Writes the message's sheet, its meaning as a row of records, at the start of the room `sheet`, and answers that part.
+///
+/// A room of [`SHEET_FACTOR`] times the message's length is always enough; a shorter one may give fault 46. The rest of the
+/// room is untouched, and on a refusal all of it.
+///
+/// ```
+/// # let table = b"GR\x02\0\0\0\0\0\0\0\x01\0\0\x02\0\0\
+/// #               FD\x05\0\0\0\0\0\0\0\0\0\0\0\0\0\
+/// #               FD\x05\x01\0\0\0\0\0\0\0\0\0\0\0\0";
+/// # let message = b"\x15\0\0\0\x02\0\0\0\0\0\0\0\0\0\0\0\xe8\x03\0\0\x01\x64\0\0\0";
+/// let mut scratch = vec![0; message.len()];
+/// let mut room = vec![0; blink_native::SHEET_FACTOR * message.len()];
+/// let sheet = blink_native::message_to_sheet(table, message, &mut scratch, &mut room)?;
+/// assert_eq!(sheet, b"GB\x02\0\0\0\0\0\0\0VA\xe8\x03\0\0VA\x64\0\0\0GE");
+/// # Ok::<(), blink_native::Fault>(())
+/// ```
+pub fn message_to_sheet<'a>(
+    table: &[u8],
+    message: &[u8],
+    scratch: &mut [u8],
+    sheet: &'a mut [u8],
+) -> Result<&'a mut [u8], Fault> {
+    // SAFETY: pointers and lengths are slices' own, and no slice shares a byte with the scratch or the sheet room.
+    let answer = unsafe {
+        boundary::blink_message_to_sheet(
+            table.as_ptr(),
+            table.len(),
+            message.as_ptr(),
+            message.len(),
+            scratch.as_mut_ptr(),
+            scratch.len(),
+            sheet.as_mut_ptr(),
+            sheet.len(),
+        )
+    };
+    written(answer, sheet)
+}
+
+/// Reads a field of the message's own group as a number.
+///
+/// Fields count from 0, and so do the items of a sequence; `item` is 0 where the field is no sequence. After the message's
+/// own faults: 28 no such field, 29 absent, 28 no such item, 48 no number.
+///
+/// ```
+/// # let table = b"GR\x02\0\0\0\0\0\0\0\x01\0\0\x02\0\0\
+/// #               FD\x05\0\0\0\0\0\0\0\0\0\0\0\0\0\
+/// #               FD\x05\x01\0\0\0\0\0\0\0\0\0\0\0\0";
+/// # let message = b"\x15\0\0\0\x02\0\0\0\0\0\0\0\0\0\0\0\xe8\x03\0\0\x01\x64\0\0\0";
+/// # let mut scratch = vec![0; message.len()];
+/// use blink_native::{read_number, Number};
+/// assert_eq!(read_number(table, message, &mut scratch, 0, 0)?, Number::Unsigned(1000));
+/// assert_eq!(read_number(table, message, &mut scratch, 2, 0).unwrap_err().number, 28);
+/// # Ok::<(), blink_native::Fault>(())
+/// ```
+pub fn read_number(
+    table: &[u8],
+    message: &[u8],
+    scratch: &mut [u8],
+    field: usize,
+    item: usize,
+) -> Result<Number, Fault> {
+    // SAFETY: pointers and lengths are slices' own, and no slice shares a byte with the scratch.
+    let answer = unsafe {
+        boundary::blink_read_number(
+            table.as_ptr(),
+            table.len(),
+            message.as_ptr(),
+            message.len(),
+            scratch.as_mut_ptr(),
+            scratch.len(),
+            field as u64,
+            item as u64,
+        )
+    };
+    verdict(answer.number, answer.place)?;
+    let bits = answer.bits;
+    Ok(match answer.kind {
+        1 => Number::Signed(bits as i64),
+        2 => Number::Unsigned(bits),
+        3 => Number::Bool(bits != 0),
+        4 => Number::Decimal { exponent: answer.exponent as i8, mantissa: bits as i64 },
+        5 | 6 => Number::Float(f64::from_bits(bits)),
+        kind => unreachable!("a number of kind {kind}"),
+    })
+}
+
+/// A field's bytes, as they lie in the message: strings and binaries without their count, fixed fields, and dynamic groups
+/// with their size word, so that such a part is a message too.
+///
+/// `field`, `item` and faults are as for [`read_number`]; 48 says that the field has no bytes to hand out.
+///
+/// ```
+/// // A greeting is a string.
+/// let table = b"GR\x01\0\0\0\0\0\0\0\x01\0\0\x01\0\0\
+///               FD\x11\0\0\0\0\0\0\0\0\0\0\0\0\0";
+/// let message = b"\x19\0\0\0\x01\0\0\0\0\0\0\0\0\0\0\0\x04\0\0\0\x05\0\0\0Hello";
+/// let mut scratch = vec![0; message.len()];
+/// assert_eq!(blink_native::read_bytes(table, message, &mut scratch, 0, 0)?, b"Hello");
+/// # Ok::<(), blink_native::Fault>(())
+/// ```
+pub fn read_bytes<'a>(
+    table: &[u8],
+    message: &'a [u8],
+    scratch: &mut [u8],
+    field: usize,
+    item: usize,
+) -> Result<&'a [u8], Fault> {
+    // SAFETY: pointers and lengths are slices' own, and no slice shares a byte with the scratch.
+    let answer = unsafe {
+        boundary::blink_read_bytes(
+            table.as_ptr(),
+            table.len(),
+            message.as_ptr(),
+            message.len(),
+            scratch.as_mut_ptr(),
+            scratch.len(),
+            field as u64,
+            item as u64,
+        )
+    };
+    verdict(answer.number, answer.place)?;
+    Ok(&message[answer.offset as usize..][..answer.length as usize])
+}

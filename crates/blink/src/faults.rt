@@ -1,0 +1,77 @@
+// Document 01's faults.
+use crate::lines;
+use crate::print;
+
+// What each means, in plain words. This is the one list of them: `blink faults` prints it.
+const MEANINGS: [u8; 2064] =
+    *b" 1 a group's size is under 12: too short for its type id and its extension offset
+ 2 no group of the table has this type id
+ 3 the extension offset leads outside the group's data area
+ 4 a byte of an absent field is not zero
+ 5 an offset leads outside the group's data area
+ 6 a byte of the data area that belongs to no value is not zero
+ 7 the count of an inline string or binary is over its capacity
+ 8 an unused byte of an inline string or binary is not zero
+ 9 a string is not valid UTF-8
+10 the enumeration has no symbol of this value
+11 a bool or a presence flag is neither 0 nor 1
+12 a time of day is 24 hours or more
+13 the items of a sequence run past the data area
+14 a group's size is too small for its fields
+20 the table is refused
+21 the scratch is shorter than the message
+22 the message is under 4 bytes long, or its length is not 4 plus its size
+23 the message is longer than 65536 bytes
+24 a group lies deeper than level 8
+25 a group of this type is not allowed here
+26 a value runs past the data area
+27 a value lies on a byte that another value has taken
+28 there is no such field, or no such item in it
+29 the field is absent
+30 the table is empty, longer than 65536 bytes, or not made of records of 16 bytes
+31 a record's mark is not the one due, a record is missing, a count is out of range, or there are more than 64 enumerations or groups
+32 a byte that must be zero is not, or a flag is neither 0 nor 1
+33 a type, size, reference or super group is out of range
+34 symbols do not rise, a type id comes twice, or no group has one
+35 a group is wider than 4096 bytes, its static groups nest deeper than 4, or a static field's group has no width
+40 the sheet ends inside a record
+41 a record's mark is not the one due
+42 the sheet is longer than 1048576 bytes
+43 bytes follow the end of the message's group
+44 an extension of no groups is written as no record
+45 a group kept as unknown has a type id of the table
+46 the sheet is longer than its room
+47 the message is longer than its room or than 65536 bytes
+48 the field is of another kind
+";
+
+pub fn print_all() {
+    let text = MEANINGS;
+    print::text(&text);
+}
+
+pub fn print_meaning(number: u8) {
+    let text = MEANINGS;
+    lines::print_words(&text, number);
+    print::text(b"\n");
+}
+
+// The line for programs.
+pub fn print_refusal(number: u8, place: usize) {
+    print::text(b"refused ");
+    print::number(number as usize);
+    print::text(b" at ");
+    print::number(place);
+    print::text(b"\n");
+}
+
+// Whether the fault's place is a byte to look at. The others' place is 0 and says nothing.
+pub fn has_place(number: u8) -> bool {
+    match number {
+        20 | 21 | 22 | 23 => false,
+        28 | 29 | 30 => false,
+        42 => false,
+        46 | 47 | 48 => false,
+        _ => true,
+    }
+}

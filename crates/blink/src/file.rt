@@ -1,0 +1,92 @@
+// Files that an argument names. Where one cannot be read or written, standard output says `error` and standard error why.
+use crate::print;
+use libc::STDERR_FILENO;
+
+// What `load` answers where the file is not in the room: more than any room's length.
+pub const FAILED: usize = 0xffff_ffff_ffff_ffff;
+
+pub fn print_error() {
+    print::text(b"error\n");
+}
+
+fn fail(name: &[u8]) {
+    os::fail(name);
+    print_error();
+}
+
+fn fail_long(name: &[u8], most: usize) {
+    io::write_all(STDERR_FILENO, name);
+    io::write_all(STDERR_FILENO, b": longer than ");
+    io::print_decimal(STDERR_FILENO, most as u64);
+    io::write_all(STDERR_FILENO, b" bytes\n");
+    print_error();
+}
+
+// Puts the file that argument `i` names at the start of the room, and answers its length.
+pub fn load(i: usize, room: &mut [u8]) -> usize {
+    let mut name = io::buffer();
+    let n = os::arg(i, &mut name);
+    if os::errno() != 0 {
+        fail(b"name");
+        return FAILED;
+    }
+    let fd = os::open_read(&name[..n]);
+    if fd < 0 {
+        fail(&name[..n]);
+        return FAILED;
+    }
+    let length = load_open(fd, &name[..n], room);
+    libc::close(fd);
+    length
+}
+
+// A short count may be a failed read, and a full one not all of the file: one more read tells.
+fn load_open(fd: i32, name: &[u8], room: &mut [u8]) -> usize {
+    let length = io::read_full(fd, room);
+    let mut next = [0u8; 1];
+    let more = libc::read(fd, &mut next);
+    if more < 0 {
+        fail(name);
+        return FAILED;
+    }
+    if 0 < more {
+        fail_long(name, room.len());
+        return FAILED;
+    }
+    length
+}
+
+// Makes the first `length` bytes of the room the whole contents of the file that argument `i` names.
+pub fn save(i: usize, room: &[u8], length: usize) {
+    if room.len() < length {
+        return;
+    }
+    save_bytes(i, &room[0..length]);
+}
+
+fn save_bytes(i: usize, bytes: &[u8]) {
+    let mut name = io::buffer();
+    let n = os::arg(i, &mut name);
+    if os::errno() != 0 {
+        fail(b"name");
+        return;
+    }
+    let fd = os::open_overwrite(&name[..n]);
+    if fd < 0 {
+        fail(&name[..n]);
+        return;
+    }
+    save_open(fd, &name[..n], bytes);
+    libc::close(fd);
+}
+
+fn save_open(fd: i32, name: &[u8], bytes: &[u8]) {
+    let written = io::write_all(fd, bytes);
+    if !written {
+        fail(name);
+        return;
+    }
+    print::text(b"done ");
+    print::number(bytes.len());
+    print::text(b"\n");
+}

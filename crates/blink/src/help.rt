@@ -1,0 +1,17 @@
+// What the command is for.
+
+pub fn print(fd: i32) {
+    io::write_all(
+        fd,
+        b"blink check TABLE MESSAGE               whether the message is accepted
+blink read TABLE MESSAGE FIELD [ITEM]   the value of a field; fields and items count from 0
+blink show TABLE MESSAGE                every field, as indented text
+blink sheet TABLE MESSAGE OUT           writes the message's sheet to the file OUT
+blink faults                            what each fault's number means
+blink help                              this text
+
+The first line of an answer is for programs: accepted, refused NUMBER at PLACE, done LENGTH, a field's kind and
+value, or error. The reason of an error is on standard error.
+",
+    );
+}

@@ -1,0 +1,64 @@
+// One field's value on one line: its kind, and the value.
+use crate::print;
+use crate::rows;
+use crate::value;
+use codec::Number;
+use codec::Verdict;
+
+// Prints the value, or answers why there is none.
+pub fn print_field(
+    table: &[u8],
+    message: &[u8],
+    scratch: &mut [u8],
+    field: usize,
+    item: usize,
+) -> Verdict {
+    let n = codec::read_number(table, message, scratch, field, item);
+    match n {
+        Number::Refused { number, place } => {
+            if number == 48 {
+                return print_bytes(table, message, scratch, field, item);
+            }
+            Verdict::Refused { number, place }
+        }
+        _ => {
+            print_number(n);
+            Verdict::Accepted
+        }
+    }
+}
+
+fn print_number(n: Number) {
+    value::print_kind(n);
+    value::print_number(n);
+    print::text(b"\n");
+}
+
+// The field is no number: "48 other kind".
+fn print_bytes(
+    table: &[u8],
+    message: &[u8],
+    scratch: &mut [u8],
+    field: usize,
+    item: usize,
+) -> Verdict {
+    let v = codec::read_bytes_verdict(table, message, scratch, field, item);
+    match v {
+        Verdict::Accepted => {
+            let bytes = codec::read_bytes(table, message, scratch, field, item);
+            print_part(
+                rows::field_type(table, rows::message_field(table, message, field)),
+                bytes,
+            );
+            Verdict::Accepted
+        }
+        Verdict::Refused { number, place } => Verdict::Refused { number, place },
+    }
+}
+
+fn print_part(number: u8, bytes: &[u8]) {
+    value::print_type(number);
+    print::text(b" ");
+    value::print_bytes(number, bytes);
+    print::text(b"\n");
+}

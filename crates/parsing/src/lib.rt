@@ -1,0 +1,716 @@
+// From a sheet to its message, first pass: the sheet's first fault, or how long the message is.
+//
+// The sheet is read record by record, in document 01's order, and nothing is written. How many bytes
+// a group's fields take is known from the table, so only what goes into data areas is counted. `pos`
+// is where the next record begins in the sheet, and functions count on from `before`.
+ghost use mathlib.Core.Path.{_≡_};
+ghost use mathlib.Core.Bool.{true, _&&_};
+ghost use mathlib.Core.List.{List};
+ghost use Prim.Native.Nat.{ℕ, _+_, _<_, _≤_, _^_};
+ghost use lib.ListN.{length, drop};
+ghost use Rattle.wire.specs.Bytes.{part, same};
+ghost use Rattle.schema.specs.Schema.{inline, kindWidth, shallowKind, shallow};
+ghost use Rattle.schema.specs.Table.{fieldAt, enums, schema};
+ghost use Rattle.schema.specs.Layout.{Layout};
+ghost use Rattle.schema.specs.FieldKinds.{kindFrom, testedKind};
+ghost use Rattle.message.specs.Sheet.{ST, XU, NO, markBytes};
+ghost use Rattle.message.specs.Check.{widthOf};
+ghost use Rattle.sheet.specs.Written.{InnerW, Writer, markedW, indirectW, textB, itemsW, extendingB, extensionW, sheetW};
+ghost use Rattle.parsing.specs.Count.{capped};
+ghost use Rattle.parsing.specs.Parse.{parsedOf, Finds, recordFault, countedFault, itemW, endW, innerOf, staticOf, plainOf, itemOf, fieldOf, openedOf, bodyOf, extendingOf, Ready};
+
+const VA: [u8; 2] = *b"VA";
+
+const ST: [u8; 2] = *b"ST";
+
+const SG: [u8; 2] = *b"SG";
+
+const SQ: [u8; 2] = *b"SQ";
+
+const GB: [u8; 2] = *b"GB";
+
+const XT: [u8; 2] = *b"XT";
+
+const XU: [u8; 2] = *b"XU";
+
+const NO: [u8; 2] = *b"NO";
+
+const GE: [u8; 2] = *b"GE";
+
+// What a step finds: where the next record begins, and how many bytes there are so far. Where `number`
+// is not 0 it is the first fault's, and `place` is where that stands. The number has a whole word, so
+// that a step is copied in words.
+struct Step {
+    number: usize,
+    place: usize,
+    length: usize,
+}
+
+// The answer for a whole sheet: the length of its message, or the first fault.
+pub enum Parsed {
+    Counted { length: usize },
+    Refused { number: u8, place: usize },
+}
+
+// The count, some bytes further. A message of more than 65,536 bytes is refused however long it is, so
+// the count stops above.
+fn longer(length: usize, by: usize) -> usize
+    requires { ⌜ length + by < 2 ^ 64 ⌝ }
+    ensures { λ r. ⌜ (r ≡ capped (length + by)) × (r ≤ 65537) ⌝ }
+{
+    if length + by < 65537 {
+        return length + by;
+    }
+    65537
+}
+
+// RECORDS
+
+// Whether the next record has this mark.
+fn stands(sheet: &[u8], pos: usize, mark: [u8; 2]) -> bool
+    requires { ⌜ (pos ≤ length (now sheet)) × (length (now sheet) ≤ 1048576) ⌝ }
+    ensures { λ r. ⌜ r ≡ same (part 2 pos (now (sheet .entry))) mark ⌝ }
+{
+    if sheet.len() < pos + 2 {
+        return false;
+    }
+    wire::has_mark(sheet, pos, mark)
+}
+
+// "40 on the mark, 41, 40 on the rest", or 0: a record of this mark and n bytes.
+fn record_fault(sheet: &[u8], pos: usize, mark: [u8; 2], n: usize) -> usize
+    requires { ⌜ (pos ≤ length (now sheet)) × (length (now sheet) ≤ 1048576) × (n < 256) ⌝ }
+    ensures { λ r. ⌜ r ≡ recordFault mark n (drop pos (now (sheet .entry))) ⌝ }
+{
+    if sheet.len() < pos + 2 {
+        return 40;
+    }
+    if wire::has_mark(sheet, pos, mark) {
+        if sheet.len() < pos + (2 + n) {
+            return 40;
+        }
+        return 0;
+    }
+    41
+}
+
+// The same of a record of this mark, a count and so many bytes.
+fn counted_fault(sheet: &[u8], pos: usize, mark: [u8; 2]) -> usize
+    requires { ⌜ (pos ≤ length (now sheet)) × (length (now sheet) ≤ 1048576) ⌝ }
+    ensures { λ r. ⌜ r ≡ countedFault mark (drop pos (now (sheet .entry))) ⌝ }
+{
+    let fault = record_fault(sheet, pos, mark, 4);
+    if fault != 0 {
+        return fault;
+    }
+    let count = wire::read_u32(sheet, pos + 2);
+    if sheet.len() < pos + (6 + count) {
+        return 40;
+    }
+    0
+}
+
+// VALUES THAT HOLD NO OTHER
+
+fn check_plain(sheet: &[u8], width: usize, pos: usize, before: usize) -> Step
+    requires { ⌜ (Ready (now sheet) pos before) × (width < 256) ⌝ }
+    ensures { λ r. ⌜ Finds (now (sheet .entry)) before (plainOf width) pos r ⌝ }
+{
+    let fault = record_fault(sheet, pos, VA, width);
+    if fault != 0 {
+        return Step {
+            number: fault,
+            place: pos,
+            length: 0,
+        };
+    }
+    Step {
+        number: 0,
+        place: pos + (2 + width),
+        length: before,
+    }
+}
+
+// "10, 11, 12: no such symbol; bool or flag not 0, 1; 24 hours or more"
+fn check_number(
+    table: &[u8],
+    index: &[u16],
+    sheet: &[u8],
+    tested: schema::Tested,
+    pos: usize,
+    before: usize,
+) -> Step
+    requires { ⌜ (Layout (now table) (now index)) × (Ready (now sheet) pos before) ⌝ }
+    ensures { λ r. ⌜ ((I : InnerW) (S : ℕ → Writer) → Finds (now (sheet .entry)) before (itemW I S (testedKind (enums (now (table .entry))) tested)) pos r) ⌝ }
+{
+    let width = wire::wide(schema::tested_width(tested));
+    let fault = record_fault(sheet, pos, VA, width);
+    if fault != 0 {
+        return Step {
+            number: fault,
+            place: pos,
+            length: 0,
+        };
+    }
+    let wrong = wire::wide(schema::test_fault(table, index, tested, sheet, pos + 2));
+    if wrong != 0 {
+        return Step {
+            number: wrong,
+            place: pos,
+            length: 0,
+        };
+    }
+    Step {
+        number: 0,
+        place: pos + (2 + width),
+        length: before,
+    }
+}
+
+// "Inline text: 7, 9": it takes its capacity in place, whatever its count.
+fn check_inline(sheet: &[u8], utf8: bool, capacity: u8, pos: usize, before: usize) -> Step
+    requires { ⌜ Ready (now sheet) pos before ⌝ }
+    ensures { λ r. ⌜ ((I : InnerW) (S : ℕ → Writer) → Finds (now (sheet .entry)) before (itemW I S (inline utf8 capacity)) pos r) ⌝ }
+{
+    let fault = counted_fault(sheet, pos, ST);
+    if fault != 0 {
+        return Step {
+            number: fault,
+            place: pos,
+            length: 0,
+        };
+    }
+    let count = wire::read_u32(sheet, pos + 2);
+    if wire::wide(capacity) < count {
+        return Step {
+            number: 7,
+            place: pos,
+            length: 0,
+        };
+    }
+    if schema::is_text(utf8, sheet, pos + 6, count) {
+        return Step {
+            number: 0,
+            place: pos + (6 + count),
+            length: before,
+        };
+    }
+    Step {
+        number: 9,
+        place: pos,
+        length: 0,
+    }
+}
+
+// Indirect text: its count and its bytes go into the data area.
+fn check_text(sheet: &[u8], utf8: bool, pos: usize, before: usize) -> Step
+    requires { ⌜ Ready (now sheet) pos before ⌝ }
+    ensures { λ r. ⌜ Finds (now (sheet .entry)) before (markedW ST (indirectW (textB utf8))) pos r ⌝ }
+{
+    let fault = counted_fault(sheet, pos, ST);
+    if fault != 0 {
+        return Step {
+            number: fault,
+            place: pos,
+            length: 0,
+        };
+    }
+    let count = wire::read_u32(sheet, pos + 2);
+    if schema::is_text(utf8, sheet, pos + 6, count) {
+        return Step {
+            number: 0,
+            place: pos + (6 + count),
+            length: longer(before, 4 + count),
+        };
+    }
+    Step {
+        number: 9,
+        place: pos,
+        length: 0,
+    }
+}
+
+// "`XU` size u32 and that many bytes is a group of unknown type": "1, 45".
+fn check_kept(table: &[u8], index: &[u16], sheet: &[u8], pos: usize, before: usize) -> Step
+    requires { ⌜ (Layout (now table) (now index)) × (Ready (now sheet) pos before) × (same (part 2 pos (now sheet)) (markBytes XU) ≡ true) ⌝ }
+    ensures { λ r. ⌜ ((I : InnerW) → Finds (now (sheet .entry)) before (indirectW (extendingB (schema (now (table .entry))) I)) pos r) ⌝ }
+{
+    let fault = counted_fault(sheet, pos, XU);
+    if fault != 0 {
+        return Step {
+            number: fault,
+            place: pos,
+            length: 0,
+        };
+    }
+    let count = wire::read_u32(sheet, pos + 2);
+    if count < 12 {
+        return Step {
+            number: 1,
+            place: pos,
+            length: 0,
+        };
+    }
+    if schema::is_known(table, index, wire::read_u64(sheet, pos + 6)) {
+        return Step {
+            number: 45,
+            place: pos,
+            length: 0,
+        };
+    }
+    Step {
+        number: 0,
+        place: pos + (6 + count),
+        length: longer(before, 4 + count),
+    }
+}
+
+// So many plain values in a row, each its own record.
+fn check_plains(sheet: &[u8], width: usize, total: usize, pos: usize, before: usize) -> Step
+    requires { ⌜ (Ready (now sheet) pos before) × (width < 256) ⌝ }
+    ensures { λ r. ⌜ Finds (now (sheet .entry)) before (itemsW width (plainOf width) total) pos r ⌝ }
+{
+    let mut i = 0;
+    let mut next = pos;
+    while i < total {
+        let fault = record_fault(sheet, next, VA, width);
+        if fault != 0 {
+            return Step {
+                number: fault,
+                place: next,
+                length: 0,
+            };
+        }
+        next += 2 + width;
+        i += 1;
+    }
+    Step {
+        number: 0,
+        place: next,
+        length: before,
+    }
+}
+
+// "`NO` is an absent field": whether it stands for the field whose record is at `field`.
+fn is_absent(table: &[u8], sheet: &[u8], field: usize, pos: usize) -> bool
+    requires { ⌜ (field + 16 ≤ length (now table)) × (pos ≤ length (now sheet)) × (length (now sheet) ≤ 1048576) ⌝ }
+    ensures { λ r. ⌜ ((es : List (List ℕ)) → r ≡ fieldAt es (drop field (now (table .entry))) .optional && same (part 2 pos (now (sheet .entry))) NO) ⌝ }
+{
+    if schema::is_optional(table, field) {
+        return stands(sheet, pos, NO);
+    }
+    false
+}
+
+// "`GE` closes it"
+fn check_end(sheet: &[u8], pos: usize, before: usize) -> Step
+    requires { ⌜ Ready (now sheet) pos before ⌝ }
+    ensures { λ r. ⌜ Finds (now (sheet .entry)) before endW pos r ⌝ }
+{
+    let fault = record_fault(sheet, pos, GE, 0);
+    if fault != 0 {
+        return Step {
+            number: fault,
+            place: pos,
+            length: 0,
+        };
+    }
+    Step {
+        number: 0,
+        place: pos + 2,
+        length: before,
+    }
+}
+
+// GROUPS, FIELDS AND ITEMS
+
+// "`GB` type id u64 opens a group": "2, 25, 24". `levels` are left for it, and `allowed` is the number
+// of the dynamic kind that names it.
+fn check_group(
+    table: &[u8],
+    index: &[u16],
+    sheet: &[u8],
+    levels: usize,
+    allowed: usize,
+    pos: usize,
+    before: usize,
+) -> Step
+    requires { ⌜ (Layout (now table) (now index)) × (Ready (now sheet) pos before) ⌝ }
+    ensures { λ r. ⌜ Finds (now (sheet .entry)) before (openedOf (now (table .entry)) levels allowed) pos r ⌝ }
+{
+    let fault = record_fault(sheet, pos, GB, 8);
+    if fault != 0 {
+        return Step {
+            number: fault,
+            place: pos,
+            length: 0,
+        };
+    }
+    let total = schema::group_total(index);
+    let group = schema::find(table, index, total, wire::read_u64(sheet, pos + 2));
+    if total <= group {
+        return Step {
+            number: 2,
+            place: pos,
+            length: 0,
+        };
+    }
+    if schema::allows(table, index, allowed, group) {
+        if levels == 0 {
+            return Step {
+                number: 24,
+                place: pos,
+                length: 0,
+            };
+        }
+        return check_body(table, index, sheet, levels - 1, group, pos + 10, before);
+    }
+    Step {
+        number: 25,
+        place: pos,
+        length: 0,
+    }
+}
+
+// The fields, the extension and the end of a group with so many levels left below it. Its head and its
+// fields take 16 bytes and its width.
+fn check_body(
+    table: &[u8],
+    index: &[u16],
+    sheet: &[u8],
+    levels: usize,
+    group: usize,
+    pos: usize,
+    before: usize,
+) -> Step
+    requires { ⌜ (Layout (now table) (now index)) × (Ready (now sheet) pos before) × (group < length (schema (now table))) ⌝ }
+    ensures { λ r. ⌜ ((id : List ℕ) → length id ≡ 8 → Finds (now (sheet .entry)) before (bodyOf (now (table .entry)) levels group id) pos r) ⌝ }
+{
+    let start = longer(before, 16 + schema::group_width(index, group));
+    let fields = check_fields(table, index, sheet, levels, 5, group, pos, start);
+    if fields.number != 0 {
+        return fields;
+    }
+    let extension = check_extension(table, index, sheet, levels, fields.place, fields.length);
+    if extension.number != 0 {
+        return extension;
+    }
+    check_end(sheet, extension.place, extension.length)
+}
+
+// The fields of a group whose static depth is below `depth`. Required plain values are passed over
+// here, without a call.
+fn check_fields(
+    table: &[u8],
+    index: &[u16],
+    sheet: &[u8],
+    levels: usize,
+    depth: usize,
+    group: usize,
+    pos: usize,
+    before: usize,
+) -> Step
+    requires { ⌜ (Layout (now table) (now index)) × (Ready (now sheet) pos before) × (group < length (schema (now table))) × (shallow (schema (now table)) depth group ≡ true) ⌝ }
+    ensures { λ r. ⌜ Finds (now (sheet .entry)) before (staticOf (now (table .entry)) levels depth group) pos r ⌝ }
+{
+    let start = schema::group_place(index, group);
+    let total = schema::field_count(table, start);
+    let deeper = depth - 1;
+    let mut i = 0;
+    let mut field = start + 16;
+    let mut next = pos;
+    let mut length = before;
+    while i < total {
+        let plain = schema::plain_width(table, field);
+        if plain != 0 {
+            let fault = record_fault(sheet, next, VA, plain);
+            if fault != 0 {
+                return Step {
+                    number: fault,
+                    place: next,
+                    length: 0,
+                };
+            }
+            next += 2 + plain;
+            field += 16;
+            i += 1;
+            continue;
+        }
+        let answer = check_field(table, index, sheet, levels, deeper, field, next, length);
+        if answer.number != 0 {
+            return answer;
+        }
+        next = answer.place;
+        length = answer.length;
+        field += 16;
+        i += 1;
+    }
+    Step {
+        number: 0,
+        place: next,
+        length,
+    }
+}
+
+// The field whose record stands at `field` of the table: absent, "`SQ` count u32, then the items", or
+// one value.
+fn check_field(
+    table: &[u8],
+    index: &[u16],
+    sheet: &[u8],
+    levels: usize,
+    depth: usize,
+    field: usize,
+    pos: usize,
+    before: usize,
+) -> Step
+    requires { ⌜ (Layout (now table) (now index)) × (Ready (now sheet) pos before) × (field + 16 ≤ length (now table)) × (shallowKind (shallow (schema (now table)) depth) (widthOf (now table) depth) (fieldAt (enums (now table)) (drop field (now table)) .kind) ≡ true) ⌝ }
+    ensures { λ r. ⌜ Finds (now (sheet .entry)) before (fieldOf (now (table .entry)) levels depth field) pos r ⌝ }
+{
+    if is_absent(table, sheet, field, pos) {
+        return Step {
+            number: 0,
+            place: pos + 2,
+            length: before,
+        };
+    }
+    let kind = schema::kind_at(table, field);
+    if schema::is_sequence(table, field) {
+        let fault = record_fault(sheet, pos, SQ, 4);
+        if fault != 0 {
+            return Step {
+                number: fault,
+                place: pos,
+                length: 0,
+            };
+        }
+        let count = wire::read_u32(sheet, pos + 2);
+        let width = schema::kind_width(index, kind);
+        let body = longer(before, 4 + count * width);
+        return check_items(
+            table,
+            index,
+            sheet,
+            levels,
+            depth,
+            kind,
+            width,
+            count,
+            pos + 6,
+            body,
+        );
+    }
+    check_item(table, index, sheet, levels, depth, kind, pos, before)
+}
+
+// So many items, each of `width` bytes in place. A count with no items behind it ends at the first
+// that is missing.
+fn check_items(
+    table: &[u8],
+    index: &[u16],
+    sheet: &[u8],
+    levels: usize,
+    depth: usize,
+    kind: schema::FieldKind,
+    width: usize,
+    total: usize,
+    pos: usize,
+    before: usize,
+) -> Step
+    requires { ⌜ (Layout (now table) (now index)) × (Ready (now sheet) pos before) × (width ≡ kindWidth (widthOf (now table) depth) (kindFrom (enums (now table)) kind)) × (shallowKind (shallow (schema (now table)) depth) (widthOf (now table) depth) (kindFrom (enums (now table)) kind) ≡ true) ⌝ }
+    ensures { λ r. ⌜ Finds (now (sheet .entry)) before (itemsW width (itemOf (now (table .entry)) levels depth kind) total) pos r ⌝ }
+{
+    if let schema::FieldKind::Plain { width: plain } = kind {
+        return check_plains(sheet, wire::wide(plain), total, pos, before);
+    }
+    let mut i = 0;
+    let mut next = pos;
+    let mut length = before;
+    while i < total {
+        let item = check_item(table, index, sheet, levels, depth, kind, next, length);
+        if item.number != 0 {
+            return item;
+        }
+        next = item.place;
+        length = item.length;
+        i += 1;
+    }
+    Step {
+        number: 0,
+        place: next,
+        length,
+    }
+}
+
+fn check_item(
+    table: &[u8],
+    index: &[u16],
+    sheet: &[u8],
+    levels: usize,
+    depth: usize,
+    kind: schema::FieldKind,
+    pos: usize,
+    before: usize,
+) -> Step
+    requires { ⌜ (Layout (now table) (now index)) × (Ready (now sheet) pos before) × (shallowKind (shallow (schema (now table)) depth) (widthOf (now table) depth) (kindFrom (enums (now table)) kind) ≡ true) ⌝ }
+    ensures { λ r. ⌜ Finds (now (sheet .entry)) before (itemOf (now (table .entry)) levels depth kind) pos r ⌝ }
+{
+    match kind {
+        schema::FieldKind::Plain { width } => check_plain(sheet, wire::wide(width), pos, before),
+        schema::FieldKind::Number { tested } => check_number(
+            table,
+            index,
+            sheet,
+            tested,
+            pos,
+            before,
+        ),
+        schema::FieldKind::Inline { utf8, capacity } => check_inline(
+            sheet,
+            utf8,
+            capacity,
+            pos,
+            before,
+        ),
+        schema::FieldKind::Indirect { utf8 } => check_text(sheet, utf8, pos, before),
+        schema::FieldKind::Static { group } => {
+            let fault = record_fault(sheet, pos, SG, 0);
+            if fault != 0 {
+                return Step {
+                    number: fault,
+                    place: pos,
+                    length: 0,
+                };
+            }
+            check_fields(table, index, sheet, levels, depth, group, pos + 2, before)
+        }
+        schema::FieldKind::Dynamic { allowed } => check_group(
+            table,
+            index,
+            sheet,
+            levels,
+            allowed,
+            pos,
+            before,
+        ),
+    }
+}
+
+// "the extension is last"; where no `XT` stands there is none.
+fn check_extension(
+    table: &[u8],
+    index: &[u16],
+    sheet: &[u8],
+    levels: usize,
+    pos: usize,
+    before: usize,
+) -> Step
+    requires { ⌜ (Layout (now table) (now index)) × (Ready (now sheet) pos before) ⌝ }
+    ensures { λ r. ⌜ Finds (now (sheet .entry)) before (extensionW (schema (now (table .entry))) (innerOf (now (table .entry)) levels)) pos r ⌝ }
+{
+    if stands(sheet, pos, XT) {
+        let fault = record_fault(sheet, pos, XT, 4);
+        if fault != 0 {
+            return Step {
+                number: fault,
+                place: pos,
+                length: 0,
+            };
+        }
+        let count = wire::read_u32(sheet, pos + 2);
+        if count == 0 {
+            return Step {
+                number: 44,
+                place: pos,
+                length: 0,
+            };
+        }
+        let body = longer(before, 4 + count * 4);
+        return check_groups(table, index, sheet, levels, count, pos + 6, body);
+    }
+    Step {
+        number: 0,
+        place: pos,
+        length: before,
+    }
+}
+
+fn check_groups(
+    table: &[u8],
+    index: &[u16],
+    sheet: &[u8],
+    levels: usize,
+    total: usize,
+    pos: usize,
+    before: usize,
+) -> Step
+    requires { ⌜ (Layout (now table) (now index)) × (Ready (now sheet) pos before) ⌝ }
+    ensures { λ r. ⌜ Finds (now (sheet .entry)) before (itemsW 4 (extendingOf (now (table .entry)) levels) total) pos r ⌝ }
+{
+    let mut i = 0;
+    let mut next = pos;
+    let mut length = before;
+    while i < total {
+        let group = check_extending(table, index, sheet, levels, next, length);
+        if group.number != 0 {
+            return group;
+        }
+        next = group.place;
+        length = group.length;
+        i += 1;
+    }
+    Step {
+        number: 0,
+        place: next,
+        length,
+    }
+}
+
+// A group of the extension; one of unknown type is kept as bytes.
+fn check_extending(
+    table: &[u8],
+    index: &[u16],
+    sheet: &[u8],
+    levels: usize,
+    pos: usize,
+    before: usize,
+) -> Step
+    requires { ⌜ (Layout (now table) (now index)) × (Ready (now sheet) pos before) ⌝ }
+    ensures { λ r. ⌜ Finds (now (sheet .entry)) before (extendingOf (now (table .entry)) levels) pos r ⌝ }
+{
+    if stands(sheet, pos, XU) {
+        return check_kept(table, index, sheet, pos, before);
+    }
+    check_group(table, index, sheet, levels, 0, pos, before)
+}
+
+// THE SHEET
+
+// "42, then record by record", and "43: bytes after the last `GE`, place the first of them".
+pub fn check_sheet(table: &[u8], index: &[u16], sheet: &[u8]) -> Parsed
+    requires { ⌜ Layout (now table) (now index) ⌝ }
+    ensures { λ r. ⌜ r ≡ parsedOf (sheetW (schema (now (table .entry))) (now (sheet .entry))) ⌝ }
+{
+    if 1048576 < sheet.len() {
+        return Parsed::Refused {
+            number: 42,
+            place: 0,
+        };
+    }
+    let group = check_group(table, index, sheet, 8, 0, 0, 0);
+    if group.number != 0 {
+        return Parsed::Refused {
+            number: (group.number % 256) as u8,
+            place: group.place,
+        };
+    }
+    if group.place < sheet.len() {
+        return Parsed::Refused {
+            number: 43,
+            place: group.place,
+        };
+    }
+    Parsed::Counted {
+        length: group.length,
+    }
+}

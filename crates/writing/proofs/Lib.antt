@@ -1,0 +1,5 @@
+pub mod Laws
+pub mod Left
+pub mod Widths
+pub mod Writers
+pub mod Groups

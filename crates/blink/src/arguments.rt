@@ -1,5 +1,16 @@
 // The command's arguments.
 
+pub const TABLE: usize = 2;
+
+// The message or the sheet.
+pub const INPUT: usize = 3;
+
+pub const OUT: usize = 4;
+
+pub const FIELD: usize = 4;
+
+pub const ITEM: usize = 5;
+
 // Whether an argument is this word.
 pub fn is_word(argument: &[u8], word: &[u8]) -> bool {
     if argument.len() != word.len() {

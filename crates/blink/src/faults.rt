@@ -3,7 +3,7 @@ use crate::lines;
 use crate::print;
 
 // What each means, in plain words. This is the one list of them: `blink faults` prints it.
-const MEANINGS: [u8; 2064] =
+const MEANINGS: [u8; 2061] =
     *b" 1 a group's size is under 12: too short for its type id and its extension offset
  2 no group of the table has this type id
  3 the extension offset leads outside the group's data area
@@ -38,7 +38,7 @@ const MEANINGS: [u8; 2064] =
 41 a record's mark is not the one due
 42 the sheet is longer than 1048576 bytes
 43 bytes follow the end of the message's group
-44 an extension of no groups is written as no record
+44 an extension record says that it has no groups
 45 a group kept as unknown has a type id of the table
 46 the sheet is longer than its room
 47 the message is longer than its room or than 65536 bytes

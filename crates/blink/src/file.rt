@@ -76,17 +76,23 @@ fn save_bytes(i: usize, bytes: &[u8]) {
         fail(&name[..n]);
         return;
     }
-    save_open(fd, &name[..n], bytes);
+    let is_saved = save_open(fd, &name[..n], bytes);
     libc::close(fd);
+    if is_saved {
+        print_done(bytes.len());
+    }
 }
 
-fn save_open(fd: i32, name: &[u8], bytes: &[u8]) {
-    let written = io::write_all(fd, bytes);
-    if !written {
+fn save_open(fd: i32, name: &[u8], bytes: &[u8]) -> bool {
+    let is_saved = io::write_all(fd, bytes);
+    if !is_saved {
         fail(name);
-        return;
     }
+    is_saved
+}
+
+fn print_done(length: usize) {
     print::text(b"done ");
-    print::number(bytes.len());
+    print::number(length);
     print::text(b"\n");
 }

@@ -7,6 +7,8 @@ pub fn print(fd: i32) {
 blink read TABLE MESSAGE FIELD [ITEM]   the value of a field; fields and items count from 0
 blink show TABLE MESSAGE                every field, as indented text
 blink sheet TABLE MESSAGE OUT           writes the message's sheet to the file OUT
+blink write TABLE SHEET OUT             writes the message that a sheet describes
+blink rewrite TABLE MESSAGE OUT         writes the message in its one form
 blink faults                            what each fault's number means
 blink help                              this text
 

@@ -5,15 +5,16 @@ use crate::rows;
 use codec::Number;
 use libc::STDOUT_FILENO;
 
-fn magnitude(x: i64) -> u64 {
-    if x < 0 { (-1 - x) as u64 + 1 } else { x as u64 }
-}
-
+// By its bits in two's complement: those of a negative number are the upper half.
 fn print_signed(x: i64) {
-    if x < 0 {
-        print::text(b"-");
+    let bits = wire::i64_to_bits(x);
+    if bits < 0x8000_0000_0000_0000 {
+        io::print_decimal(STDOUT_FILENO, bits);
+        return;
     }
-    io::print_decimal(STDOUT_FILENO, magnitude(x));
+    let below = 0xffff_ffff_ffff_ffff - bits + 1;
+    print::text(b"-");
+    io::print_decimal(STDOUT_FILENO, below);
 }
 
 fn print_exponent(x: i8) {

@@ -36,6 +36,28 @@ fn answer_sheet(table: &[u8], message: &[u8], scratch: &mut [u8], sheet: &mut [u
     print::sum(sheet);
 }
 
+fn answer_write(table: &[u8], sheet: &[u8], output: &mut [u8]) {
+    room::fill(output);
+    print::written(codec::sheet_to_message(table, sheet, output));
+    print::sum(output);
+}
+
+fn answer_rewrite(
+    table: &[u8],
+    message: &[u8],
+    scratch: &mut [u8],
+    sheet: &mut [u8],
+    output: &mut [u8],
+) {
+    room::fill(scratch);
+    room::fill(sheet);
+    room::fill(output);
+    print::written(codec::rewrite(table, message, scratch, sheet, output));
+    print::sum(scratch);
+    print::sum(sheet);
+    print::sum(output);
+}
+
 fn answer_number(table: &[u8], message: &[u8], scratch: &mut [u8], field: usize, item: usize) {
     room::fill(scratch);
     print::answer(codec::read_number(table, message, scratch, field, item));
@@ -54,11 +76,20 @@ fn answer_bytes(table: &[u8], message: &[u8], scratch: &mut [u8], field: usize, 
 }
 
 // The question itself, in rooms of the lengths that the record asks for.
-fn ask(r: Record, table: &[u8], input: &[u8], scratch: &mut [u8], sheet: &mut [u8]) {
+fn ask(
+    r: Record,
+    table: &[u8],
+    input: &[u8],
+    scratch: &mut [u8],
+    sheet: &mut [u8],
+    output: &mut [u8],
+) {
     let kind = r.kind;
     match kind {
         2 => answer_check(table, input, scratch),
         3 => answer_sheet(table, input, scratch, sheet),
+        4 => answer_write(table, input, output),
+        5 => answer_rewrite(table, input, scratch, sheet, output),
         6 => answer_number(table, input, scratch, r.field as usize, r.item as usize),
         _ => answer_bytes(table, input, scratch, r.field as usize, r.item as usize),
     }
@@ -72,14 +103,19 @@ fn answer(
     input: &[u8],
     scratch: &mut [u8],
     sheet: &mut [u8],
+    output: &mut [u8],
 ) {
     let length = r.length;
     let lent = r.scratch;
     let room = r.sheet;
+    let written = r.output;
     if table.len() < held || input.len() < length {
         return;
     }
     if scratch.len() < lent || sheet.len() < room {
+        return;
+    }
+    if output.len() < written {
         return;
     }
     ask(
@@ -88,6 +124,7 @@ fn answer(
         &input[0..length],
         &mut scratch[0..lent],
         &mut sheet[0..room],
+        &mut output[0..written],
     );
     print::end_line();
 }
@@ -100,6 +137,7 @@ fn take(
     input: &mut [u8; 1048592],
     scratch: &mut [u8; 65600],
     sheet: &mut [u8; 786432],
+    output: &mut [u8; 65600],
 ) -> Step {
     let r = record::next(fd);
     if r.last {
@@ -127,7 +165,7 @@ fn take(
         }
         _ => {
             record::load(fd, input, r.stored, r.length);
-            answer(r, table, held, input, scratch, sheet);
+            answer(r, table, held, input, scratch, sheet, output);
             Step {
                 more: true,
                 table: held,
@@ -141,10 +179,19 @@ fn answer_all(fd: i32) {
     let mut input = [0u8; 1048592];
     let mut scratch = [0u8; 65600];
     let mut sheet = [0u8; 786432];
+    let mut output = [0u8; 65600];
     let mut held = 0;
     let mut left = MOST;
     while 0 < left {
-        let s = take(fd, &mut table, held, &mut input, &mut scratch, &mut sheet);
+        let s = take(
+            fd,
+            &mut table,
+            held,
+            &mut input,
+            &mut scratch,
+            &mut sheet,
+            &mut output,
+        );
         if !s.more {
             return;
         }
@@ -167,6 +214,8 @@ fn main() {
     answer_file(b"table.vec");
     answer_file(b"check.vec");
     answer_file(b"sheet.vec");
+    answer_file(b"write.vec");
+    answer_file(b"rewrite.vec");
     answer_file(b"number.vec");
     answer_file(b"bytes.vec");
 }

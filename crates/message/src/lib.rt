@@ -1,13 +1,13 @@
 // A message under its schema: whether it is one, and how long its sheet is.
 //
 // The check walks a message once, in the order of document 01, and keeps which bytes of a group are
-// taken by where the packed ones end and, for others, in the scratch that the caller lends. `index` is that of crate `schema`. Functions count the
-// sheet's length on from `before`, what comes before them.
+// taken by where the packed ones end and, for others, in the scratch that the caller lends. `index` is
+// that of crate `schema`. Functions count the sheet's length on from `before`, what comes before them.
 ghost use mathlib.Core.Path.{_≡_};
 ghost use mathlib.Core.Bool.{true, cond, not, _&&_, _||_};
 ghost use mathlib.Core.List.{List, []};
 ghost use Prim.Native.Nat.{ℕ, min, max, _+_, _*_, _%_, _<_, _≤_, _^_};
-ghost use lib.ListN.{length, take, drop, getD, replicate};
+ghost use lib.ListN.{length, drop, replicate};
 ghost use lib.Dec.{eqb};
 ghost use Rattle.wire.specs.Bytes.{part, splice};
 ghost use Rattle.schema.specs.Faults.{need};
@@ -17,7 +17,7 @@ ghost use Rattle.schema.specs.Layout.{widthIn, Layout};
 ghost use Rattle.schema.specs.FieldKinds.{kindFrom, testedKind};
 ghost use Rattle.message.specs.Marks.{free, mark, padsZero, padsBefore};
 ghost use Rattle.message.specs.Sheet.{Mark, ST, GB};
-ghost use Rattle.message.specs.Walk.{Here, lost, found, Reader, Inner, byte, here, strict, markedR, optionalR, inlineR, indirectR, textR, innerR, locate, itemsR, fieldR, extendingR, extensionR, extensionIn, bodyR, groupR, next, walk};
+ghost use Rattle.message.specs.Walk.{lost, found, Reader, Inner, byte, here, strict, markedR, optionalR, indirectR, textR, innerR, locate, itemsR, fieldR, extendingR, extensionR, extensionIn, bodyR, groupR, walk};
 ghost use Rattle.message.specs.Count.{count, andThen, counted};
 ghost use Rattle.message.specs.Check.{packed, scattered, marksOf, closing, countBy, countOf, after, placeBy, Claims, Lands, within, itemR, markedValueR, innerOf, widthOf, staticOf, Ready};
 

@@ -185,6 +185,11 @@ module _ (s : List ℕ) (pos d : ℕ) (I : InnerW) (S : ℕ → Writer) (es : Li
       let g′ = rw iq at g in
       rw (z, e) g′
 
+  pub items-indirect : (sw : ℕ → ℕ) (u : Bool) (w n : ℕ) → kind ≡ Indirect u → w ≡ kindWidth sw (kindFrom es kind)
+      → Counts s d (itemsW 4 (markedW ST (indirectW (textB u))) n) pos c → Counts s d (itemsW w (itemW I S (kindFrom es kind)) n) pos c
+  unfolding kindFrom kindMark kindW kindWidth
+  items-indirect sw u w n e iw g = let z : w ≡ 4 = iw ∙ rw e in rw (z, e) g
+
 module _ (s : List ℕ) (pos d : ℕ) (R : Ready s pos d) (I : InnerW) (S : ℕ → Writer) (es : List (List ℕ)) (kind : FieldKind) (g : ℕ) (e : kind ≡ Static g)
     (y : ℕ) (is : y ≡ recordFault (markBytes SG) 0 (drop pos s)) where
   static-is : (at fr : ℕ) → itemW I S (kindFrom es kind) at fr (drop pos s) ≡ due (markBytes SG) (drop pos s) (λ r. S g at fr r)

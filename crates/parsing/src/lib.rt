@@ -291,6 +291,30 @@ fn check_plains(sheet: &[u8], width: usize, total: usize, pos: usize, before: us
     }
 }
 
+// So many indirect texts in a row, each its own record.
+fn check_texts(sheet: &[u8], utf8: bool, total: usize, pos: usize, before: usize) -> Step
+    requires { ⌜ Ready (now sheet) pos before ⌝ }
+    ensures { λ r. ⌜ Finds (now (sheet .entry)) before (itemsW 4 (markedW ST (indirectW (textB utf8))) total) pos r ⌝ }
+{
+    let mut i = 0;
+    let mut next = pos;
+    let mut length = before;
+    while i < total {
+        let text = check_text(sheet, utf8, next, length);
+        if text.number != 0 {
+            return text;
+        }
+        next = text.place;
+        length = text.length;
+        i += 1;
+    }
+    Step {
+        number: 0,
+        place: next,
+        length,
+    }
+}
+
 // "`NO` is an absent field": whether it stands for the field whose record is at `field`.
 fn is_absent(table: &[u8], sheet: &[u8], field: usize, pos: usize) -> bool
     requires { ⌜ (field + 16 ≤ length (now table)) × (pos ≤ length (now sheet)) × (length (now sheet) ≤ 1048576) ⌝ }
@@ -522,6 +546,9 @@ fn check_items(
 {
     if let schema::FieldKind::Plain { width: plain } = kind {
         return check_plains(sheet, wire::wide(plain), total, pos, before);
+    }
+    if let schema::FieldKind::Indirect { utf8 } = kind {
+        return check_texts(sheet, utf8, total, pos, before);
     }
     let mut i = 0;
     let mut next = pos;

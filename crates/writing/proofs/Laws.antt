@@ -4,12 +4,13 @@ use mathlib.Core.Path.{_≡_, refl, sym, ap, _∙_}
 use mathlib.Core.Bool.{Bool, true, false}
 use mathlib.Core.List.{List, [], _∷_, _++_, append-assoc}
 use native.Mathlib.Omega.{arith}
+use native.Mathlib.Nat.{sub-zero, add-zero}
 use lib.ListN.{length, take, drop, getD, replicate, List·getD-eq-default, length-append, length-take, take-append-drop}
 use lib.Seq.{take-at, drop-at, drop-drop, getD-take, getD-drop}
 use lib.Dec.{ltb}
 use borrow.Author.Tests.{ltb-true, ltb-false}
 use Rattle.wire.specs.Bytes.{part, splice, le, bytesOf}
-use Rattle.wire.proofs.Laws.{length-part, length-splice, splice-append, splice-nil, splice-part, bytes-le}
+use Rattle.wire.proofs.Laws.{part-add, length-part, length-splice, splice-append, splice-nil, splice-part, bytes-le}
 use Rattle.writing.specs.Write.{put}
 
 -- TWO SPLICES
@@ -134,3 +135,24 @@ copied n pos s h b =
 
 pub put-number : (k n pos at v : ℕ) (s out left : List ℕ) → n ≡ k → v ≡ le (part k pos s) → left ≡ splice k at (bytesOf k v) out → pos + n ≤ length s → ((i : ℕ) → getD s i 0 < 256) → left ≡ splice n at (part n pos s) out
 put-number k n pos at v s out left i e m h b = m ∙ rw (i, e, copied k pos s (omega arith) b)
+
+-- what is left of n bytes to copy, eight bytes further; and at the end
+module _ (n i pos at : ℕ) (s out : List ℕ) (h : pos + n ≤ length s) (r : at + n ≤ length out) where
+  pub words-next : 8 ≤ n - i → (v : ℕ) (mid : List ℕ) → v ≡ le (part 8 (pos + i) s) → mid ≡ splice 8 (at + i) (bytesOf 8 v) out → ((k : ℕ) → getD s k 0 < 256)
+      → splice (n - i) (at + i) (part (n - i) (pos + i) s) out ≡ splice (n - (i + 8)) (at + (i + 8)) (part (n - (i + 8)) (pos + (i + 8)) s) mid
+  words-next l v mid e m b =
+      let w : ℕ = n - (i + 8) in
+      let q : n - i ≡ 8 + w = omega arith in
+      let p : pos + (i + 8) ≡ pos + i + 8 = omega arith in
+      let a : at + (i + 8) ≡ at + i + 8 = omega arith in
+      let k : mid ≡ splice 8 (at + i) (part 8 (pos + i) s) out = put-number 8 8 (pos + i) (at + i) v s out mid refl e m (omega arith) b in
+      rw (q, p, a, k, part-add 8 w (pos + i) s) (sym (splice-append 8 w (at + i) (part 8 (pos + i) s) (part w (pos + i + 8) s) out (length-part 8 (pos + i) s (omega arith)) (omega arith)))
+
+  pub words-end : i ≤ n → (left : List ℕ) → left ≡ splice (length (part (pos + n - (pos + i)) (pos + i) s)) (at + i) (part (pos + n - (pos + i)) (pos + i) s) out → left ≡ splice (n - i) (at + i) (part (n - i) (pos + i) s) out
+  words-end l left m =
+      let q : pos + n - (pos + i) ≡ n - i = omega arith in
+      let k = rw q at m in
+      k ∙ rw (length-part (n - i) (pos + i) s (omega arith))
+
+pub words-start : (n pos at : ℕ) (s out : List ℕ) → splice n at (part n pos s) out ≡ splice (n - 0) (at + 0) (part (n - 0) (pos + 0) s) out
+words-start n pos at s out = rw (sub-zero, add-zero, add-zero)

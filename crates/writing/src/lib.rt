@@ -32,6 +32,21 @@ struct Ends {
 
 // VALUES
 
+// n bytes of the sheet, eight at a time.
+fn write_words(sheet: &[u8], pos: usize, n: usize, at: usize, out: &mut [u8])
+    requires { ⌜ (pos + n ≤ length (now sheet)) × (at + n ≤ length (now out)) ⌝ }
+    ensures { λ _. ⌜ now (out .exit) ≡ splice n at (part n pos (now (sheet .entry))) (now (out .entry)) ⌝ }
+{
+    let mut i = 0;
+    while 8 <= n - i {
+        wire::write_u64(out, at + i, wire::read_u64(sheet, pos + i));
+        i += 8;
+    }
+    let from = pos + i;
+    let end = pos + n;
+    wire::copy(out, at + i, &sheet[from..end]);
+}
+
 // n bytes of the sheet; most numbers have four or eight.
 fn write_bytes(sheet: &[u8], pos: usize, n: usize, at: usize, out: &mut [u8]) -> usize
     requires { ⌜ (pos + n ≤ length (now sheet)) × (at + n ≤ length (now out)) ⌝ }
@@ -46,7 +61,7 @@ fn write_bytes(sheet: &[u8], pos: usize, n: usize, at: usize, out: &mut [u8]) ->
         wire::write_u32(out, at, wire::read_u32(sheet, pos));
         return end;
     }
-    wire::copy(out, at, &sheet[pos..end]);
+    write_words(sheet, pos, n, at, out);
     end
 }
 

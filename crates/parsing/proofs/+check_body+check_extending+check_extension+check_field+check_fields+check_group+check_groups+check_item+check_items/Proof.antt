@@ -23,7 +23,7 @@ use Rattle.parsing.proofs.Answers.{ready, ready-at}
 use Rattle.parsing.proofs.Records.{record-inside, as-record}
 use Rattle.parsing.proofs.Values.{plain-bad, plain-good, any-passes}
 use Rattle.parsing.proofs.Long.{long-static}
-use Rattle.parsing.proofs.Fields.{field-plain, field-absent, field-there, value-one, sequence-bad, sequence-good, item-plain, item-number, item-inline, item-indirect, item-dynamic, items-plain, static-bad, static-good, start-static}
+use Rattle.parsing.proofs.Fields.{field-plain, field-absent, field-there, value-one, sequence-bad, sequence-good, item-plain, item-number, item-inline, item-indirect, item-dynamic, items-plain, items-indirect, static-bad, static-good, start-static}
 use Rattle.parsing.proofs.Groups.{extension-none, extension-bad, extension-empty, extension-some, extending-group, body-stopped, body-passed, group-bad, group-unknown, group-other, group-deep, group-body}
 use Rattle.parsing.proofs.Loops.{then-passed, then-stopped, items-all, items-passed, items-stopped, items-end, fields-passed, fields-stopped, fields-end}
 use borrow.Fn.Kinds.{In}
@@ -62,6 +62,7 @@ use Rattle.parsing.proofs.check_number.Reads as check-number-reads
 use Rattle.parsing.proofs.check_plain.Reads as check-plain-reads
 use Rattle.parsing.proofs.check_plains.Reads as check-plains-reads
 use Rattle.parsing.proofs.check_text.Reads as check-text-reads
+use Rattle.parsing.proofs.check_texts.Reads as check-texts-reads
 use Rattle.parsing.proofs.is_absent.Reads as is-absent-reads
 use Rattle.parsing.proofs.longer.Reads as longer-reads
 use Rattle.parsing.proofs.record_fault.Reads as record-fault-reads
@@ -471,22 +472,25 @@ check-items-μ-loop table index sheet levels depth kind width total pos before i
     total - i
 
 abbrev check-items-claims : ℕ → check-items-lts.Claims
-check-items-claims t = (wide-reads.Asked, wide-reads.Learnt, check-plains-reads.Asked, check-plains-reads.Learnt, check-item-below t, check-item.Post)
+check-items-claims t = (wide-reads.Asked, wide-reads.Learnt, check-plains-reads.Asked, check-plains-reads.Learnt, check-texts-reads.Asked, check-texts-reads.Learnt, check-item-below t, check-item.Post)
 
 check-items-returns : (t : ℕ) → check-items-lts.Need-returns (check-items-claims t) (check-items-at t) check-items.Post check-items-Inv-loop check-items-μ-loop
 check-items-returns t c = let a = c .before .before .before .before .before .before .before .before .args in let t = a .table .now in items-plain (a .sheet .now) (a .pos) (a .before) (innerOf t (a .levels)) (staticOf t (a .levels) (a .depth)) (enums t) (a .kind) _ (widthOf t (a .depth)) _ _ _ _ (c .before .before .before .kind .given .1) (c .before .wide .ensures .0) (c .before .before .before .before .before .before .before .before .pre .1 .2) (c .check-plains .ensures)
 
-check-items-loop-holds : (t : ℕ) → check-items-lts.Need-loop-holds (check-items-claims t) (check-items-at t) check-items.Post check-items-Inv-loop check-items-μ-loop
-check-items-loop-holds t c = let a = c .before .before .before .before .args in (c .before .before .before .before .pre .1 .1, items-all (a .sheet .now) (a .width) (itemOf (a .table .now) (a .levels) (a .depth) (a .kind)) (a .total) (a .pos) (a .before))
-
 check-items-returns-2 : (t : ℕ) → check-items-lts.Need-returns-2 (check-items-claims t) (check-items-at t) check-items.Post check-items-Inv-loop check-items-μ-loop
-check-items-returns-2 t c = let l = c .before .before .before .before .loop in let a = c .before .before .before .before .before .before .before .before .before .args in l .inv .1 _ (items-stopped (a .sheet .now) (a .width) (itemOf (a .table .now) (a .levels) (a .depth) (a .kind)) (a .total) (l .i) (l .next) (l .length) (c .before .before .before .loop-test .taken) _ (c .before .before .check-item .ensures) (c .if1 .taken))
+check-items-returns-2 t c = let a = c .before .before .before .before .before .before .before .before .args in let t = a .table .now in items-indirect (a .sheet .now) (a .pos) (a .before) (innerOf t (a .levels)) (staticOf t (a .levels) (a .depth)) (enums t) (a .kind) _ (widthOf t (a .depth)) _ _ _ (c .before .before .kind2 .given .1) (c .before .before .before .before .before .before .before .before .pre .1 .2) (c .check-texts .ensures)
 
-check-items-loop-again : (t : ℕ) → check-items-lts.Need-loop-again (check-items-claims t) (check-items-at t) check-items.Post check-items-Inv-loop check-items-μ-loop
-check-items-loop-again t c = let l = c .before .before .before .before .loop in let a = c .before .before .before .before .before .before .before .before .before .args in (ready (a .sheet .now) _ _ _ (c .before .before .check-item .ensures 0 0) (c .if1 .left) (c .before .before .before .before .before .before .before .before .before .pre .1 .1 .small), λ k g. l .inv .1 k (items-passed (a .sheet .now) (a .width) (itemOf (a .table .now) (a .levels) (a .depth) (a .kind)) (a .total) (l .i) (l .next) (l .length) (c .before .before .before .loop-test .taken) _ (c .before .before .check-item .ensures) (c .if1 .left) k g))
+check-items-loop-holds : (t : ℕ) → check-items-lts.Need-loop-holds (check-items-claims t) (check-items-at t) check-items.Post check-items-Inv-loop check-items-μ-loop
+check-items-loop-holds t c = let a = c .before .before .before .before .before .args in (c .before .before .before .before .before .pre .1 .1, items-all (a .sheet .now) (a .width) (itemOf (a .table .now) (a .levels) (a .depth) (a .kind)) (a .total) (a .pos) (a .before))
 
 check-items-returns-3 : (t : ℕ) → check-items-lts.Need-returns-3 (check-items-claims t) (check-items-at t) check-items.Post check-items-Inv-loop check-items-μ-loop
-check-items-returns-3 t c = let l = c .before .loop in let a = c .before .before .before .before .before .before .args in l .inv .1 _ (items-end (a .sheet .now) (a .width) (itemOf (a .table .now) (a .levels) (a .depth) (a .kind)) (a .total) (l .i) (l .next) (l .length) (c .loop-test .left) (l .inv .0))
+check-items-returns-3 t c = let l = c .before .before .before .before .loop in let a = c .before .before .before .before .before .before .before .before .before .before .args in l .inv .1 _ (items-stopped (a .sheet .now) (a .width) (itemOf (a .table .now) (a .levels) (a .depth) (a .kind)) (a .total) (l .i) (l .next) (l .length) (c .before .before .before .loop-test .taken) _ (c .before .before .check-item .ensures) (c .if1 .taken))
+
+check-items-loop-again : (t : ℕ) → check-items-lts.Need-loop-again (check-items-claims t) (check-items-at t) check-items.Post check-items-Inv-loop check-items-μ-loop
+check-items-loop-again t c = let l = c .before .before .before .before .loop in let a = c .before .before .before .before .before .before .before .before .before .before .args in (ready (a .sheet .now) _ _ _ (c .before .before .check-item .ensures 0 0) (c .if1 .left) (c .before .before .before .before .before .before .before .before .before .before .pre .1 .1 .small), λ k g. l .inv .1 k (items-passed (a .sheet .now) (a .width) (itemOf (a .table .now) (a .levels) (a .depth) (a .kind)) (a .total) (l .i) (l .next) (l .length) (c .before .before .before .loop-test .taken) _ (c .before .before .check-item .ensures) (c .if1 .left) k g))
+
+check-items-returns-4 : (t : ℕ) → check-items-lts.Need-returns-4 (check-items-claims t) (check-items-at t) check-items.Post check-items-Inv-loop check-items-μ-loop
+check-items-returns-4 t c = let l = c .before .loop in let a = c .before .before .before .before .before .before .before .args in l .inv .1 _ (items-end (a .sheet .now) (a .width) (itemOf (a .table .now) (a .levels) (a .depth) (a .kind)) (a .total) (l .i) (l .next) (l .length) (c .loop-test .left) (l .inv .0))
 
 pub +check-body+check-extending+check-extension+check-field+check-fields+check-group+check-groups+check-item+check-items-spec :
     {M : Type 1} → statement M
@@ -516,4 +520,4 @@ pub +check-body+check-extending+check-extension+check-field+check-fields+check-g
     λ t. check-items-lts.spec (check-items-claims t) (check-items-at t)
     check-items.Post
     check-items-Inv-loop
-    check-items-μ-loop (λ c. search needs) (λ c κs. search needs) (λ c κs. search needs) (check-items-returns t) (check-items-loop-holds t) (λ c κs. search needs) (check-items-returns-2 t) (λ c. search needs) (λ c. search needs) (check-items-loop-again t) (check-items-returns-3 t)
+    check-items-μ-loop (λ c. search needs) (λ c κs. search needs) (λ c κs. search needs) (check-items-returns t) (λ c. search needs) (λ c κs. search needs) (check-items-returns-2 t) (check-items-loop-holds t) (λ c κs. search needs) (check-items-returns-3 t) (λ c. search needs) (λ c. search needs) (check-items-loop-again t) (check-items-returns-4 t)

@@ -1,7 +1,5 @@
-use mathlib.Core.Path.{_∙_, refl}
+use mathlib.Core.Path.{refl}
 use native.Mathlib.Omega.{arith}
-use native.Mathlib.Nat.{add-sub-cancel-left}
-use Rattle.wire.proofs.Laws.{length-part}
 use Rattle.writing.proofs.Laws.{put-number}
 use borrow.Author.Needs.{needs}
 use Rattle.writing.proofs.write_bytes.Statement.{statement}
@@ -14,7 +12,7 @@ returns-2 : tie.Need-returns-2
 returns-2 c = let a = c .before .before .before .before .before .before .before .before .before .args in (put-number 4 (a .n) (a .pos) (a .at) _ (a .sheet .now) (a .out .now) _ (c .before .before .before .before .before .if2 .taken) (c .before .before .before .read-u32 .ensures .0) (c .before .before .write-u32 .ensures) (c .before .before .before .before .before .before .before .before .before .pre .0) (λ i. omega (arith, c .before .before .before .before .before .before .before .before .shared-slice-known .given i)), refl)
 
 returns-3 : tie.Need-returns-3
-returns-3 c = let a = c .before .before .before .before .before .before .before .before .before .args in let e = rw (add-sub-cancel-left (a .pos) (a .n)) at (c .before .before .copy .ensures) in (e ∙ rw (length-part (a .n) (a .pos) (a .sheet .now) (c .before .before .before .before .before .before .before .before .before .pre .0)), refl)
+returns-3 c = (c .before .before .write-words .ensures, refl)
 
 pub write-bytes-spec : {M : Type 1} → statement M
 write-bytes-spec =
@@ -29,9 +27,6 @@ write-bytes-spec =
     (λ c κs. search needs)
     (λ c. search needs)
     returns-2
-    (λ c. search needs)
-    (λ c. search needs)
-    (λ c. search needs)
     (λ c κs. search needs)
     (λ c. search needs)
     returns-3)

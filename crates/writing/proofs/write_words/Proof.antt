@@ -1,0 +1,51 @@
+use borrow.Author.Needs.{needs}
+use Prim.Native.Nat.{_+_, _-_, _≤_}
+use mathlib.Core.Path.{_≡_, sym, _∙_}
+use native.Mathlib.Omega.{arith}
+use lib.ListN.{length}
+use Rattle.wire.specs.Bytes.{part, splice}
+use Rattle.writing.proofs.Laws.{words-start, words-next, words-end}
+use Rattle.writing.proofs.write_words.Statement.{statement}
+use Rattle.writing.proofs.write_words.Tie as tie
+
+abbrev Inv-loop : tie.InvT-loop
+Inv-loop sheet pos n at out₀ i₀ out i = (i ≤ n) × (length out ≡ length out₀) × (splice n at (part n pos sheet) out₀ ≡ splice (n - i) (at + i) (part (n - i) (pos + i) sheet) out)
+
+abbrev μ-loop : tie.MeasureT-loop
+μ-loop sheet pos n at out₀ i₀ out i = n - i
+
+loop-holds : tie.Need-loop-holds Inv-loop μ-loop
+loop-holds c = let a = c .before .before .args in (search needs, search needs, words-start (a .n) (a .pos) (a .at) (a .sheet .now) (a .out .now))
+
+loop-again : tie.Need-loop-again Inv-loop μ-loop
+loop-again c = let a = c .before .before .before .before .before .before .before .before .before .args in let l = c .before .before .before .before .before .before .loop in
+    (search needs, search needs, l .inv .2 ∙ words-next (a .n) (l .i) (a .pos) (a .at) (a .sheet .now) _ (c .before .before .before .before .before .before .before .before .before .pre .0) (omega (arith, c .before .before .before .before .before .before .before .before .before .pre .1, l .inv .1)) (c .before .before .before .before .before .loop-test .taken) _ _ (c .before .before .before .read-u64 .ensures) (c .before .before .write-u64 .ensures) (λ k. omega (arith, c .before .before .before .before .before .before .before .before .shared-slice-known .given k)))
+
+returns : tie.Need-returns Inv-loop μ-loop
+returns c = let a = c .before .before .before .before .before .before .before .before .before .args in let l = c .before .before .before .before .before .before .loop in
+    words-end (a .n) (l .i) (a .pos) (a .at) (a .sheet .now) _ (c .before .before .before .before .before .before .before .before .before .pre .0) (omega (arith, c .before .before .before .before .before .before .before .before .before .pre .1, l .inv .1)) (l .inv .0) _ (c .before .before .copy .ensures) ∙ sym (l .inv .2)
+
+pub write-words-spec : {M : Type 1} → statement M
+write-words-spec =
+    tie.close
+    (tie.spec
+    Inv-loop
+    μ-loop
+    loop-holds
+    (λ c. search needs)
+    (λ c. search needs)
+    (λ c. search needs)
+    (λ c κs. search needs)
+    (λ c κs. search needs)
+    (λ c. search needs)
+    (λ c. search needs)
+    loop-again
+    (λ c. search needs)
+    (λ c. search needs)
+    (λ c. search needs)
+    (λ c. search needs)
+    (λ c. search needs)
+    (λ c. search needs)
+    (λ c κs. search needs)
+    (λ c. search needs)
+    returns)

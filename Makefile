@@ -1,8 +1,17 @@
 .PHONY: run test bench fuzz
 
-# Proves what changed since the last run, and runs every program on its stored input.
+# Proves what changed since the last run, runs every program on its stored input, and walks through the samples.
 run:
 	rt check
+	target/bin/blink show samples/blank.table samples/good.message
+	target/bin/blink read samples/blank.table samples/good-no-note.message 1
+	target/bin/blink read samples/blank.table samples/good-no-note.message 4
+	target/bin/blink check samples/blank.table samples/dusty.message
+	target/bin/blink sheet samples/blank.table samples/padded.message target/padded.sheet
+	target/bin/blink write samples/blank.table target/padded.sheet target/written.message
+	target/bin/blink rewrite samples/blank.table samples/padded.message target/rewritten.message
+	cmp target/written.message samples/good.message
+	cmp target/rewritten.message samples/good.message
 
 # The gate, as it decides what lands.
 test:

@@ -128,8 +128,6 @@ BlinkWritten blink_message_to_sheet(const uint8_t *table, size_t table_length,
                                     uint8_t *scratch, size_t scratch_length,
                                     uint8_t *sheet, size_t sheet_length);
 
-/* THE NEXT TWO are declared as they will be; libcapi.a does not have them yet. */
-
 /* Writes the message that a sheet stands for, in its one shortest form. An output room of 65536 bytes is enough for every
  * message. Faults 20, then the sheet's, then 47. */
 BlinkWritten blink_sheet_to_message(const uint8_t *table, size_t table_length,

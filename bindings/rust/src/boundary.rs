@@ -53,6 +53,28 @@ extern "C" {
         sheet_length: usize,
     ) -> BlinkWritten;
 
+    pub fn blink_sheet_to_message(
+        table: *const u8,
+        table_length: usize,
+        sheet: *const u8,
+        sheet_length: usize,
+        output: *mut u8,
+        output_length: usize,
+    ) -> BlinkWritten;
+
+    pub fn blink_rewrite(
+        table: *const u8,
+        table_length: usize,
+        message: *const u8,
+        message_length: usize,
+        scratch: *mut u8,
+        scratch_length: usize,
+        sheet: *mut u8,
+        sheet_length: usize,
+        output: *mut u8,
+        output_length: usize,
+    ) -> BlinkWritten;
+
     pub fn blink_read_number(
         table: *const u8,
         table_length: usize,

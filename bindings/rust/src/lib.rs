@@ -153,6 +153,86 @@ pub fn message_to_sheet<'a>(
     written(answer, sheet)
 }
 
+/// Writes the message that a sheet stands for, in its one shortest form, at the start of the room `output`, and answers that
+/// part.
+///
+/// A room of [`MESSAGE_LIMIT`] bytes is enough for every message; a shorter one may give fault 47. The rest of the room is
+/// untouched, and on a refusal all of it.
+///
+/// ```
+/// # let table = b"GR\x02\0\0\0\0\0\0\0\x01\0\0\x02\0\0\
+/// #               FD\x05\0\0\0\0\0\0\0\0\0\0\0\0\0\
+/// #               FD\x05\x01\0\0\0\0\0\0\0\0\0\0\0\0";
+/// # let bill = b"\x15\0\0\0\x02\0\0\0\0\0\0\0\0\0\0\0\xe8\x03\0\0\x01\x64\0\0\0";
+/// let sheet = b"GB\x02\0\0\0\0\0\0\0VA\xe8\x03\0\0VA\x64\0\0\0GE";
+/// let mut room = vec![0; blink_native::MESSAGE_LIMIT];
+/// let message = blink_native::sheet_to_message(table, sheet, &mut room)?;
+/// assert_eq!(message, bill);
+/// # Ok::<(), blink_native::Fault>(())
+/// ```
+pub fn sheet_to_message<'a>(table: &[u8], sheet: &[u8], output: &'a mut [u8]) -> Result<&'a mut [u8], Fault> {
+    // SAFETY: pointers and lengths are slices' own, and no slice shares a byte with the output.
+    let answer = unsafe {
+        boundary::blink_sheet_to_message(
+            table.as_ptr(),
+            table.len(),
+            sheet.as_ptr(),
+            sheet.len(),
+            output.as_mut_ptr(),
+            output.len(),
+        )
+    };
+    written(answer, output)
+}
+
+/// Writes the message anew, in the one shortest form of its meaning, at the start of the room `output`, and answers that
+/// part. Two messages that mean the same are rewritten to the same bytes.
+///
+/// A sheet room of [`SHEET_FACTOR`] times the message's length and an output of the message's length are always enough. The
+/// output's rest is untouched, and on a refusal all of it. The sheet room holds the message's sheet at its start after
+/// success and after fault 47; else it is untouched.
+///
+/// ```
+/// # let table = b"GR\x02\0\0\0\0\0\0\0\x01\0\0\x02\0\0\
+/// #               FD\x05\0\0\0\0\0\0\0\0\0\0\0\0\0\
+/// #               FD\x05\x01\0\0\0\0\0\0\0\0\0\0\0\0";
+/// # let message = b"\x15\0\0\0\x02\0\0\0\0\0\0\0\0\0\0\0\xe8\x03\0\0\x01\x64\0\0\0";
+/// let mut padded = message.to_vec();
+/// padded.extend([0; 3]);
+/// padded[0] += 3;
+///
+/// let mut scratch = vec![0; padded.len()];
+/// let mut sheet = vec![0; blink_native::SHEET_FACTOR * padded.len()];
+/// let mut output = vec![0; padded.len()];
+/// let rewritten = blink_native::rewrite(table, &padded, &mut scratch, &mut sheet, &mut output)?;
+/// assert_eq!(rewritten, message);
+/// # Ok::<(), blink_native::Fault>(())
+/// ```
+pub fn rewrite<'a>(
+    table: &[u8],
+    message: &[u8],
+    scratch: &mut [u8],
+    sheet: &mut [u8],
+    output: &'a mut [u8],
+) -> Result<&'a mut [u8], Fault> {
+    // SAFETY: pointers and lengths are slices' own, and no slice shares a byte with the scratch, the sheet room or the output.
+    let answer = unsafe {
+        boundary::blink_rewrite(
+            table.as_ptr(),
+            table.len(),
+            message.as_ptr(),
+            message.len(),
+            scratch.as_mut_ptr(),
+            scratch.len(),
+            sheet.as_mut_ptr(),
+            sheet.len(),
+            output.as_mut_ptr(),
+            output.len(),
+        )
+    };
+    written(answer, output)
+}
+
 /// Reads a field of the message's own group as a number.
 ///
 /// Fields count from 0, and so do the items of a sequence; `item` is 0 where the field is no sequence. After the message's

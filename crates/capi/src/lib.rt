@@ -3,7 +3,7 @@
 ghost use mathlib.Core.Path.{_≡_};
 ghost use lib.ListN.{length};
 ghost use Rattle.schema.specs.Table.{tableVerdict};
-ghost use Rattle.codec.specs.Answers.{messageVerdict, scratchAfter, writtenOf, roomAfter, toSheet, numberAnswer, spanAnswer};
+ghost use Rattle.codec.specs.Answers.{messageVerdict, scratchAfter, writtenOf, roomAfter, toSheet, toMessage, rewriting, rooms, numberAnswer, spanAnswer};
 ghost use Rattle.capi.specs.Boundary.{exported, exportedWritten, exportedNumber, exportedSpan, answered, NoNan};
 
 // number 0: accepted.
@@ -158,6 +158,34 @@ pub extern "C" fn blink_message_to_sheet(
     ensures { λ _. ⌜ now (sheet .exit) ≡ roomAfter (toSheet (now (table .entry)) (now (message .entry)) (length (now (scratch .entry))) (length (now (sheet .entry)))) (now (sheet .entry)) ⌝ }
 {
     export_written(codec::message_to_sheet(table, message, scratch, sheet))
+}
+
+#[no_mangle]
+pub extern "C" fn blink_sheet_to_message(
+    table: &[u8],
+    sheet: &[u8],
+    output: &mut [u8],
+) -> BlinkWritten
+    ensures { λ r. ⌜ r ≡ exportedWritten (writtenOf (toMessage (now (table .entry)) (now (sheet .entry)) (length (now (output .entry))))) ⌝ }
+    ensures { λ _. ⌜ now (output .exit) ≡ roomAfter (toMessage (now (table .entry)) (now (sheet .entry)) (length (now (output .entry)))) (now (output .entry)) ⌝ }
+{
+    export_written(codec::sheet_to_message(table, sheet, output))
+}
+
+#[no_mangle]
+pub extern "C" fn blink_rewrite(
+    table: &[u8],
+    message: &[u8],
+    scratch: &mut [u8],
+    sheet: &mut [u8],
+    output: &mut [u8],
+) -> BlinkWritten
+    ensures { λ r. ⌜ r ≡ exportedWritten (writtenOf (rewriting (now (table .entry)) (now (message .entry)) (rooms (now (scratch .entry)) (now (sheet .entry)) (now (output .entry))))) ⌝ }
+    ensures { λ _. ⌜ now (scratch .exit) ≡ scratchAfter (now (table .entry)) (now (message .entry)) (now (scratch .entry)) ⌝ }
+    ensures { λ _. ⌜ now (sheet .exit) ≡ roomAfter (toSheet (now (table .entry)) (now (message .entry)) (length (now (scratch .entry))) (length (now (sheet .entry)))) (now (sheet .entry)) ⌝ }
+    ensures { λ _. ⌜ now (output .exit) ≡ roomAfter (rewriting (now (table .entry)) (now (message .entry)) (rooms (now (scratch .entry)) (now (sheet .entry)) (now (output .entry)))) (now (output .entry)) ⌝ }
+{
+    export_written(codec::rewrite(table, message, scratch, sheet, output))
 }
 
 #[no_mangle]

@@ -1,4 +1,4 @@
-.PHONY: run test bench fuzz
+.PHONY: run test examples bench fuzz
 
 # Proves what changed since the last run, runs every program on its stored input, and walks through the samples.
 run:
@@ -16,6 +16,17 @@ run:
 # The gate, as it decides what lands.
 test:
 	.ci/run
+
+SAMPLES = samples/blank.table samples/good.message samples/dusty.message
+
+# The examples in C and Rust, on the stored samples, and the Rust wrapper's tests. Not part of the gate.
+examples:
+	rt staticlib capi
+	mkdir -p target/examples
+	$(CC) -std=c99 -Wall -Wextra -Wpedantic -Werror -Iinclude examples/check.c target/staticlib/libcapi.a -o target/examples/check
+	target/examples/check $(SAMPLES)
+	cargo run --offline --quiet --manifest-path bindings/rust/Cargo.toml --example check -- $(SAMPLES)
+	cargo test --offline --quiet --manifest-path bindings/rust/Cargo.toml
 
 # Timings beside the same loops in Rust and beside the second program. Not part of the gate.
 bench:

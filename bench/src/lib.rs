@@ -1,6 +1,6 @@
 //! Timing: the median over rounds, both sides in turn within each round, so that a busy moment of the machine meets both.
+pub mod answers;
 pub mod messages;
-pub mod proved;
 pub mod tables;
 
 use std::time::Instant;

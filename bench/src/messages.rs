@@ -47,7 +47,7 @@ fn station() -> Case {
     fields.extend(2u32.to_le_bytes());
     fields.push(1);
     fields.extend((4 + barcode.len() as u32).to_le_bytes());
-    Case { name: "message: a station's", table: blank(), message: dynamic(1, &fields, &[barcode, note].concat()) }
+    Case { name: "a station's", table: blank(), message: dynamic(1, &fields, &[barcode, note].concat()) }
 }
 
 fn one_field(name: &'static str, record: Vec<u8>, value: &[u8]) -> Case {
@@ -61,7 +61,7 @@ fn nested() -> Case {
         inner = dynamic(1, &[1, 4, 0, 0, 0], &inner);
     }
     Case {
-        name: "message: groups to level 8",
+        name: "groups to level 8",
         table: group(Some(1), 0, &[field(22, true, false, 0, 0)]),
         message: inner,
     }
@@ -71,7 +71,7 @@ fn small_groups() -> Case {
     let groups: Vec<_> = (0..2700u32).map(|i| dynamic(2, &i.to_le_bytes(), &[])).collect();
     let mut table = group(Some(1), 0, &[field(23, false, true, 0, 0)]);
     table.extend(group(Some(2), 0, &[field(5, false, false, 0, 0)]));
-    Case { name: "message: 2,700 small groups", table, message: dynamic(1, &4u32.to_le_bytes(), &sequence_of(&groups)) }
+    Case { name: "2,700 small groups", table, message: dynamic(1, &4u32.to_le_bytes(), &sequence_of(&groups)) }
 }
 
 pub fn cases() -> Vec<Case> {
@@ -81,9 +81,9 @@ pub fn cases() -> Vec<Case> {
     numbers.extend((0..10_000u32).flat_map(u32::to_le_bytes));
     vec![
         station(),
-        one_field("message: 60 KB in one string", field(17, false, false, 0, 0), &text(&long)),
-        one_field("message: 3,000 short strings", field(17, false, true, 0, 0), &sequence_of(&strings)),
-        one_field("message: 10,000 u32", field(5, false, true, 0, 0), &numbers),
+        one_field("60 KB in one string", field(17, false, false, 0, 0), &text(&long)),
+        one_field("3,000 short strings", field(17, false, true, 0, 0), &sequence_of(&strings)),
+        one_field("10,000 u32", field(5, false, true, 0, 0), &numbers),
         nested(),
         small_groups(),
     ]

@@ -1,32 +1,86 @@
 //! The public questions beside the second program, with the table checked in each call on both sides.
 //! Buffers are written once before, and not cleared between calls.
-use blink_bench::proved::{check_message, check_table, verdict, Verdict};
+use blink_bench::answers::{our_number, ours, their_number, theirs};
 use blink_bench::{compare, heading, messages, tables};
 use std::hint::black_box;
+
+fn time_table(name: &str, table: &[u8]) {
+    assert_eq!(ours(blink_native::check_table(table)), theirs(blink_reference::check_table(table).map(|_| ())), "{name}");
+    compare(
+        &format!("table: {name}"),
+        &mut || _ = black_box(blink_native::check_table(black_box(table))),
+        &mut || _ = black_box(blink_reference::check_table(black_box(table)).is_ok()),
+    );
+}
+
+/// One message: its check, its sheet, the sheet's message, and rewriting. Both sides must write the same bytes.
+fn time_message(case: &messages::Case) {
+    let messages::Case { name, table, message } = case;
+    let (mut scratch, mut other) = (vec![0u8; message.len()], vec![0u8; message.len()]);
+    let (mut room, mut other_room) = (vec![0u8; 11 * message.len()], vec![0u8; 11 * message.len()]);
+    let (mut output, mut other_output) = (vec![0u8; message.len()], vec![0u8; message.len()]);
+
+    assert_eq!(ours(blink_native::check_message(table, message, &mut scratch)), Ok(()), "{name}");
+    compare(
+        &format!("check: {name}"),
+        &mut || _ = black_box(blink_native::check_message(black_box(table), black_box(message), &mut scratch)),
+        &mut || _ = black_box(blink_reference::check_message(black_box(table), black_box(message), &mut other)),
+    );
+
+    let length = blink_reference::message_to_sheet(table, message, &mut other, &mut other_room).expect("a sheet");
+    let sheet = other_room[..length].to_vec();
+    assert_eq!(blink_native::message_to_sheet(table, message, &mut scratch, &mut room).as_deref(), Ok(&sheet[..]), "{name}");
+    compare(
+        &format!("to sheet: {name}"),
+        &mut || _ = black_box(blink_native::message_to_sheet(black_box(table), black_box(message), &mut scratch, &mut room).is_ok()),
+        &mut || _ = black_box(blink_reference::message_to_sheet(black_box(table), black_box(message), &mut other, &mut other_room)),
+    );
+
+    assert_eq!(blink_native::sheet_to_message(table, &sheet, &mut output).as_deref(), Ok(&message[..]), "{name}");
+    compare(
+        &format!("to message: {name}"),
+        &mut || _ = black_box(blink_native::sheet_to_message(black_box(table), black_box(&sheet), &mut output).is_ok()),
+        &mut || _ = black_box(blink_reference::sheet_to_message(black_box(table), black_box(&sheet), &mut other_output)),
+    );
+    compare(
+        &format!("rewrite: {name}"),
+        &mut || _ = black_box(blink_native::rewrite(black_box(table), black_box(message), &mut scratch, &mut room, &mut output).is_ok()),
+        &mut || _ = black_box(blink_reference::rewrite(black_box(table), black_box(message), &mut other, &mut other_room, &mut other_output)),
+    );
+}
+
+/// What the sorting line asks of a station's message: its barcode and its density.
+fn time_readings(case: &messages::Case) {
+    let messages::Case { table, message, .. } = case;
+    let (mut scratch, mut other) = (vec![0u8; message.len()], vec![0u8; message.len()]);
+    let density = theirs(blink_reference::read_number(table, message, &mut other, 1, 0)).map(their_number);
+    assert_eq!(ours(blink_native::read_number(table, message, &mut scratch, 1, 0)).map(our_number), density);
+    compare(
+        "read: a station's number",
+        &mut || _ = black_box(blink_native::read_number(black_box(table), black_box(message), &mut scratch, 1, 0)),
+        &mut || _ = black_box(blink_reference::read_number(black_box(table), black_box(message), &mut other, 1, 0)),
+    );
+    compare(
+        "read: a station's barcode",
+        &mut || _ = black_box(blink_native::read_bytes(black_box(table), black_box(message), &mut scratch, 0, 0).is_ok()),
+        &mut || _ = black_box(blink_reference::read_bytes(black_box(table), black_box(message), &mut other, 0, 0)),
+    );
+}
 
 fn main() {
     heading("proved", "reference");
     for (name, table) in [
-        ("table: a station's (11 records)", tables::blank()),
-        ("table: static tower", tables::tower(false)),
-        ("table: tower of sequences", tables::tower(true)),
-        ("table: 64 KiB of enumerations", tables::enumerations()),
-        ("table: 64 groups in a chain", tables::chain()),
+        ("a station's (11 records)", tables::blank()),
+        ("static tower", tables::tower(false)),
+        ("tower of sequences", tables::tower(true)),
+        ("64 KiB of enumerations", tables::enumerations()),
+        ("64 groups in a chain", tables::chain()),
     ] {
-        assert_eq!(check_table(&table), verdict(blink_reference::check_table(&table)), "{name}");
-        compare(name, &mut || _ = black_box(check_table(black_box(&table))), &mut || {
-            _ = black_box(verdict(blink_reference::check_table(black_box(&table))))
-        });
+        time_table(name, &table);
     }
-    for messages::Case { name, table, message } in messages::cases() {
-        let (mut scratch, mut other) = (vec![0u8; message.len()], vec![0u8; message.len()]);
-        assert_eq!(check_message(&table, &message, &mut scratch), Verdict::ACCEPTED, "{name}");
-        compare(
-            name,
-            &mut || _ = black_box(check_message(black_box(&table), black_box(&message), &mut scratch)),
-            &mut || {
-                _ = black_box(verdict(blink_reference::check_message(black_box(&table), black_box(&message), &mut other)))
-            },
-        );
+    let cases = messages::cases();
+    for case in &cases {
+        time_message(case);
     }
+    time_readings(&cases[0]);
 }

@@ -421,7 +421,7 @@ fn higher(a: usize, b: usize) -> usize
 
 // "a static subgroup's width is that of its own group": the groups below `known` were looked at, and
 // the index has what they measure.
-fn group_width(table: &[u8], index: &[u16], known: usize, g: usize) -> Extent
+fn static_extent(table: &[u8], index: &[u16], known: usize, g: usize) -> Extent
     requires { ⌜ (Placing (now table) (now index)) × (Known (now table) (now index) known) × (Sound (schema (now table))) × (g ≤ known) × (g < length (schema (now table))) ⌝ }
     ensures { λ r. ⌜ Answer (now (table .entry)) known g r ⌝ }
 {
@@ -432,6 +432,14 @@ fn group_width(table: &[u8], index: &[u16], known: usize, g: usize) -> Extent
             filled: true,
         };
     }
+    group_width(table, index, g)
+}
+
+// A group's fields added up, when all groups below it were looked at.
+fn group_width(table: &[u8], index: &[u16], g: usize) -> Extent
+    requires { ⌜ (Placing (now table) (now index)) × (Known (now table) (now index) g) × (Sound (schema (now table))) × (g < length (schema (now table))) ⌝ }
+    ensures { λ r. ⌜ Answer (now (table .entry)) g g r ⌝ }
+{
     let first = index[g] as usize + 16;
     let count = schema::field_count(table, index[g] as usize);
     let mut width = 0;
@@ -445,7 +453,7 @@ fn group_width(table: &[u8], index: &[u16], known: usize, g: usize) -> Extent
             width += schema::field_width(table, index, p);
             continue;
         }
-        let inner = group_width(table, index, known, schema::reference(table, p));
+        let inner = static_extent(table, index, g, schema::reference(table, p));
         width += static_width(table, p, inner.width);
         depth = higher(depth, inner.depth + 1);
         filled = filled & (inner.filled & (1 <= inner.width));
@@ -473,7 +481,7 @@ fn check_widths(table: &[u8], index: &mut [u16]) -> schema::Verdict
     let groups = index[320] as usize;
     let mut g = 0;
     while g < groups {
-        let extent = group_width(table, index, g, g);
+        let extent = group_width(table, index, g);
         if !((extent.width <= 4096) & ((extent.depth <= 4) & extent.filled)) {
             return schema::Verdict::Refused {
                 number: 35,

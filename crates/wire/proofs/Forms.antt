@@ -12,7 +12,7 @@ use lib.Dec.{leb, ltb}
 use borrow.Author.Tests.{lt-ltb, le-ltb, le-leb, ltb-true, ltb-false, not-true, not-false}
 use Rattle.wire.specs.Bytes.{part, le}
 use Rattle.wire.specs.Utf8.{Text, valid, broken, after, begins, follow, lowest, highest, textFrom, isValid, utf8}
-use Rattle.wire.specs.Scan.{Form, Ascii, next}
+use Rattle.wire.specs.Scan.{Form, Ascii, allAscii, next}
 use Rattle.wire.proofs.Laws.{drop-more, length-part}
 
 valid-after : (t : Text) → isValid (after t) ≡ isValid t
@@ -204,6 +204,15 @@ four-eights at s a b c d =
     let run : utf8 (drop at s) ≡ utf8 (drop (at + 32) s) =
     a .some n .passes n ∙ (rw p at (b .some n .passes n)) ∙ (rw q at (c .some n .passes n)) ∙ (rw r at (d .some n .passes n)) in
     record { none = λ e. absurd (omega arith); some = λ z. record { inside = omega (arith, rw r at (d .some n .inside)); breaks = λ e. absurd (omega arith); passes = λ z. run } }
+
+-- a part that is all ASCII can be passed over
+pub ascii-part : (n at : ℕ) (s : List ℕ) → at + n ≤ length s → allAscii (part n at s) ≡ true → utf8 (drop at s) ≡ utf8 (drop (at + n) s)
+unfolding allAscii
+ascii-part zero at s h e = let z : at + 0 ≡ at = omega arith in rw z
+ascii-part (suc n) at s h e =
+    let f : at + suc n ≡ at + 1 + n = omega arith in
+    let x = both _ _ (rw (drop-more s at (omega arith)) at e) in
+    ascii-one s at (omega arith) (ltb-true _ _ (x .0)) ∙ ascii-part n (at + 1) s (omega arith) (x .1) ∙ ap (λ (k : ℕ). utf8 (drop k s)) (sym f)
 
 -- THE END OF THE TEXT
 

@@ -6,9 +6,10 @@ use mathlib.Core.List.{List, [], _∷_, _++_}
 use native.Mathlib.Omega.{arith}
 use native.Mathlib.Nat.{add-zero, sub-zero}
 use lib.ListN.{length, getD, set, replicate, drop, drop-of-length-le}
-use lib.Dec.{eqb}
+use lib.Dec.{eqb, ltb}
 use borrow.Author.Tests.{eq-eqb, ne-eqb}
 use Rattle.wire.specs.Bytes.{part, splice, same, allZero, zeros}
+use Rattle.wire.specs.Scan.{allAscii}
 use Rattle.wire.proofs.Laws.{drop-more, two, two-of, splice-cons, splice-nil}
 
 -- of the n bytes from `at` on, those behind the first i
@@ -53,6 +54,16 @@ module _ (n at : ℕ) (s : List ℕ) where
   pub count-end : (i : ℕ) → n ≤ i → i + zeros (rest n at i s) ≡ i
   unfolding zeros
   count-end i h = rw (rest-none i h) (omega arith)
+
+  -- ASCII
+
+  pub ascii-turn : (a : Bool) (i : ℕ) → i < n → at + n ≤ length s → a && allAscii (rest n at i s) ≡ a && ltb (getD s (at + i) 0) 0x80 && allAscii (rest n at (i + 1) s)
+  unfolding allAscii
+  ascii-turn a i h l = rw (rest-more i h l) (sym (and-assoc a _ _))
+
+  pub ascii-end : (a : Bool) (i : ℕ) → n ≤ i → a && allAscii (rest n at i s) ≡ a
+  unfolding allAscii
+  ascii-end a i h = rw (rest-none i h) (and-true a)
 
 -- WRITES
 

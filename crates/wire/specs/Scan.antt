@@ -1,11 +1,16 @@
 -- How the scan of a text goes on, form by form.
 use mathlib.Core.Path.{_≡_}
-use mathlib.Core.Bool.{Bool, false, _&&_}
-use mathlib.Core.List.{List}
+use mathlib.Core.Bool.{Bool, true, false, _&&_}
+use mathlib.Core.List.{List, [], _∷_}
 use Prim.Native.Nat.{ℕ, _+_, _≤_}
 use lib.ListN.{length, getD, drop}
 use lib.Dec.{leb, ltb}
 use Rattle.wire.specs.Utf8.{utf8}
+
+-- Whether every byte is ASCII.
+unfoldable pub allAscii : List ℕ → Bool
+allAscii [] = true
+allAscii (b ∷ bs) = ltb b 0x80 && allAscii bs
 
 -- Whether a byte stands at `at`, and between two bounds.
 abbrev pub next : List ℕ → ℕ → ℕ → ℕ → Bool

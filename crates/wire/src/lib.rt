@@ -5,11 +5,11 @@
 ghost use mathlib.Core.Path.{_≡_};
 ghost use mathlib.Core.Bool.{true};
 ghost use Prim.Native.Nat.{ℕ, _+_, _<_, _≤_, _^_};
-ghost use lib.ListN.{length, getD, replicate};
+ghost use lib.ListN.{length, getD, replicate, drop};
 ghost use lib.Ieee.{ofBits, nanBits, binary64};
 ghost use Rattle.wire.specs.Bytes.{part, splice, le, bytesOf, signed, pattern, same, allZero, zeros};
 ghost use Rattle.wire.specs.Utf8.{utf8, begins, lowest, highest};
-ghost use Rattle.wire.specs.Scan.{Form, Ascii, next};
+ghost use Rattle.wire.specs.Scan.{Form, Ascii, allAscii, next};
 
 // A byte, made wide. The bound stands in the contract so that callers' sums need no proof. The crates
 // above use it too.
@@ -208,11 +208,12 @@ pub fn copy(out: &mut [u8], at: usize, s: &[u8])
     }
 }
 
-// Whether a text is UTF-8. The scan goes form by form and stops at the first that is broken.
+// Whether a text is UTF-8. The scan goes form by form and stops at the first that is broken; it begins behind
+// the blocks of ASCII that stand first, so that a long text of ASCII is hardly scanned.
 pub fn is_utf8(text: &[u8]) -> bool
     ensures { λ r. ⌜ r ≡ utf8 (now (text .entry)) ⌝ }
 {
-    let mut i = 0;
+    let mut i = ascii_blocks(text);
     let mut valid = true;
     while i < text.len() {
         let n = form_width(text, i);
@@ -223,6 +224,37 @@ pub fn is_utf8(text: &[u8]) -> bool
         i += n;
     }
     valid
+}
+
+// The bytes that are tested for ASCII at a time where a text begins. A shorter text is scanned at once.
+const BLOCK: usize = 128;
+
+// How many bytes the blocks of ASCII take that stand first.
+fn ascii_blocks(text: &[u8]) -> usize
+    ensures { λ r. ⌜ (r ≤ length (now (text .entry))) × (utf8 (now (text .entry)) ≡ utf8 (drop r (now (text .entry)))) ⌝ }
+{
+    let mut i = 0;
+    while BLOCK <= text.len() - i {
+        if !all_ascii(text, i, BLOCK) {
+            return i;
+        }
+        i += BLOCK;
+    }
+    i
+}
+
+// Whether the n bytes from `at` on are ASCII. The loop has no early exit, so that it becomes vector code.
+fn all_ascii(s: &[u8], at: usize, n: usize) -> bool
+    requires { ⌜ at + n ≤ length (now s) ⌝ }
+    ensures { λ r. ⌜ r ≡ allAscii (part n at (now (s .entry))) ⌝ }
+{
+    let mut ascii = true;
+    let mut i = 0;
+    while i < n {
+        ascii = ascii & (s[at + i] < 0x80);
+        i += 1;
+    }
+    ascii
 }
 
 // The width of the form at `at`, or 0 where it is broken. A run of ASCII counts as one form.

@@ -16,7 +16,7 @@ abbrev μ-loop : tie.MeasureT-loop
 μ-loop text i₀ valid₀ i valid = length text - i
 
 loop-holds : tie.Need-loop-holds Inv-loop μ-loop
-loop-holds c = (search needs, refl, refl)
+loop-holds c = (c .ascii-blocks .ensures .0, refl, c .ascii-blocks .ensures .1)
 
 add-i : tie.Need-add-i Inv-loop μ-loop
 add-i c = omega (arith, c .before .form-width .ensures .inside)
@@ -28,7 +28,7 @@ loop-again : tie.Need-loop-again Inv-loop μ-loop
 loop-again c = (c .before .form-width .ensures .inside, c .before .before .before .loop .inv .1, c .before .before .before .loop .inv .2 ∙ c .before .form-width .ensures .passes (c .if1 .left))
 
 returns : tie.Need-returns Inv-loop μ-loop
-returns c = c .before .loop .inv .1 ∙ sym (c .before .loop .inv .2 ∙ utf8-end (c .before .before .before .args .text .now) _ (c .loop-test .left))
+returns c = c .before .loop .inv .1 ∙ sym (c .before .loop .inv .2 ∙ utf8-end (c .before .before .before .before .args .text .now) _ (c .loop-test .left))
 
 returns-2 : tie.Need-returns-2 Inv-loop μ-loop
 returns-2 c = sym (c .before .before .before .loop .inv .2 ∙ c .before .form-width .ensures .breaks (c .if1 .taken))
@@ -39,6 +39,7 @@ is-utf8-spec =
     (tie.spec
     Inv-loop
     μ-loop
+    (λ c κs. search needs)
     loop-holds
     (λ c κs. search needs)
     add-i

@@ -30,8 +30,8 @@ fn ask_ours(table: &[u8], q: &Question, rooms: &mut Rooms) -> Answer<String> {
         Kind::MessageToSheet => ours(blink_native::message_to_sheet(table, input, scratch, sheet)).map(length),
         Kind::SheetToMessage => ours(blink_native::sheet_to_message(table, input, output)).map(length),
         Kind::Rewrite => ours(blink_native::rewrite(table, input, scratch, sheet, output)).map(length),
-        Kind::ReadNumber => ours(blink_native::read_number(table, input, scratch, q.field, q.item)).map(our_number),
-        Kind::ReadBytes => ours(blink_native::read_bytes(table, input, scratch, q.field, q.item))
+        Kind::ReadNumber => ours(blink_native::read_number(table, input, scratch, q.field as usize, q.item as usize)).map(our_number),
+        Kind::ReadBytes => ours(blink_native::read_bytes(table, input, scratch, q.field as usize, q.item as usize))
             .map(|part| format!("{}, {} bytes", part.as_ptr() as usize - input.as_ptr() as usize, part.len())),
     }
 }

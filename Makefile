@@ -28,12 +28,20 @@ examples:
 	cargo run --offline --quiet --manifest-path bindings/rust/Cargo.toml --example check -- $(SAMPLES)
 	cargo test --offline --quiet --manifest-path bindings/rust/Cargo.toml
 
-# Timings beside the same loops in Rust and beside the second program. Not part of the gate.
+# Timings beside the same loops in Rust, beside the second program and, where Debian's libflatbuffers-dev and
+# flatbuffers-compiler are installed, beside FlatBuffers. Not part of the gate.
 bench:
 	rt staticlib wire_bench
 	rt staticlib capi
 	cargo run --release --offline --quiet --manifest-path bench/Cargo.toml --bin leaves
 	cargo run --release --offline --quiet --manifest-path bench/Cargo.toml --bin questions
+ifneq ($(and $(wildcard /usr/include/flatbuffers/reflection.h),$(shell command -v flatc)),)
+	mkdir -p target/flatbuffers
+	flatc --cpp -o target/flatbuffers bench/flatbuffers/blank.fbs
+	flatc --binary --schema -o target/flatbuffers bench/flatbuffers/blank.fbs
+	$(CXX) -std=c++17 -O3 -Wall -Wextra -Itarget/flatbuffers -Iinclude bench/flatbuffers/compare.cpp target/staticlib/libcapi.a -lflatbuffers -o target/flatbuffers/compare
+	target/flatbuffers/compare samples/blank.table target/flatbuffers/blank.bfbs
+endif
 
 # Random questions, compared with the second program. Not part of the gate.
 fuzz:

@@ -7,7 +7,7 @@
  * Any bytes may be asked about: a table, message or sheet needs no check before a question, each question makes its own.
  *
  * Answers: a struct by value. `number` is 0 where nothing is refused; else it is the first fault's number and `place` its
- *   byte, counted from 0 at the start of the message, table or sheet; 0 where the list below names no place.
+ *   byte, counted from 0 at the start of the message, table or sheet.
  *
  * Scratch: working room, at least as long as the message (else fault 21); 65536 bytes are enough for every message.
  *   After faults 20, 21 and 23 it is untouched. After every other answer its first bytes, as many as the message has, are
@@ -15,53 +15,55 @@
  * Other rooms: on success the first `length` bytes are written and the rest is untouched. On a refusal they are untouched,
  *   but for the sheet room of blink_rewrite, which says its own rule.
  *
- * Faults. Of a message (place in the message):
- *    1  a group's size is under 12                                         the group's start
- *    2  a group's type is not in the table                                 the group's start
- *    3  the extension's location is outside the data area                  the offset
- *    4  a byte of an absent field is not zero                              that byte
- *    5  a value's location is outside the data area                        the offset
- *    6  a byte of the data area that no value has taken is not zero        that byte
- *    7  an inline text's count is over its capacity                        the count byte
- *    8  an unused byte of an inline text is not zero                       that byte
- *    9  a string is not UTF-8                                              its first text byte
- *   10  an enumeration has no such symbol                                  the value
- *   11  a bool or a presence flag is neither 0 nor 1                       the value or flag
- *   12  a time of day is 24 hours or more                                  the value
- *   13  a sequence's items run past the data area                          the sequence's location
- *   14  a group's size leaves no room for its fields                       the group's start
- *   20  the table is refused: blink_check_table says why
- *   21  the scratch is shorter than the message
- *   22  the message has under 4 bytes, or its length is not 4 + its size word
- *   23  the message is over 65536 bytes
- *   24  a group lies deeper than level 8                                   the group's start
- *   25  a group of this type is not allowed here                           the group's start
- *   26  a value runs past the data area                                    the value's location
- *   27  a byte of a value is taken by an earlier one                       the later value's location
- * Of a reading:
- *   28  no such field, or no such item of it
- *   29  the field is absent
- *   48  the field is of the other kind: no number, or no bytes
- * Of a table (place in the table; a record has 16 bytes):
- *   30  its length is 0, over 65536 or no multiple of 16
- *   31  a mark is not the one due, a count is out of range, or it is the   the record, or the table's length
- *       65th enumeration or group; or a record is missing                  where records are missing
- *   32  a byte that must be zero is not, or a flag is neither 0 nor 1      the record
- *   33  a type, size, reference or super group is out of range             the record
- *   34  symbols do not rise, or a type id came before;                     the record, or the table's length
- *       or no group has a type id                                          where no group has one
- *   35  a group is over 4096 bytes wide, its static groups are over 4      the group's record
- *       deep, or a static group in it has no bytes
- * Of a sheet (place in the sheet; 1, 2, 7, 9 to 12, 24 and 25 too stand at the record's start here):
- *   40  the sheet ends inside a record                                     the record's start
- *   41  a mark is not the one due                                          the record's start
- *   42  the sheet is over 1048576 bytes
- *   43  bytes follow the last record                                       the first of them
- *   44  an extension (XT) of no groups                                     the record's start
- *   45  a group kept as bytes (XU) has a type that is in the table         the record's start
- * Of a room:
- *   46  the sheet room is too short
- *   47  the message is longer than the output room, or than 65536 bytes */
+ * Faults, as in faults.txt beside this file:
+ *  1 a group's size is under 12: too short for its type id and its extension offset
+ *  2 no group of the table has this type id
+ *  3 the extension offset leads outside the group's data area
+ *  4 a byte of an absent field is not zero
+ *  5 an offset leads outside the group's data area
+ *  6 a byte of the data area that belongs to no value is not zero
+ *  7 the count of an inline string or binary is over its capacity
+ *  8 an unused byte of an inline string or binary is not zero
+ *  9 a string is not valid UTF-8
+ * 10 the enumeration has no symbol of this value
+ * 11 a bool or a presence flag is neither 0 nor 1
+ * 12 a time of day is 24 hours or more
+ * 13 the items of a sequence run past the data area
+ * 14 a group's size is too small for its fields
+ * 20 the table is refused
+ * 21 the scratch is shorter than the message
+ * 22 the message is under 4 bytes long, or its length is not 4 plus its size
+ * 23 the message is longer than 65536 bytes
+ * 24 a group lies deeper than level 8
+ * 25 a group of this type is not allowed here
+ * 26 a value runs past the data area
+ * 27 a value lies on a byte that another value has taken
+ * 28 there is no such field, or no such item in it
+ * 29 the field is absent
+ * 30 the table is empty, longer than 65536 bytes, or not made of records of 16 bytes
+ * 31 a record's mark is not the one due, a record is missing, a count is out of range, or a 65th enumeration or group
+ * 32 a byte that must be zero is not, or a flag is neither 0 nor 1
+ * 33 a type, size, reference or super group is out of range
+ * 34 symbols do not rise, a type id comes twice, or no group has one
+ * 35 a group is wider than 4096 bytes, its static groups nest deeper than 4, or a static group has no width
+ * 40 the sheet ends inside a record
+ * 41 a record's mark is not the one due
+ * 42 the sheet is longer than 1048576 bytes
+ * 43 bytes follow the end of the message's group
+ * 44 an extension record says that it has no groups
+ * 45 a group kept as unknown has a type id of the table
+ * 46 the sheet is longer than its room
+ * 47 the message is longer than its room or than 65536 bytes
+ * 48 the field is of another kind: no number, or no bytes
+ *
+ * Places. The byte that the words name, and:
+ *   of 1, 2, 14, 24 and 25 the group's start; of 3 and 5 the offset;
+ *   of 7 the count, of 9 the text's first byte, of 10 to 12 the value or the flag;
+ *   of 13, 26 and 27 the value that the offset leads to, of 27 the later one;
+ *   of 31 to 35 the record, or the table's length where a record or an id is missing;
+ *   of 40, 41, 44 and 45 the record, and where a sheet is asked about, of 1, 2, 7, 9 to 12, 24 and 25 too;
+ *   of 43 the first byte behind the record;
+ *   of 20 to 23, 28 to 30, 42 and 46 to 48 always 0. */
 #ifndef BLINK_NATIVE_H
 #define BLINK_NATIVE_H
 

@@ -2,8 +2,8 @@
 use crate::lines;
 use crate::print;
 
-// What each means, in plain words. This is the one list of them: `blink faults` prints it.
-const MEANINGS: [u8; 2061] =
+// What each means, in plain words, as include/faults.txt has them for all.
+const MEANINGS: [u8; 2059] =
     *b" 1 a group's size is under 12: too short for its type id and its extension offset
  2 no group of the table has this type id
  3 the extension offset leads outside the group's data area
@@ -29,11 +29,11 @@ const MEANINGS: [u8; 2061] =
 28 there is no such field, or no such item in it
 29 the field is absent
 30 the table is empty, longer than 65536 bytes, or not made of records of 16 bytes
-31 a record's mark is not the one due, a record is missing, a count is out of range, or there are more than 64 enumerations or groups
+31 a record's mark is not the one due, a record is missing, a count is out of range, or a 65th enumeration or group
 32 a byte that must be zero is not, or a flag is neither 0 nor 1
 33 a type, size, reference or super group is out of range
 34 symbols do not rise, a type id comes twice, or no group has one
-35 a group is wider than 4096 bytes, its static groups nest deeper than 4, or a static field's group has no width
+35 a group is wider than 4096 bytes, its static groups nest deeper than 4, or a static group has no width
 40 the sheet ends inside a record
 41 a record's mark is not the one due
 42 the sheet is longer than 1048576 bytes
@@ -42,7 +42,7 @@ const MEANINGS: [u8; 2061] =
 45 a group kept as unknown has a type id of the table
 46 the sheet is longer than its room
 47 the message is longer than its room or than 65536 bytes
-48 the field is of another kind
+48 the field is of another kind: no number, or no bytes
 ";
 
 pub fn print_all() {

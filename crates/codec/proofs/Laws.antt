@@ -40,7 +40,7 @@ use Rattle.reading.specs.Part as parts
 use Rattle.codec.specs.declared.Span.the-variants.{Refused as NoBytes}
 use Rattle.codec.specs.declared.Written.{Written}
 use Rattle.codec.specs.declared.Written.the-variants.{Bytes, Refused as Unwritten}
-use Rattle.codec.specs.Answers.{accepted, messageReading, verdictOf, messageVerdict, scratchAfter, Opened, writtenOf, roomAfter, Writes, toSheet, toMessage, Allowed, numberUnder, numberAnswer, partUnder, partAnswer, bytesVerdict, spanOf, spanUnder, spanAnswer}
+use Rattle.codec.specs.Answers.{accepted, messageReading, verdictOf, messageVerdict, scratchAfter, Opened, writtenOf, roomAfter, Writes, toSheet, toMessage, Known, Allowed, Within, numberUnder, numberAnswer, partUnder, partAnswer, bytesVerdict, spanOf, spanUnder, spanAnswer}
 
 -- a refusal opens nothing
 pub opens-nothing : (t b : List ℕ) (scratch : ℕ) (k : List ℕ) (w : Walked) (n p : ℕ) → w ≡ Failed n p → messageReading t b scratch ≡ refused n p → Opened t b scratch k w
@@ -201,28 +201,45 @@ module _ (gs : List Group) (s : List ℕ) (room : ℕ) where
   unfolding written fitted
   written-refused n p e = rw e
 
-  module _ (n : ℕ) (a : Allowed gs s n) where
-    written-by : (c : Bool) → leb (length (a .message)) room && leb (length (a .message)) 65536 ≡ c → written gs room s ≡ need c (stopped 47 0) (wrote (a .message) [] [])
+  module _ (X : List ℕ) (m : sheetW gs s ≡ wrote X [] []) where
+    written-by : (c : Bool) → leb (length X) room && leb (length X) 65536 ≡ c → written gs room s ≡ need c (stopped 47 0) (wrote X [] [])
     unfolding written fitted
-    written-by c e = rw (a .makes, e)
+    written-by c e = rw (m, e)
 
+    pub written-fits : length X ≤ room → length X ≤ 65536 → written gs room s ≡ wrote X [] []
+    unfolding need
+    written-fits l h = written-by true (rw (le-leb (length X) room l, le-leb (length X) 65536 h))
+
+  module _ (n : ℕ) (a : Allowed gs s n) where
     pub written-47-room : room < n → written gs room s ≡ stopped 47 0
     unfolding need capped
-    written-47-room l = written-by false (rw (lt-leb (length (a .message)) room (omega (arith, a .long, l))))
+    written-47-room l = written-by (a .message) (a .makes) false (rw (lt-leb (length (a .message)) room (omega (arith, a .long, l))))
 
     pub written-47-most : 65536 < n → written gs room s ≡ stopped 47 0
     unfolding need capped
-    written-47-most l = written-by false (rw (lt-leb (length (a .message)) 65536 (omega (arith, a .long, l))) (and-false (leb (length (a .message)) room)))
+    written-47-most l = written-by (a .message) (a .makes) false (rw (lt-leb (length (a .message)) 65536 (omega (arith, a .long, l))) (and-false (leb (length (a .message)) room)))
 
-    pub written-fits : n ≤ room → n ≤ 65536 → written gs room s ≡ wrote (a .message) [] []
-    unfolding need capped
-    written-fits l h = written-by true (rw (le-leb (length (a .message)) room (omega (arith, a .long, l, h)), le-leb (length (a .message)) 65536 (omega (arith, a .long, h))))
+  -- a count up to 65,536 is the length itself
+  pub counted-within : (n : ℕ) → Allowed gs s n → n ≤ 65536 → Within gs s n
+  unfolding capped
+  counted-within n a h = record { message = a .message; makes = a .makes; most = omega (arith, a .long, h); small = h }
 
-    pub message-within : n ≤ room → n ≤ 65536 → length (a .message) ≤ room
-    unfolding capped
-    message-within l h = omega (arith, a .long, l, h)
+  -- the message of a sheet, written where it fits
+  pub writes-within : (n : ℕ) (a : Within gs s n) → n ≤ room → (before left : List ℕ) → length before ≡ room → (r : ℕ)
+      → ((X : List ℕ) → sheetW gs s ≡ wrote X [] [] → (left ≡ splice (length X) 0 X before) × (r ≡ length X)) → Writes (written gs room s) (Bytes r) before left
+  writes-within n a l before left e r w =
+      let x = w (a .message) (a .makes) in
+      writes-it _ (a .message) r before left (written-fits (a .message) (a .makes) (omega (arith, a .most, l)) (omega (arith, a .most, a .small))) (x .1) (x .0)
 
 -- REWRITING
+
+-- "Every message whose sheet equals A's, A among them, has at least as many bytes as the rewritten A."
+pub known-within : (t b : List ℕ) (scratch : ℕ) (k : List ℕ) (n : ℕ) (K : Known t b scratch k n) → Within (schema t) (K .sheet) (length b)
+unfolding messageReading accepted need
+known-within t b scratch k n K =
+    let M = trip.message-means strict (schema t) scratch b (K .sheet) [] (rw (K .table) at (K .means)) in
+    let x = trip.read-write (schema t) (sized t (K .table)) strict b (K .sheet) M in
+    record { message = x .0; makes = x .1; most = x .2; small = K .small }
 
 pub unwritten : (x : Writing) (n p : ℕ) → Unwritten n p ≡ writtenOf x → x ≡ stopped n p
 unfolding writtenOf

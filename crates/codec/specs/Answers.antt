@@ -105,6 +105,13 @@ pub record Allowed (gs : List Group) (s : List ℕ) (n : ℕ) : Type 0 where
   pub makes : sheetW gs s ≡ wrote message [] []
   pub long : capped (length message) ≡ n
 
+-- An allowed sheet s, whose message X has at most n bytes, where n is a message's length.
+pub record Within (gs : List Group) (s : List ℕ) (n : ℕ) : Type 0 where
+  pub message : List ℕ
+  pub makes : sheetW gs s ≡ wrote message [] []
+  pub most : length message ≤ n
+  pub small : n ≤ 65536
+
 abbrev pub rooms : List ℕ → List ℕ → List ℕ → Rooms
 rooms scratch sheet output = record { scratch = length scratch; sheet = length sheet; output = length output }
 

@@ -15,7 +15,7 @@ ghost use Rattle.message.specs.declared.Walked.the-variants.{Refused as Failed}
 ghost use Rattle.sheet.specs.Written.{written};
 ghost use Rattle.sheet.specs.Rewritten.{onward};
 ghost use Rattle.reading.specs.Part.{bytesIn, startOf};
-ghost use Rattle.codec.specs.Answers.{messageVerdict, scratchAfter, Known, Opened, writtenOf, roomAfter, Writes, toSheet, toMessage, Allowed, rooms, rewriting, numberAnswer, partAnswer, bytesVerdict, spanOf, spanAnswer};
+ghost use Rattle.codec.specs.Answers.{messageVerdict, scratchAfter, Known, Opened, writtenOf, roomAfter, Writes, toSheet, toMessage, Allowed, Within, rooms, rewriting, numberAnswer, partAnswer, bytesVerdict, spanOf, spanAnswer};
 
 // How many bytes were written, or why none.
 pub enum Written {
@@ -299,7 +299,19 @@ fn rewrite_under(
 {
     let shown = sheet_of(table, index, message, size, sheet);
     match shown {
-        Written::Bytes(n) => message_of(table, index, &sheet[0..n], output),
+        Written::Bytes(n) => shorten(table, index, message.len(), &sheet[0..n], output),
         Written::Refused { number, place } => Written::Refused { number, place },
     }
+}
+
+// The message of an accepted message's sheet. Of all messages with that sheet it is a shortest one, so that an output as
+// long as the message that there was, of `most` bytes, needs no count.
+fn shorten(table: &[u8], index: &[u16], most: usize, sheet: &[u8], output: &mut [u8]) -> Written
+    requires { ⌜ (tableVerdict (now table) ≡ Verdict.Accepted) × (Layout (now table) (now index)) × (Within (schema (now table)) (now sheet) most) ⌝ }
+    ensures { λ r. ⌜ Writes (written (schema (now (table .entry))) (length (now (output .entry))) (now (sheet .entry))) r (now (output .entry)) (now (output .exit)) ⌝ }
+{
+    if output.len() < most {
+        return message_of(table, index, sheet, output);
+    }
+    Written::Bytes(writing::write_message(table, index, sheet, output))
 }

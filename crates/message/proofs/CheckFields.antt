@@ -17,18 +17,18 @@ use Rattle.schema.specs.declared.FieldKind.the-variants.{Plain, Number, Inline,
 use Rattle.schema.specs.declared.Tested.{Tested}
 use Rattle.schema.proofs.Records.{fields-more, fields-none}
 use Rattle.schema.proofs.Groups.{placed-fields}
-use Rattle.schema.proofs.Types.{width-optional, width-required}
+use Rattle.schema.proofs.Types.{width-one, width-optional, width-required}
 use Rattle.schema.proofs.Depth.{and-both, shallow-fields, width-fields}
 use Rattle.message.specs.Sheet.{ST, GB, kindMark, fieldMark}
 use Rattle.message.specs.Walk.{Here, here, strict, Reader, Inner, byte, locate, indirectR, innerR, itemsR, listR, textR, kindR, markedR, optionalR, valueR, fieldR, fieldsR, staticR}
-use Rattle.message.specs.Count.{failed, counted, count, more, andThen}
-use Rattle.message.specs.Check.{countBy, after, placeBy, itemR, markedValueR, Ready}
+use Rattle.message.specs.Count.{Count, failed, counted, count, more, andThen}
+use Rattle.message.specs.Check.{countBy, after, placeBy, Lands, itemR, markedValueR, Ready}
 use Rattle.message.specs.declared.Step.{Step}
 use Rattle.message.specs.declared.Step.the-variants.{Counted, Refused}
 use Rattle.message.specs.declared.Frame.{Frame}
 use Rattle.message.specs.declared.Located.{Located}
 use Rattle.message.specs.declared.Located.the-variants.{At, Nowhere}
-use Rattle.message.proofs.Count.{more-more, count-none, count-marked, count-list, count-lost, count-found, count-items, count-fields}
+use Rattle.message.proofs.Count.{more-more, count-none, count-marked, count-list, count-lost, count-found, items-one, count-items, count-fields}
 use Rattle.message.proofs.CheckAnswers.{stays, goes-on, passed, stopped}
 use Rattle.message.proofs.CheckValues.{plain-counts}
 
@@ -85,6 +85,12 @@ module _ (I : Inner) (sw : ℕ → ℕ) (S : ℕ → Reader) (es : List (List �
 
 -- ONE FIELD
 
+-- A count is that of n items of w bytes at p, behind k bytes of the sheet and with the marks m.
+pub record ItemsAt (w : ℕ) (R : Reader) (h : Here) (c : Count) (n p k : ℕ) (m : List ℕ) : Type 0 where
+  pub few : n < 2 ^ 32
+  pub inside : p + n * w ≤ length (h .bytes)
+  pub counts : after k (count (itemsR w R n h p m)) ≡ c
+
 pub flag-wide : (sw : ℕ → ℕ) (f : Field) (o : Bool) → o ≡ f .optional → cond o 1 0 + valueWidth sw f ≡ fieldWidth sw f
 flag-wide sw f true i = let w = width-optional sw f (sym i) in omega (arith, w)
 flag-wide sw f false i = let w = width-required sw f (sym i) in omega (arith, w)
@@ -115,20 +121,30 @@ module _ (I : Inner) (sw : ℕ → ℕ) (S : ℕ → Reader) (f : Field) (h : He
     unfolding fieldMark valueR
     value-one e = rw (ix, e)
 
-    module _ (e : f .sequence ≡ true) (w : ℕ) (iw : w ≡ kindWidth sw x) (F : ℕ → List ℕ) (l : Located) (s : placeBy F l ≡ locate 13 w h at m) where
-      sequence-is : count (markedValueR I sw S f h at m) ≡ more 2 (count (indirectR 13 w (listR w (itemR I S x)) h at m))
-      unfolding valueR
-      sequence-is = count-marked h at m (fieldMark f) (valueR I sw S f) ∙ rw (iw, ix, e)
+    module _ (w : ℕ) (iw : w ≡ kindWidth sw x) where
+      pub one-item : (k : ℕ) → f .sequence ≡ false → at + valueWidth sw f ≤ length (h .bytes) → ItemsAt w (itemR I S x) h (after k (count (markedValueR I sw S f h at m))) 1 at k m
+      one-item k e l = let v : w ≡ valueWidth sw f = iw ∙ ap (kindWidth sw) ix ∙ width-one sw f e in
+          record { few = omega arith; inside = omega (arith, v, l); counts = ap (λ r. after k (count r)) (items-one h at m w (itemR I S x) ∙ sym (value-one e)) }
 
-      pub sequence-nowhere : (n p : ℕ) → l ≡ Nowhere n p → count (markedValueR I sw S f h at m) ≡ failed n p
-      unfolding more
-      sequence-nowhere n p o = sequence-is ∙ ap (more 2) (leads-nowhere 13 w (listR w (itemR I S x)) h at m F l s n p o)
+      module _ (e : f .sequence ≡ true) (F : ℕ → List ℕ) (l : Located) (s : placeBy F l ≡ locate 13 w h at m) where
+        sequence-is : count (markedValueR I sw S f h at m) ≡ more 2 (count (indirectR 13 w (listR w (itemR I S x)) h at m))
+        unfolding valueR
+        sequence-is = count-marked h at m (fieldMark f) (valueR I sw S f) ∙ rw (iw, ix, e)
 
-      pub sequence-found : (n p : ℕ) (y : ℕ) → l ≡ At p n y → p + 4 ≤ length (h .bytes) → count (markedValueR I sw S f h at m) ≡ more 6 (count (itemsR w (itemR I S x) n h (p + 4) (F y)))
-      sequence-found n p y o g =
-          sequence-is
-          ∙ ap (more 2) (leads-to 13 w (listR w (itemR I S x)) h at m F l s n p y o ∙ count-list h p (F y) w (itemR I S x) n g)
-          ∙ more-more 2 4 _
+        pub sequence-nowhere : (n p : ℕ) → l ≡ Nowhere n p → count (markedValueR I sw S f h at m) ≡ failed n p
+        unfolding more
+        sequence-nowhere n p o = sequence-is ∙ ap (more 2) (leads-nowhere 13 w (listR w (itemR I S x)) h at m F l s n p o)
+
+        sequence-found : (n p y : ℕ) → l ≡ At p n y → p + 4 ≤ length (h .bytes) → count (markedValueR I sw S f h at m) ≡ more 6 (count (itemsR w (itemR I S x) n h (p + 4) (F y)))
+        sequence-found n p y o g =
+            sequence-is
+            ∙ ap (more 2) (leads-to 13 w (listR w (itemR I S x)) h at m F l s n p y o ∙ count-list h p (F y) w (itemR I S x) n g)
+            ∙ more-more 2 4 _
+
+        pub sequence-items : (k j n p y : ℕ) → Lands F w (h .bytes) l → l ≡ At p n y → j ≡ (k + 6) % 2 ^ 64
+            → ItemsAt w (itemR I S x) h (after k (count (markedValueR I sw S f h at m))) n (p + 4) j (F y)
+        sequence-items k j n p y L o q = let g = L .inside p n y o in
+            record { few = L .four p n y o; inside = omega (arith, g); counts = sym (goes-on k 6 j _ _ (sequence-found n p y o (omega (arith, g))) q) }
 
 -- ITEMS
 

@@ -1,7 +1,7 @@
 -- Laws of the walk's count, for code that reads a message and writes no sheet: each way to join readers, and one turn of each loop.
 use mathlib.Core.Path.{_≡_, refl, sym, _∙_}
 use mathlib.Core.Bool.{Bool, true, false, cond}
-use mathlib.Core.List.{List, [], _∷_}
+use mathlib.Core.List.{List, [], _∷_, append-nil}
 use Prim.Native.Nat.{ℕ, suc, _+_, _≤_}
 use native.Mathlib.Nat.{zero-add, add-assoc}
 use lib.ListN.{length, length-append}
@@ -56,6 +56,12 @@ unfolding count next andThen
 count-next (refused n p) f = refl
 count-next (done s m) f = count-prefixed s (f m)
 
+-- nothing behind a reading
+next-nothing : (r : Reading) → next r (λ m. done [] m) ≡ r
+unfolding next prefixed
+next-nothing (refused n p) = refl
+next-nothing (done s m) = rw append-nil
+
 pub count-need : (c : Bool) (n p : ℕ) (r : Reading) → count (need c (refused n p) r) ≡ need c (failed n p) (count r)
 unfolding need count
 count-need true n p r = refl
@@ -104,6 +110,11 @@ module _ (h : Here) (at : ℕ) (m : List ℕ) where
       → count (indirectR past w inside h at m) ≡ count (inside n h p m′)
   unfolding indirectR onward
   count-found past w inside p n m′ e = rw e
+
+  -- one item is what reads it
+  pub items-one : (w : ℕ) (R : Reader) → itemsR w R 1 h at m ≡ R h at m
+  unfolding itemsR noneR
+  items-one w R = next-nothing (R h at m)
 
   -- one turn of each loop: what is left
   pub count-items : (w : ℕ) (R : Reader) (n : ℕ)

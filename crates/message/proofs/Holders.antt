@@ -9,7 +9,7 @@ use lib.Seq.{getD-append-add, getD-take, getD-drop, length-take-le}
 use lib.Dec.{leb, ltb, eqb}
 use borrow.Author.Tests.{eq-eqb, lt-ltb, le-ltb, le-leb, lt-leb, ltb-true, ltb-false, eqb-true}
 use Rattle.message.specs.Marks.{free, mark, padsZero}
-use Rattle.message.specs.Conforms.{Extent, extents, Holds, DisjointAll, Apart, Pad}
+use Rattle.message.specs.Conforms.{Extent, Holds, DisjointAll, Apart, Pad}
 use Rattle.message.proofs.Marking.{mark-length}
 use Rattle.message.proofs.Extents.{zero-part, part-zero, marks, Clear}
 

@@ -740,6 +740,8 @@ fn check_field(
     )
 }
 
+// A value that is no sequence is one item. So `check_items` is called in one place, and `check_item` is
+// compiled into its one caller: each call that is left passes its slices through memory.
 fn check_value(
     table: &[u8],
     index: &[u16],
@@ -756,8 +758,12 @@ fn check_value(
     ensures { λ r. ⌜ countBy (λ s. marksOf (frame .area) s (now (marks .exit))) r ≡ after before (count (markedValueR (innerOf (now (table .entry)) (frame .levels)) (widthOf (now (table .entry)) depth) (staticOf (now (table .entry)) (frame .levels) depth) (fieldAt (enums (now (table .entry))) (drop field (now (table .entry)))) (within (now (bytes .entry)) frame) at (marksOf (frame .area) taken (now (marks .entry))))) ⌝ }
 {
     let kind = schema::kind_at(table, field);
+    let width = schema::kind_width(index, kind);
+    let mut total = 1;
+    let mut start = at;
+    let mut holds = taken;
+    let mut length = before;
     if schema::is_sequence(table, field) {
-        let width = schema::kind_width(index, kind);
         let found = locate(bytes, marks, frame, taken, at, 13, width);
         match found {
             Located::At {
@@ -765,27 +771,17 @@ fn check_value(
                 count,
                 taken: now,
             } => {
-                return check_items(
-                    table,
-                    index,
-                    bytes,
-                    marks,
-                    frame,
-                    depth,
-                    kind,
-                    width,
-                    count,
-                    place + 4,
-                    now,
-                    longer(before, 6),
-                );
+                total = count;
+                start = place + 4;
+                holds = now;
+                length = longer(before, 6);
             }
             Located::Nowhere { number, place } => {
                 return Step::Refused { number, place };
             }
         }
     }
-    check_item(
+    check_items(
         table,
         index,
         bytes,
@@ -793,9 +789,11 @@ fn check_value(
         frame,
         depth,
         kind,
-        at,
-        taken,
-        before,
+        width,
+        total,
+        start,
+        holds,
+        length,
     )
 }
 

@@ -8,7 +8,7 @@ use lib.ListN.{length, drop, length-drop, length-append}
 use borrow.Author.Tests.{eq-eqb, ne-eqb}
 use Rattle.sheet.specs.Written.{Writing, stopped, wrote, headed, joined, nextW}
 use Rattle.parsing.specs.Count.{Count, failed, counted, count, capped, after}
-use Rattle.parsing.specs.Parse.{found, Ready}
+use Rattle.parsing.specs.Parse.{passed, refused, found, Ready}
 use Rattle.parsing.specs.declared.Step.{Step}
 
 -- THE CAP
@@ -35,12 +35,6 @@ unfolding capped
 capped-more a b = omega arith
 
 -- RETURNS
-
-abbrev pub passed : ℕ → ℕ → Step
-passed next e = record { number = 0; place = next; length = e }
-
-abbrev pub refused : ℕ → ℕ → Step
-refused k p = record { number = k; place = p; length = 0 }
 
 module _ (s : List ℕ) (d : ℕ) (x : Writing) where
   pub fails : (v : Step) (left : ℕ) → (v .number ≡ 0 → ⊥) → x ≡ stopped (v .number % 256) left → v .place ≡ length s - left → found s v ≡ after d (count (length s) x)

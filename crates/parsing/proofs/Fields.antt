@@ -26,10 +26,11 @@ use Rattle.message.proofs.Tests.{true-false, same-eq}
 use Rattle.sheet.specs.Written.{Writing, stopped, wrote, Writer, InnerW, headed, placed, grab, due, markedW, optionalW, indirectW, textB, innerB, itemsW, listB, kindW, valueW, fieldW, fieldsW, staticW}
 use Rattle.sheet.proofs.Match.{SatW, saidW, unsaidW}
 use Rattle.parsing.specs.Count.{Count, count, capped, after}
-use Rattle.parsing.specs.Parse.{Counts, Finds, recordFault, itemW, markedValueW, plainOf, Ready}
-use Rattle.parsing.proofs.Answers.{passed, refused, refuses, stays, capped-more, after-headed}
+use Rattle.parsing.specs.Parse.{passed, refused, Counts, Finds, recordFault, itemW, markedValueW, plainOf, Ready}
+use Rattle.parsing.proofs.Answers.{refuses, stays, capped-more, after-headed}
 use Rattle.parsing.proofs.Records.{record-small, record-inside, record-good, record-bad, mark-good, mark-bad, at-mark, behind-mark}
 use Rattle.parsing.proofs.Values.{marked-indirect}
+use Rattle.parsing.proofs.Loops.{items-one}
 use Rattle.parsing.proofs.Long.{Long, long-items, long-marked, long-kind}
 
 -- A LIST IN THE DATA AREA
@@ -135,9 +136,9 @@ module _ (s : List ℕ) (pos d : ℕ) (I : InnerW) (sw : ℕ → ℕ) (S : ℕ �
             g (at + 1) fr ∙ sym (after-headed (length s) d (1 ∷ []) _) ∙ ap (λ (u : Writing). after d (count (length s) u)) (sym (optional-is p at fr ∙ there-is q at fr))
 
   module _ (x : Kind) (ix : x ≡ f .kind) where
-    pub value-one : f .sequence ≡ false → (c : Count) → Counts s d (itemW I S x) pos c → Counts s d (markedValueW I sw S f) pos c
+    pub value-one : f .sequence ≡ false → (w : ℕ) (c : Count) → Counts s d (itemsW w (itemW I S x) 1) pos c → Counts s d (markedValueW I sw S f) pos c
     unfolding fieldMark valueW
-    value-one e c g at fr = let g′ = rw ix at (g at fr) in rw e g′
+    value-one e w c g at fr = let g′ = rw ix at (items-one s w (itemW I S x) pos d c g at fr) in rw e g′
 
     module _ (e : f .sequence ≡ true) where
       sequence-is : (at fr : ℕ) → markedValueW I sw S f at fr (drop pos s) ≡ markedW SQ (indirectW (listB 0 (kindWidth sw x) (itemW I S x))) at fr (drop pos s)

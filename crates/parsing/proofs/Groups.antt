@@ -17,10 +17,10 @@ use Rattle.sheet.specs.Written.{Writing, stopped, wrote, Writer, InnerW, joined
 use Rattle.sheet.proofs.Match.{SatW, saidW, unsaidW, satw-need}
 use Rattle.sheet.proofs.Layers.{satw-grab, satw-due}
 use Rattle.parsing.specs.Count.{Count, count, capped, after}
-use Rattle.parsing.specs.Parse.{parsedOf, Counts, Finds, recordFault, endW, Ready}
+use Rattle.parsing.specs.Parse.{passed, refused, parsedOf, Counts, Finds, recordFault, endW, Ready}
 use Rattle.parsing.specs.declared.Parsed.the-variants.{Counted, Refused}
 use Rattle.parsing.specs.declared.Step.{Step}
-use Rattle.parsing.proofs.Answers.{passed, refused, refuses, stays, went, halted, fails, capped-more}
+use Rattle.parsing.proofs.Answers.{refuses, stays, went, halted, fails, capped-more}
 use Rattle.parsing.proofs.Records.{record-small, record-inside, record-good, record-bad, at-mark, behind-mark}
 use Rattle.parsing.proofs.Values.{marked-indirect}
 use Rattle.parsing.proofs.Long.{long-is, long-indirect, long-static, long-extension}

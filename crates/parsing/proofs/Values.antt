@@ -17,9 +17,9 @@ use Rattle.schema.specs.declared.Tested.{Tested}
 use Rattle.schema.specs.declared.Tested.the-variants.{Flag, Millis, Nanos, Symbol}
 use Rattle.message.specs.Sheet.{Mark, VA, ST, XU, markBytes, kindMark, GE}
 use Rattle.sheet.specs.Written.{Writing, stopped, wrote, Writer, InnerW, Body, placed, grab, due, counted, markedW, plainW, inlineW, indirectW, textB, kindW, extendingB}
-use Rattle.parsing.specs.Parse.{Finds, recordFault, countedFault, itemW, endW, Ready}
+use Rattle.parsing.specs.Parse.{passed, refused, Finds, recordFault, countedFault, itemW, endW, Ready}
 use Rattle.parsing.specs.Count.{capped}
-use Rattle.parsing.proofs.Answers.{passed, refused, refuses, adds, stays}
+use Rattle.parsing.proofs.Answers.{refuses, adds, stays}
 use Rattle.parsing.proofs.Records.{record-small, counted-small, record-inside, record-good, record-bad, mark-good, mark-bad, at-mark, behind-mark, counted-inside, counted-good, counted-bad}
 
 -- BEHIND AN OFFSET

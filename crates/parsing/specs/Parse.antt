@@ -26,6 +26,13 @@ unfoldable pub parsedOf : Writing → Parsed
 parsedOf (stopped k p) = Refused k p
 parsedOf (wrote X D r) = Counted (capped (length X))
 
+-- A step that passed, with where the next record begins and the count; and one that found a fault.
+abbrev pub passed : ℕ → ℕ → Step
+passed next e = record { number = 0; place = next; length = e }
+
+abbrev pub refused : ℕ → ℕ → Step
+refused k p = record { number = k; place = p; length = 0 }
+
 -- What a step of the pass over the sheet s found. A fault's number is one byte, as the answer has it.
 unfoldable pub found : List ℕ → Step → Count
 found s v = cond (eqb (v .number) 0) (counted (v .length) (v .place) (drop (v .place) s)) (failed (v .number % 256) (v .place))

@@ -17,7 +17,7 @@ ghost use Rattle.message.specs.Sheet.{ST, XU, NO, markBytes};
 ghost use Rattle.message.specs.Check.{widthOf};
 ghost use Rattle.sheet.specs.Written.{InnerW, Writer, markedW, indirectW, textB, itemsW, extendingB, extensionW, sheetW};
 ghost use Rattle.parsing.specs.Count.{capped};
-ghost use Rattle.parsing.specs.Parse.{parsedOf, Finds, recordFault, countedFault, itemW, endW, innerOf, staticOf, plainOf, itemOf, fieldOf, openedOf, bodyOf, extendingOf, Ready};
+ghost use Rattle.parsing.specs.Parse.{parsedOf, passed, refused, Finds, recordFault, countedFault, itemW, endW, innerOf, staticOf, plainOf, itemOf, fieldOf, openedOf, bodyOf, extendingOf, Ready};
 
 const VA: [u8; 2] = *b"VA";
 
@@ -62,6 +62,28 @@ fn longer(length: usize, by: usize) -> usize
         return length + by;
     }
     65537
+}
+
+// A step that finds a fault.
+fn refused(number: usize, place: usize) -> Step
+    ensures { λ r. ⌜ r ≡ refused number place ⌝ }
+{
+    Step {
+        number,
+        place,
+        length: 0,
+    }
+}
+
+// A step that finds none.
+fn passed(place: usize, length: usize) -> Step
+    ensures { λ r. ⌜ r ≡ passed place length ⌝ }
+{
+    Step {
+        number: 0,
+        place,
+        length,
+    }
 }
 
 // RECORDS
@@ -118,17 +140,9 @@ fn check_plain(sheet: &[u8], width: usize, pos: usize, before: usize) -> Step
 {
     let fault = record_fault(sheet, pos, VA, width);
     if fault != 0 {
-        return Step {
-            number: fault,
-            place: pos,
-            length: 0,
-        };
+        return refused(fault, pos);
     }
-    Step {
-        number: 0,
-        place: pos + (2 + width),
-        length: before,
-    }
+    passed(pos + (2 + width), before)
 }
 
 // "10, 11, 12: no such symbol; bool or flag not 0, 1; 24 hours or more"
@@ -146,25 +160,13 @@ fn check_number(
     let width = wire::wide(schema::tested_width(tested));
     let fault = record_fault(sheet, pos, VA, width);
     if fault != 0 {
-        return Step {
-            number: fault,
-            place: pos,
-            length: 0,
-        };
+        return refused(fault, pos);
     }
     let wrong = wire::wide(schema::test_fault(table, index, tested, sheet, pos + 2));
     if wrong != 0 {
-        return Step {
-            number: wrong,
-            place: pos,
-            length: 0,
-        };
+        return refused(wrong, pos);
     }
-    Step {
-        number: 0,
-        place: pos + (2 + width),
-        length: before,
-    }
+    passed(pos + (2 + width), before)
 }
 
 // "Inline text: 7, 9": it takes its capacity in place, whatever its count.
@@ -174,32 +176,16 @@ fn check_inline(sheet: &[u8], utf8: bool, capacity: u8, pos: usize, before: usiz
 {
     let fault = counted_fault(sheet, pos, ST);
     if fault != 0 {
-        return Step {
-            number: fault,
-            place: pos,
-            length: 0,
-        };
+        return refused(fault, pos);
     }
     let count = wire::read_u32(sheet, pos + 2);
     if wire::wide(capacity) < count {
-        return Step {
-            number: 7,
-            place: pos,
-            length: 0,
-        };
+        return refused(7, pos);
     }
     if schema::is_text(utf8, sheet, pos + 6, count) {
-        return Step {
-            number: 0,
-            place: pos + (6 + count),
-            length: before,
-        };
+        return passed(pos + (6 + count), before);
     }
-    Step {
-        number: 9,
-        place: pos,
-        length: 0,
-    }
+    refused(9, pos)
 }
 
 // Indirect text: its count and its bytes go into the data area.
@@ -209,25 +195,13 @@ fn check_text(sheet: &[u8], utf8: bool, pos: usize, before: usize) -> Step
 {
     let fault = counted_fault(sheet, pos, ST);
     if fault != 0 {
-        return Step {
-            number: fault,
-            place: pos,
-            length: 0,
-        };
+        return refused(fault, pos);
     }
     let count = wire::read_u32(sheet, pos + 2);
     if schema::is_text(utf8, sheet, pos + 6, count) {
-        return Step {
-            number: 0,
-            place: pos + (6 + count),
-            length: longer(before, 4 + count),
-        };
+        return passed(pos + (6 + count), longer(before, 4 + count));
     }
-    Step {
-        number: 9,
-        place: pos,
-        length: 0,
-    }
+    refused(9, pos)
 }
 
 // "`XU` size u32 and that many bytes is a group of unknown type": "1, 45".
@@ -237,32 +211,16 @@ fn check_kept(table: &[u8], index: &[u16], sheet: &[u8], pos: usize, before: usi
 {
     let fault = counted_fault(sheet, pos, XU);
     if fault != 0 {
-        return Step {
-            number: fault,
-            place: pos,
-            length: 0,
-        };
+        return refused(fault, pos);
     }
     let count = wire::read_u32(sheet, pos + 2);
     if count < 12 {
-        return Step {
-            number: 1,
-            place: pos,
-            length: 0,
-        };
+        return refused(1, pos);
     }
     if schema::is_known(table, index, wire::read_u64(sheet, pos + 6)) {
-        return Step {
-            number: 45,
-            place: pos,
-            length: 0,
-        };
+        return refused(45, pos);
     }
-    Step {
-        number: 0,
-        place: pos + (6 + count),
-        length: longer(before, 4 + count),
-    }
+    passed(pos + (6 + count), longer(before, 4 + count))
 }
 
 // So many plain values in a row, each its own record.
@@ -275,20 +233,12 @@ fn check_plains(sheet: &[u8], width: usize, total: usize, pos: usize, before: us
     while i < total {
         let fault = record_fault(sheet, next, VA, width);
         if fault != 0 {
-            return Step {
-                number: fault,
-                place: next,
-                length: 0,
-            };
+            return refused(fault, next);
         }
         next += 2 + width;
         i += 1;
     }
-    Step {
-        number: 0,
-        place: next,
-        length: before,
-    }
+    passed(next, before)
 }
 
 // So many indirect texts in a row, each its own record.
@@ -308,11 +258,7 @@ fn check_texts(sheet: &[u8], utf8: bool, total: usize, pos: usize, before: usize
         length = text.length;
         i += 1;
     }
-    Step {
-        number: 0,
-        place: next,
-        length,
-    }
+    passed(next, length)
 }
 
 // "`NO` is an absent field": whether it stands for the field whose record is at `field`.
@@ -333,17 +279,9 @@ fn check_end(sheet: &[u8], pos: usize, before: usize) -> Step
 {
     let fault = record_fault(sheet, pos, GE, 0);
     if fault != 0 {
-        return Step {
-            number: fault,
-            place: pos,
-            length: 0,
-        };
+        return refused(fault, pos);
     }
-    Step {
-        number: 0,
-        place: pos + 2,
-        length: before,
-    }
+    passed(pos + 2, before)
 }
 
 // GROUPS, FIELDS AND ITEMS
@@ -364,36 +302,20 @@ fn check_group(
 {
     let fault = record_fault(sheet, pos, GB, 8);
     if fault != 0 {
-        return Step {
-            number: fault,
-            place: pos,
-            length: 0,
-        };
+        return refused(fault, pos);
     }
     let total = schema::group_total(index);
     let group = schema::find(table, index, total, wire::read_u64(sheet, pos + 2));
     if total <= group {
-        return Step {
-            number: 2,
-            place: pos,
-            length: 0,
-        };
+        return refused(2, pos);
     }
     if schema::allows(table, index, allowed, group) {
         if levels == 0 {
-            return Step {
-                number: 24,
-                place: pos,
-                length: 0,
-            };
+            return refused(24, pos);
         }
         return check_body(table, index, sheet, levels - 1, group, pos + 10, before);
     }
-    Step {
-        number: 25,
-        place: pos,
-        length: 0,
-    }
+    refused(25, pos)
 }
 
 // The fields, the extension and the end of a group with so many levels left below it. Its head and its
@@ -449,11 +371,7 @@ fn check_fields(
         if plain != 0 {
             let fault = record_fault(sheet, next, VA, plain);
             if fault != 0 {
-                return Step {
-                    number: fault,
-                    place: next,
-                    length: 0,
-                };
+                return refused(fault, next);
             }
             next += 2 + plain;
             field += 16;
@@ -469,15 +387,12 @@ fn check_fields(
         field += 16;
         i += 1;
     }
-    Step {
-        number: 0,
-        place: next,
-        length,
-    }
+    passed(next, length)
 }
 
 // The field whose record stands at `field` of the table: absent, "`SQ` count u32, then the items", or
-// one value.
+// one value. That is checked as one item, so that `check_items` is called in one place only, where it
+// is compiled without a call.
 fn check_field(
     table: &[u8],
     index: &[u16],
@@ -492,39 +407,34 @@ fn check_field(
     ensures { λ r. ⌜ Finds (now (sheet .entry)) before (fieldOf (now (table .entry)) levels depth field) pos r ⌝ }
 {
     if is_absent(table, sheet, field, pos) {
-        return Step {
-            number: 0,
-            place: pos + 2,
-            length: before,
-        };
+        return passed(pos + 2, before);
     }
     let kind = schema::kind_at(table, field);
+    let width = schema::kind_width(index, kind);
+    let mut total = 1;
+    let mut start = pos;
+    let mut length = before;
     if schema::is_sequence(table, field) {
         let fault = record_fault(sheet, pos, SQ, 4);
         if fault != 0 {
-            return Step {
-                number: fault,
-                place: pos,
-                length: 0,
-            };
+            return refused(fault, pos);
         }
-        let count = wire::read_u32(sheet, pos + 2);
-        let width = schema::kind_width(index, kind);
-        let body = longer(before, 4 + count * width);
-        return check_items(
-            table,
-            index,
-            sheet,
-            levels,
-            depth,
-            kind,
-            width,
-            count,
-            pos + 6,
-            body,
-        );
+        total = wire::read_u32(sheet, pos + 2);
+        start = pos + 6;
+        length = longer(before, 4 + total * width);
     }
-    check_item(table, index, sheet, levels, depth, kind, pos, before)
+    check_items(
+        table,
+        index,
+        sheet,
+        levels,
+        depth,
+        kind,
+        width,
+        total,
+        start,
+        length,
+    )
 }
 
 // So many items, each of `width` bytes in place. A count with no items behind it ends at the first
@@ -562,11 +472,7 @@ fn check_items(
         length = item.length;
         i += 1;
     }
-    Step {
-        number: 0,
-        place: next,
-        length,
-    }
+    passed(next, length)
 }
 
 fn check_item(
@@ -603,11 +509,7 @@ fn check_item(
         schema::FieldKind::Static { group } => {
             let fault = record_fault(sheet, pos, SG, 0);
             if fault != 0 {
-                return Step {
-                    number: fault,
-                    place: pos,
-                    length: 0,
-                };
+                return refused(fault, pos);
             }
             check_fields(table, index, sheet, levels, depth, group, pos + 2, before)
         }
@@ -638,28 +540,16 @@ fn check_extension(
     if stands(sheet, pos, XT) {
         let fault = record_fault(sheet, pos, XT, 4);
         if fault != 0 {
-            return Step {
-                number: fault,
-                place: pos,
-                length: 0,
-            };
+            return refused(fault, pos);
         }
         let count = wire::read_u32(sheet, pos + 2);
         if count == 0 {
-            return Step {
-                number: 44,
-                place: pos,
-                length: 0,
-            };
+            return refused(44, pos);
         }
         let body = longer(before, 4 + count * 4);
         return check_groups(table, index, sheet, levels, count, pos + 6, body);
     }
-    Step {
-        number: 0,
-        place: pos,
-        length: before,
-    }
+    passed(pos, before)
 }
 
 fn check_groups(
@@ -686,11 +576,7 @@ fn check_groups(
         length = group.length;
         i += 1;
     }
-    Step {
-        number: 0,
-        place: next,
-        length,
-    }
+    passed(next, length)
 }
 
 // A group of the extension; one of unknown type is kept as bytes.

@@ -1,8 +1,8 @@
 -- The kind of each type, as the code sees it, and its width.
-use Prim.Native.Nat.{ℕ, zero, suc, _+_, _<_, _≤_}
+use Prim.Native.Nat.{ℕ, _+_, _<_, _≤_}
 use mathlib.Core.Path.{_≡_, refl}
 use mathlib.Core.Bool.{true, false}
-use mathlib.Core.List.{List, [], _∷_}
+use mathlib.Core.List.{List, []}
 use native.Mathlib.Omega.{arith}
 use lib.ListN.{length, take, getD, List·getD-eq-default}
 use lib.Dec.{ltb}
@@ -65,12 +65,6 @@ module _ (es : List (List ℕ)) (type size ref : ℕ) where
 -- one number less of those that `type` may be: a `match` on numbers says what it is not, one by one
 pub above : (type n : ℕ) → n ≤ type → (type ≡ n → ⊥) → n + 1 ≤ type
 above type n h d = omega arith
-
--- what stands in a list inside its length is what stands there with any other default
-pub get-inside : (s : List ℕ) (i d e : ℕ) → i < length s → getD s i d ≡ getD s i e
-get-inside [] i d e h = absurd (omega arith)
-get-inside (x ∷ s) zero d e h = refl
-get-inside (x ∷ s) (suc i) d e h = get-inside s i d e (omega arith)
 
 module _ (sw : ℕ → ℕ) (f : Field) where
   pub width-sequence : f .sequence ≡ true → 4 ≡ valueWidth sw f

@@ -251,13 +251,17 @@ pub fn reference(table: &[u8], at: usize) -> usize
     wire::read_u16(table, at + 6)
 }
 
-const SCALAR_WIDTHS: [u8; 17] = [1, 1, 1, 2, 2, 4, 4, 8, 8, 8, 9, 1, 4, 8, 8, 4, 8];
-
 fn scalar_width(number: u8) -> u8
     requires { ⌜ number < 17 ⌝ }
     ensures { λ r. ⌜ r ≡ scalarWidth number ⌝ }
 {
-    SCALAR_WIDTHS[wire::wide(number)]
+    match number {
+        0 | 1 | 2 | 11 => 1,
+        3 | 4 => 2,
+        5 | 6 | 12 | 15 => 4,
+        10 => 9,
+        _ => 8,
+    }
 }
 
 // A string's or binary's kind.

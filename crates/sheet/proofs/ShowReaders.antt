@@ -20,11 +20,11 @@ use Rattle.schema.specs.declared.Tested.the-variants.{Flag, Millis, Nanos, Symb
 use Rattle.schema.proofs.Records.{fields-more, fields-none}
 use Rattle.message.specs.Marks.{mark}
 use Rattle.message.specs.Sheet.{Mark, VA, ST, SG, SQ, GB, XT, XU, markBytes, NO, GE, kindMark, fieldMark}
-use Rattle.message.specs.Walk.{Reading, refused, done, prefixed, next, Here, here, strict, Reader, Inner, byte, word, Place, lost, locate, onward, noneR, thenR, markedR, optionalR, plainR, inlineR, indirectR, textR, innerR, itemsR, listR, kindR, valueR, fieldR, fieldsR, staticR, extendingR, groupsR, extensionR, extensionIn, behindR, padded, bodyR, headR, groupR, walk}
+use Rattle.message.specs.Walk.{Reading, refused, done, prefixed, next, Here, here, strict, Reader, Inner, byte, word, Place, lost, locate, onward, noneR, thenR, markedR, optionalR, plainR, inlineR, indirectR, textR, innerR, itemsR, listR, kindR, valueR, fieldR, fieldsR, extendingR, groupsR, extensionR, extensionIn, behindR, padded, bodyR, headR, groupR, walk}
 use Rattle.message.specs.Check.{itemR, markedValueR, innerOf, staticOf}
 use Rattle.message.proofs.Count.{length-mark}
 use Rattle.message.proofs.CheckFields.{field-required, field-optional, field-there, value-one}
-use Rattle.sheet.specs.Show.{Passage, passage, whole, Reads, Fits, Shown}
+use Rattle.sheet.specs.Show.{Passage, passage, whole, bodyOf, Reads, Fits, Shown}
 use Rattle.sheet.proofs.ShowLaws.{need-done, next-done, just, then, Opens, alike, Left, shown-none, shown-opens, opened, first-fits, called, written}
 
 -- THE MARKS, AS THE CODE HAS THEM
@@ -68,6 +68,12 @@ prefixed-twice : (x y : List ℕ) (r : Reading) → prefixed x (prefixed y r) �
 unfolding prefixed
 prefixed-twice x y (refused n p) = refl
 prefixed-twice x y (done s m) = ap (λ (t : List ℕ). done t m) (sym (append-assoc x y s))
+
+-- nothing behind a reading
+next-none : (r : Reading) → next r (λ m. done [] m) ≡ r
+unfolding next prefixed
+next-none (refused n p) = refl
+next-none (done s m) = ap (λ (t : List ℕ). done t m) (append-nil s)
 
 -- a reading of an inner group, whose marks do not matter
 inner-done : (x : List ℕ) (r : Reading) (i s m : List ℕ) → prefixed x (next r (λ _. done [] i)) ≡ done s m → (j : List ℕ) × (prefixed x r ≡ done s j)
@@ -177,6 +183,11 @@ inline-written n pos x out m₁ m₂ m₃ e f g l h =
 
 -- ITEMS AND FIELDS, ONE BY ONE
 
+-- one item by itself
+items-one : (w : ℕ) (R : Reader) (h : Here) (at : ℕ) (m : List ℕ) → itemsR w R 1 h at m ≡ R h at m
+unfolding itemsR noneR
+items-one w R h at m = next-none (R h at m)
+
 module _ (w : ℕ) (R : Reader) (b : List ℕ) (n i at : ℕ) where
   pub items-turn : i < n → Opens (passage (itemsR w R (n - i)) b at) (then (passage R b at) (passage (itemsR w R (n - (i + 1))) b (at + w)))
   unfolding itemsR
@@ -249,8 +260,8 @@ module _ (I : Inner) (sw : ℕ → ℕ) (S : ℕ → Reader) (f : Field) (b : Li
   field-always o = alike _ _ (λ base area m. field-required I sw S f (here strict b base area) at m o)
 
   module _ (x : Kind) (ix : x ≡ f .kind) where
-    pub value-item : f .sequence ≡ false → Opens (passage (markedValueR I sw S f) b at) (passage (itemR I S x) b at)
-    value-item e = alike _ _ (λ base area m. value-one I sw S f (here strict b base area) at m x ix e)
+    pub value-item : f .sequence ≡ false → (w : ℕ) → Opens (passage (markedValueR I sw S f) b at) (passage (itemsR w (itemR I S x) 1) b at)
+    value-item e w = alike _ _ (λ base area m. let h = here strict b base area in value-one I sw S f h at m x ix e ∙ sym (items-one w (itemR I S x) h at m))
 
     module _ (e : f .sequence ≡ true) (w : ℕ) (iw : w ≡ kindWidth sw x) where
       value-list : Opens (passage (markedValueR I sw S f) b at) (passage (markedR SQ (indirectR 13 w (listR w (itemR I S x)))) b at)
@@ -379,31 +390,31 @@ unfolding padded
 padded-done h (refused n p) s m e = absurd (let z : _≡_ {A = ℕ} 0 1 = cc in omega arith)
 padded-done h (done t i) s m e = let q = need-done _ _ _ _ _ _ e .1 in (i, cc)
 
-module _ (gs : List Group) (I : Inner) (g base : ℕ) (b s m : List ℕ) (e : bodyR strict gs I g base b ≡ done s m) where
-  body-wide : 16 + width gs 5 g ≤ length b
+-- a group's bytes, once it is known which group it is: its width, and its parts
+module _ (t : List ℕ) (l g : ℕ) (b s : List ℕ) (r : Reads (bodyOf t l g b) s) where
+  pub body-wide : 16 + width (schema t) 5 g ≤ length b
   unfolding bodyR
-  body-wide = leb-true _ _ (need-done _ _ _ _ _ _ e .0)
+  body-wide = leb-true _ _ (need-done _ _ _ _ _ _ (r .is) .0)
 
-  body-parts : Reads (then (just (part 8 4 b)) (then (then (passage (staticR gs I 5 g) b 16) (passage (extensionR gs I) b 12)) (just GE))) s
+  pub body-opens : Reads (then (just (part 8 4 b)) (then (then (passage (staticOf t l 5 g) b 16) (passage (extensionR (schema t) (innerOf t l)) b 12)) (just GE))) s
   unfolding bodyR behindR next
-  body-parts =
-      let h : Here = here strict b base (16 + width gs 5 g) in
+  body-opens =
+      let h : Here = here strict b (r .base) (16 + width (schema t) 5 g) in
       let o : List ℕ = replicate (length b) 0 in
-      let K : Reading = next (staticR gs I 5 g h 16 o) (λ m′. extensionR gs I h 12 m′) in
-      let B : Reading = behindR (staticR gs I 5 g) (extensionR gs I) h 12 o in
-      let u = padded-done h (prefixed (part 8 4 b) (next B (λ m. done GE m))) s m (need-done _ _ _ _ _ _ e .1) in
+      let K : Reading = next (staticOf t l 5 g h 16 o) (λ m′. extensionR (schema t) (innerOf t l) h 12 m′) in
+      let B : Reading = behindR (staticOf t l 5 g) (extensionR (schema t) (innerOf t l)) h 12 o in
+      let u = padded-done h (prefixed (part 8 4 b) (next B (λ m. done GE m))) s (r .taken) (need-done _ _ _ _ _ _ (r .is) .1) in
       let v = prefixed-done (part 8 4 b) (next B (λ m. done GE m)) s (u .0) (u .1) in
       let w = next-done B (λ m. done GE m) (v .0) (u .0) (v .1) in
-      let q : B ≡ K = w .reads ∙ sym (need-done (extensionIn h 12) 3 (base + 12) K (w .first) (w .marks) (w .reads) .1) in
-      record { base = base; area = 16 + width gs 5 g; marks = o; taken = u .0; is = ap (λ (r : Reading). prefixed (part 8 4 b) (next r (λ m. done GE m))) (sym q) ∙ u .1 }
+      let q : B ≡ K = w .reads ∙ sym (need-done (extensionIn h 12) 3 (r .base + 12) K (w .first) (w .marks) (w .reads) .1) in
+      record { base = r .base; area = h .area; marks = o; taken = u .0; is = ap (λ (x : Reading). prefixed (part 8 4 b) (next x (λ m. done GE m))) (sym q) ∙ u .1 }
 
--- what a group's reading tells, and its parts
+-- what a group's reading tells before its body
 pub record Head (t : List ℕ) (l : ℕ) (b s : List ℕ) : Type 0 where
   pub some : 0 < l
   pub long : 16 ≤ length b
   pub inside : find (schema t) (le (part 8 4 b)) < length (schema t)
-  pub wide : 16 + width (schema t) 5 (find (schema t) (le (part 8 4 b))) ≤ length b
-  pub parts : Reads (then (just (part 8 4 b)) (then (then (passage (staticOf t (l - 1) 5 (find (schema t) (le (part 8 4 b)))) b 16) (passage (extensionR (schema t) (innerOf t (l - 1))) b 12)) (just GE))) s
+  pub body : Reads (bodyOf t (l - 1) (find (schema t) (le (part 8 4 b))) b) s
 
 pub head : (t : List ℕ) (l a : ℕ) (b s : List ℕ) → Reads (whole t l a b) s → Head t l b s
 unfolding groupR headR known
@@ -423,13 +434,12 @@ head t (suc l) a b s r =
       some = omega arith;
       long = leb-true _ _ (x .0);
       inside = ltb-true _ _ (y .0);
-      wide = body-wide (schema t) (innerOf t l) _ (r .base) b s (r .taken) e;
-      parts = rw q (body-parts (schema t) (innerOf t l) _ (r .base) b s (r .taken) e);
+      body = rw q (record { base = r .base; area = r .area; marks = r .marks; taken = r .taken; is = e });
     }
 
 module _ (t : List ℕ) (l a : ℕ) (b : List ℕ) (g : ℕ) (ig : g ≡ find (schema t) (le (part 8 4 b))) where
-  pub group-opens : Opens (whole t l a b) (then (just (part 8 4 b)) (then (then (passage (staticOf t (l - 1) 5 g) b 16) (passage (extensionR (schema t) (innerOf t (l - 1))) b 12)) (just GE)))
-  group-opens s r = rw ig (head t l a b s r .parts)
+  pub group-opens : Opens (whole t l a b) (bodyOf t (l - 1) g b)
+  group-opens s r = rw ig (head t l a b s r .body)
 
 -- THE MESSAGE
 

@@ -10,7 +10,7 @@ use Rattle.schema.specs.Table.{fieldAt, enums, schema}
 use Rattle.schema.specs.FieldKinds.{kindFrom}
 use Rattle.schema.specs.declared.FieldKind.{FieldKind}
 use Rattle.message.specs.Sheet.{VA, GB}
-use Rattle.message.specs.Walk.{Reading, done, here, strict, Reader, markedR, plainR, indirectR, innerR, fieldR, extendingR, extensionR, groupR}
+use Rattle.message.specs.Walk.{Reading, done, here, strict, Reader, markedR, plainR, indirectR, innerR, fieldR, extendingR, extensionR, bodyR, groupR}
 use Rattle.message.specs.Check.{itemR, markedValueR, innerOf, widthOf, staticOf}
 
 -- What is read at one place of a message, by the start of its group, the group's data area and its marks.
@@ -23,6 +23,10 @@ passage R b at base area m = R (here strict b base area) at m
 
 abbrev pub whole : List ℕ → ℕ → ℕ → List ℕ → Passage
 whole t levels allowed b base area m = groupR strict (schema t) levels allowed base b
+
+-- b, as the group g with so many levels left below it
+abbrev pub bodyOf : List ℕ → ℕ → ℕ → List ℕ → Passage
+bodyOf t levels g b base area m = bodyR strict (schema t) (innerOf t levels) g base b
 
 -- READERS, AS THE CODE CALLS THEM
 -- by the table t, the levels left below the group, the static depth below which it lies, and where the field's record stands

@@ -15,7 +15,7 @@ ghost use Rattle.schema.specs.FieldKinds.{kindFrom};
 ghost use Rattle.message.specs.Sheet.{ST, markBytes};
 ghost use Rattle.message.specs.Walk.{done, byte, word, strict, itemsR, walk};
 ghost use Rattle.message.specs.Check.{widthOf, staticOf};
-ghost use Rattle.sheet.specs.Show.{passage, whole, plainOf, itemOf, valueOf, fieldOf, nestedOf, extensionOf, extendingOf, Fits, Shown};
+ghost use Rattle.sheet.specs.Show.{passage, whole, bodyOf, plainOf, itemOf, valueOf, fieldOf, nestedOf, extensionOf, extendingOf, Fits, Shown};
 
 const VA: [u8; 2] = *b"VA";
 
@@ -110,10 +110,25 @@ fn show_group(
 {
     let total = schema::group_total(index);
     let group = schema::find(table, index, total, wire::read_u64(bytes, 4));
-    let deeper = levels - 1;
+    show_body(table, index, bytes, levels - 1, group, out, pos)
+}
+
+// The type id, the fields, the extension and the end of a group, with `levels` left below it.
+fn show_body(
+    table: &[u8],
+    index: &[u16],
+    bytes: &[u8],
+    levels: usize,
+    group: usize,
+    out: &mut [u8],
+    pos: usize,
+) -> usize
+    requires { ⌜ (Layout (now table) (now index)) × (length (now bytes) ≤ 65536) × (group < length (schema (now table))) × (Fits (bodyOf (now table) levels group (now bytes)) pos (now out)) ⌝ }
+    ensures { λ r. ⌜ Shown (bodyOf (now (table .entry)) levels group (now (bytes .entry))) pos (now (out .entry)) (now (out .exit)) r ⌝ }
+{
     wire::copy(out, pos, &bytes[4..12]);
-    let fields = show_fields(table, index, bytes, deeper, 5, group, 16, out, pos + 8);
-    let extension = show_extension(table, index, bytes, deeper, out, fields);
+    let fields = show_fields(table, index, bytes, levels, 5, group, 16, out, pos + 8);
+    let extension = show_extension(table, index, bytes, levels, out, fields);
     show_mark(GE, out, extension)
 }
 
@@ -173,13 +188,14 @@ fn show_field(
     requires { ⌜ (Layout (now table) (now index)) × (length (now bytes) ≤ 65536) × (field + 16 ≤ length (now table)) × (at + fieldWidth (widthOf (now table) depth) (fieldAt (enums (now table)) (drop field (now table))) ≤ length (now bytes)) × (shallowKind (shallow (schema (now table)) depth) (widthOf (now table) depth) (fieldAt (enums (now table)) (drop field (now table)) .kind) ≡ true) × (Fits (passage (fieldOf (now table) levels depth field) (now bytes) at) pos (now out)) ⌝ }
     ensures { λ r. ⌜ Shown (passage (fieldOf (now (table .entry)) levels depth field) (now (bytes .entry)) at) pos (now (out .entry)) (now (out .exit)) r ⌝ }
 {
+    let mut place = at;
     if schema::is_optional(table, field) {
         if bytes[at] != 1 {
             return show_mark(NO, out, pos);
         }
-        return show_value(table, index, bytes, levels, depth, field, at + 1, out, pos);
+        place += 1;
     }
-    show_value(table, index, bytes, levels, depth, field, at, out, pos)
+    show_value(table, index, bytes, levels, depth, field, place, out, pos)
 }
 
 fn show_value(
@@ -197,26 +213,29 @@ fn show_value(
     ensures { λ r. ⌜ Shown (passage (valueOf (now (table .entry)) levels depth field) (now (bytes .entry)) at) pos (now (out .entry)) (now (out .exit)) r ⌝ }
 {
     let kind = schema::kind_at(table, field);
+    let width = schema::kind_width(index, kind);
+    let mut total = 1;
+    let mut start = at;
+    let mut next = pos;
     if schema::is_sequence(table, field) {
-        let width = schema::kind_width(index, kind);
         let place = at + wire::read_u32(bytes, at);
-        let count = wire::read_u32(bytes, place);
-        let next = show_bytes(SQ, bytes, place, 4, out, pos);
-        return show_items(
-            table,
-            index,
-            bytes,
-            levels,
-            depth,
-            kind,
-            width,
-            count,
-            place + 4,
-            out,
-            next,
-        );
+        total = wire::read_u32(bytes, place);
+        start = place + 4;
+        next = show_bytes(SQ, bytes, place, 4, out, pos);
     }
-    show_item(table, index, bytes, levels, depth, kind, at, out, pos)
+    show_items(
+        table,
+        index,
+        bytes,
+        levels,
+        depth,
+        kind,
+        width,
+        total,
+        start,
+        out,
+        next,
+    )
 }
 
 // So many items, each of `width` bytes.

@@ -7,6 +7,7 @@ use native.Mathlib.Nat.{add-sub-cancel-left, sub-zero, mul-one, mul-le-mul-right
 use mathlib.Core.Path.{_≡_, sym, _∙_, refl, ap}
 use mathlib.Core.Bool.{true}
 use mathlib.Core.List.{[]}
+use mathlib.Core.Logic.{⊎-elim}
 use lib.ListN.{length, drop}
 use lib.Dec.{leb}
 use Rattle.schema.specs.Schema.{fieldsWidth, shallowFields, shallow, find}
@@ -14,16 +15,16 @@ use Rattle.schema.specs.Table.{fieldAt, fieldsAt, enums, schema}
 use Rattle.schema.specs.Layout.{widthIn}
 use Rattle.schema.specs.FieldKinds.{kindFrom}
 use Rattle.schema.proofs.Records.{fields-more}
-use Rattle.schema.proofs.Types.{width-sequence, width-one, width-optional}
+use Rattle.schema.proofs.Types.{width-sequence, width-optional}
 use Rattle.schema.proofs.Groups.{static-inside, placed-inside, find-whole, layout-width}
 use Rattle.schema.proofs.Depth.{and-both, shallow-some, width-cons, shallow-cons, wide-kind, wide-value, wide-field}
 use Rattle.message.specs.Walk.{byte, markedR, indirectR, innerR, itemsR, fieldsR, extendingR, valueR}
 use Rattle.message.specs.Count.{count, counted}
-use Rattle.message.specs.Check.{marksOf, closing, after, within, itemR, innerOf, widthOf, staticOf}
+use Rattle.message.specs.Check.{marksOf, closing, after, within, itemR, markedValueR, innerOf, widthOf, staticOf}
 use Rattle.message.proofs.Count.{count-marked, count-inner}
 use Rattle.message.proofs.CheckAnswers.{refuses, counts, stays, goes-on, passed, stopped, bounded}
 use Rattle.message.proofs.CheckMarks.{retaken, pads-none}
-use Rattle.message.proofs.CheckFields.{leads-nowhere, leads-to, fields-passed, fields-stopped, fields-end, plain-wide, fields-plain, flag-wide, flag-unset, field-optional, field-set, value-one, sequence-nowhere, sequence-found, items-passed, items-stopped, items-end, items-left, items-plain, items-indirect, items-dynamic, item-plain, item-number, item-inline, item-indirect, item-static, item-dynamic, wide-number, wide-inline, wide-indirect, wide-static, wide-dynamic, kind-static, start-inside, start-static, start-width, start-shallow, ready}
+use Rattle.message.proofs.CheckFields.{leads-nowhere, leads-to, fields-passed, fields-stopped, fields-end, plain-wide, fields-plain, flag-wide, flag-unset, field-optional, field-set, ItemsAt, one-item, sequence-nowhere, sequence-items, items-passed, items-stopped, items-end, items-left, items-plain, items-indirect, items-dynamic, item-plain, item-number, item-inline, item-indirect, item-static, item-dynamic, wide-number, wide-inline, wide-indirect, wide-static, wide-dynamic, kind-static, start-inside, start-static, start-width, start-shallow, ready}
 use Rattle.message.proofs.CheckGroups.{nested-passed, nothing-taken, extension-zero, extension-nowhere, extension-empty, extension-some, extending-short, extending-known, extending-kept, body-narrow, body-loose, body-stopped, body-passed, body-plain, closing-clean, group-short, group-unknown, group-other, group-deep, group-body}
 use borrow.Fn.Kinds.{In}
 use borrow.Fn.PlainCycle.{Measures, is, falls, and}
@@ -768,41 +769,51 @@ check-rest-returns-2 : (t : ℕ) → check-rest-lts.Need-returns-2 (check-rest-c
 check-rest-returns-2 t c = let a = c .before .before .before .before .before .before .before .before .before .before .before .args in stopped _ (a .before) _ _ (c .before .before .before .before .before .check-extension .ensures) _ _ _ (closing (a .bytes .now) (a .frame .base) (a .frame .area)) (c .before .extension2 .given .1)
 
 abbrev check-value-claims : ℕ → check-value-lts.Claims
-check-value-claims t = (kind-at-reads.Asked, kind-at-reads.Learnt, is-sequence-reads.Asked, is-sequence-reads.Learnt, kind-width-reads.Asked, kind-width-reads.Learnt, locate-reads.Asked, locate-reads.Learnt, longer-reads.Asked, longer-reads.Learnt, check-items-below t, check-items.Post, check-item-below t, check-item.Post)
+check-value-claims t = (kind-at-reads.Asked, kind-at-reads.Learnt, kind-width-reads.Asked, kind-width-reads.Learnt, is-sequence-reads.Asked, is-sequence-reads.Learnt, locate-reads.Asked, locate-reads.Learnt, longer-reads.Asked, longer-reads.Learnt, check-items-below t, check-items.Post)
 
 check-value-locate-requires : (t : ℕ) → check-value-lts.Need-locate-requires (check-value-claims t) (check-value-at t) check-value.Post
-check-value-locate-requires t c κs = let a = c .before .before .before .before .before .before .before .before .before .args in let t = a .table .now in
-    let w = width-sequence (widthOf t (a .depth)) (fieldAt (enums t) (drop (a .field) t)) (sym (c .before .before .before .is-sequence .ensures (enums t)) ∙ c .before .before .if1 .taken) in
-    (c .before .before .before .before .before .before .before .before .before .pre .1 .0 .same, c .before .before .before .before .before .before .before .before .before .pre .1 .0 .small, c .before .before .before .before .before .before .before .before .before .pre .1 .0 .room, omega (arith, w, c .before .before .before .before .before .before .before .before .before .pre .1 .2), c .before .kind-width .ensures .1)
+check-value-locate-requires t c κs = let s = c .before .before .before .before .before .before .before .before .before in let a = s .args in let t = a .table .now in
+    let w = width-sequence (widthOf t (a .depth)) (fieldAt (enums t) (drop (a .field) t)) (sym (c .before .before .is-sequence .ensures (enums t)) ∙ c .before .if1 .taken) in
+    (s .pre .1 .0 .same, s .pre .1 .0 .small, s .pre .1 .0 .room, omega (arith, w, s .pre .1 .2), c .before .before .before .kind-width .ensures .1)
 
-check-value-add-check-items : (t : ℕ) → check-value-lts.Need-add-check-items (check-value-claims t) (check-value-at t) check-value.Post
-check-value-add-check-items t c = omega (arith, c .before .before .before .before .before .before .locate .ensures .1 .inside _ _ _ (c .before .before .found .given .1))
-
-check-value-check-items-requires : (t : ℕ) → check-value-lts.Need-check-items-requires (check-value-claims t) (check-value-at t) check-value.Post
-check-value-check-items-requires t c κs = let a = c .before .before .before .before .before .before .before .before .before .before .before .before .before .before .before .before .before .args in let t = a .table .now in let q = c .before .before .before .before .before .before .before .locate .ensures .1 .inside _ _ _ (c .before .before .before .found .given .1) in
-    let k = c .before .before .before .before .before .before .before .before .before .before .before .before .kind-at .ensures (enums t) in
-    let d = rw (sym k) at (c .before .before .before .before .before .before .before .before .before .before .before .before .before .before .before .before .before .pre .1 .3) in
-    (search needs, (ready _ _ _ _ _ _ (c .before .before .before .before .before .before .before .before .before .before .before .before .before .before .before .before .before .pre .1 .0) (omega (arith, c .before .before .before .before .before .before .before .locate .kept, c .before .before .before .before .before .before .before .before .before .before .before .before .before .before .before .before .before .pre .1 .0 .same)), omega (arith, q), c .before .before .before .before .before .before .before .locate .ensures .1 .four _ _ _ (c .before .before .before .found .given .1), c .before .before .before .before .before .before .before .before .before .kind-width .ensures .1, c .before .before .before .before .before .before .before .before .before .kind-width .ensures .0 (enums t) ∙ wide-kind t (a .index .now) (c .before .before .before .before .before .before .before .before .before .before .before .before .before .before .before .before .before .pre .1 .0 .layout) (a .depth) _ d, d))
+check-value-add-start : (t : ℕ) → check-value-lts.Need-add-start (check-value-claims t) (check-value-at t) check-value.Post
+check-value-add-start t c = omega (arith, c .before .before .before .before .before .locate .ensures .1 .inside _ _ _ (c .before .found .given .1))
 
 check-value-returns : (t : ℕ) → check-value-lts.Need-returns (check-value-claims t) (check-value-at t) check-value.Post
-check-value-returns t c = let a = c .before .before .before .before .before .before .before .before .before .before .before .before .before .before .before .before .before .before .before .before .args in let t = a .table .now in
-    let d = rw (sym (c .before .before .before .before .before .before .before .before .before .before .before .before .before .before .before .kind-at .ensures (enums t))) at (c .before .before .before .before .before .before .before .before .before .before .before .before .before .before .before .before .before .before .before .before .pre .1 .3) in
-    c .before .before .check-items .ensures ∙ sym (goes-on (a .before) 6 _ _ _ (sequence-found (innerOf t (a .frame .levels)) (widthOf t (a .depth)) (staticOf t (a .frame .levels) (a .depth)) (fieldAt (enums t) (drop (a .field) t)) (within (a .bytes .now) (a .frame)) (a .at) (marksOf (a .frame .area) (a .taken) (a .marks .now)) _ (c .before .before .before .before .before .before .before .before .before .before .before .before .before .before .before .kind-at .ensures (enums t)) (sym (c .before .before .before .before .before .before .before .before .before .before .before .before .before .before .is-sequence .ensures (enums t)) ∙ c .before .before .before .before .before .before .before .before .before .before .before .before .before .if1 .taken) (c .before .before .before .before .before .before .before .before .before .before .before .before .kind-width .result) (c .before .before .before .before .before .before .before .before .before .before .before .before .kind-width .ensures .0 (enums t) ∙ wide-kind t (a .index .now) (c .before .before .before .before .before .before .before .before .before .before .before .before .before .before .before .before .before .before .before .before .pre .1 .0 .layout) (a .depth) _ d) _ _ (c .before .before .before .before .before .before .before .before .before .before .locate .ensures .0) _ _ _ (c .before .before .before .before .before .before .found .given .1) (omega (arith, c .before .before .before .before .before .before .before .before .before .before .locate .ensures .1 .inside _ _ _ (c .before .before .before .before .before .before .found .given .1)))) (c .before .before .before .longer .ensures))
+check-value-returns t c = let s = c .before .before .before .before .before .before .before .before .before .before .before .before .before .before .before in let a = s .args in let t = a .table .now in
+    let k = c .before .before .before .before .before .before .before .before .before .before .kind-at .ensures (enums t) in
+    let w = c .before .before .before .before .before .before .before .before .before .kind-width in
+    refuses _ _ _ _ _ (sequence-nowhere _ _ _ _ _ _ _ _ k _ (w .ensures .0 (enums t) ∙ wide-kind t (a .index .now) (s .pre .1 .0 .layout) (a .depth) _ (rw (sym k) at (s .pre .1 .3))) (sym (c .before .before .before .before .before .before .before .before .is-sequence .ensures (enums t)) ∙ c .before .before .before .before .before .before .before .if1 .taken) _ _ (c .before .before .before .before .before .locate .ensures .0) _ _ (c .before .found2 .given .1))
+
+-- where the ways meet: the items that the value is
+check-value-joined : (t : ℕ) (c : check-value-lts.Joined1 (check-value-claims t) (check-value-at t) check-value.Post)
+    → let s = c .before .before .before .before .before .before .before .before in let a = s .args in let t = a .table .now in let j = c .if1 in
+    (length (j .marks) ≡ length (a .bytes .now))
+    × ItemsAt (c .before .before .kind-width .result) (itemR (innerOf t (a .frame .levels)) (staticOf t (a .frame .levels) (a .depth)) (kindFrom (enums t) (c .before .before .before .kind-at .result))) (within (a .bytes .now) (a .frame))
+    (after (a .before) (count (markedValueR (innerOf t (a .frame .levels)) (widthOf t (a .depth)) (staticOf t (a .frame .levels) (a .depth)) (fieldAt (enums t) (drop (a .field) t)) (within (a .bytes .now) (a .frame)) (a .at) (marksOf (a .frame .area) (a .taken) (a .marks .now)))))
+    (j .total) (j .start) (j .length) (marksOf (a .frame .area) (j .holds) (j .marks))
+check-value-joined t c = let s = c .before .before .before .before .before .before .before .before in let a = s .args in let t = a .table .now in
+    let k = c .before .before .before .kind-at .ensures (enums t) in
+    let w = c .before .before .kind-width in
+    let iw = w .ensures .0 (enums t) ∙ wide-kind t (a .index .now) (s .pre .1 .0 .layout) (a .depth) _ (rw (sym k) at (s .pre .1 .3)) in
+    let q = c .before .is-sequence .ensures (enums t) in
+    ⊎-elim
+    (λ p. rw (p .9, p .10, p .11, p .12, p .13) (omega (arith, p .2 .kept, s .pre .1 .0 .same), sequence-items _ _ _ _ _ _ _ _ k _ iw (sym q ∙ p .0 .taken) _ _ (p .2 .ensures .0) (a .before) _ _ _ _ (p .2 .ensures .1) (p .6 .given .1) (p .8 .ensures)))
+    (λ p. rw (p .1, p .2, p .3, p .4, p .5) (s .pre .1 .0 .same, one-item _ _ _ _ _ _ _ _ k _ iw (a .before) (sym q ∙ p .0 .left) (s .pre .1 .2)))
+    (c .if1 .came)
+
+check-value-check-items-requires : (t : ℕ) → check-value-lts.Need-check-items-requires (check-value-claims t) (check-value-at t) check-value.Post
+check-value-check-items-requires t c κs = let s = c .before .before .before .before .before .before .before .before .before in let a = s .args in let t = a .table .now in
+    let j = check-value-joined _ (c .before) in
+    let d = rw (sym (c .before .before .before .before .kind-at .ensures (enums t))) at (s .pre .1 .3) in
+    let w = c .before .before .before .kind-width .ensures in
+    (search needs, (ready _ _ _ _ _ _ (s .pre .1 .0) (j .0), j .1 .inside, j .1 .few, w .1, w .0 (enums t) ∙ wide-kind t (a .index .now) (s .pre .1 .0 .layout) (a .depth) _ d, d))
+
+check-value-same-length-2 : (t : ℕ) → check-value-lts.Need-same-length-2 (check-value-claims t) (check-value-at t) check-value.Post
+check-value-same-length-2 t c = omega (arith, c .before .before .check-items .kept, check-value-joined t (c .before .before .before .before) .0, c .before .before .before .before .before .before .before .before .before .before .before .before .pre .1 .0 .same)
 
 check-value-returns-2 : (t : ℕ) → check-value-lts.Need-returns-2 (check-value-claims t) (check-value-at t) check-value.Post
-check-value-returns-2 t c = let a = c .before .before .before .before .before .before .before .before .before .before .before .before .before .before .before .args in let t = a .table .now in
-    let d = rw (sym (c .before .before .before .before .before .before .before .before .before .before .kind-at .ensures (enums t))) at (c .before .before .before .before .before .before .before .before .before .before .before .before .before .before .before .pre .1 .3) in
-    refuses _ _ _ _ _ (sequence-nowhere (innerOf t (a .frame .levels)) (widthOf t (a .depth)) (staticOf t (a .frame .levels) (a .depth)) (fieldAt (enums t) (drop (a .field) t)) (within (a .bytes .now) (a .frame)) (a .at) (marksOf (a .frame .area) (a .taken) (a .marks .now)) _ (c .before .before .before .before .before .before .before .before .before .before .kind-at .ensures (enums t)) (sym (c .before .before .before .before .before .before .before .before .before .is-sequence .ensures (enums t)) ∙ c .before .before .before .before .before .before .before .before .if1 .taken) (c .before .before .before .before .before .before .before .kind-width .result) (c .before .before .before .before .before .before .before .kind-width .ensures .0 (enums t) ∙ wide-kind t (a .index .now) (c .before .before .before .before .before .before .before .before .before .before .before .before .before .before .before .pre .1 .0 .layout) (a .depth) _ d) _ _ (c .before .before .before .before .before .locate .ensures .0) _ _ (c .before .found2 .given .1))
-
-check-value-check-item-requires : (t : ℕ) → check-value-lts.Need-check-item-requires (check-value-claims t) (check-value-at t) check-value.Post
-check-value-check-item-requires t c κs = let a = c .before .before .before .before .before .before .before .before .args in let t = a .table .now in
-    let k = c .before .before .before .kind-at .ensures (enums t) in
-    let w = width-one (widthOf t (a .depth)) (fieldAt (enums t) (drop (a .field) t)) (sym (c .before .before .is-sequence .ensures (enums t)) ∙ c .before .if1 .left) in
-    (search needs, (c .before .before .before .before .before .before .before .before .pre .1 .0, rw k (omega (arith, w, c .before .before .before .before .before .before .before .before .pre .1 .2)), rw k (c .before .before .before .before .before .before .before .before .pre .1 .3)))
-
-check-value-returns-3 : (t : ℕ) → check-value-lts.Need-returns-3 (check-value-claims t) (check-value-at t) check-value.Post
-check-value-returns-3 t c = let a = c .before .before .before .before .before .before .before .before .before .before .before .args in let t = a .table .now in
-    c .before .before .check-item .ensures ∙ ap (λ x. after (a .before) (count x)) (sym (value-one (innerOf t (a .frame .levels)) (widthOf t (a .depth)) (staticOf t (a .frame .levels) (a .depth)) (fieldAt (enums t) (drop (a .field) t)) (within (a .bytes .now) (a .frame)) (a .at) (marksOf (a .frame .area) (a .taken) (a .marks .now)) _ (c .before .before .before .before .before .before .kind-at .ensures (enums t)) (sym (c .before .before .before .before .before .is-sequence .ensures (enums t)) ∙ c .before .before .before .before .if1 .left)))
+check-value-returns-2 t c = c .before .before .check-items .ensures ∙ check-value-joined t (c .before .before .before .before) .1 .counts
 
 pub +check-body+check-dynamic+check-dynamics+check-extending+check-extension+check-field+check-fields+check-group+check-groups+check-item+check-items+check-nested+check-rest+check-value-spec :
     {M : Type 1} → statement M
@@ -844,4 +855,4 @@ pub +check-body+check-dynamic+check-dynamics+check-extending+check-extension+che
     check-nested.Post (λ c. search needs) (λ c. search needs) (λ c. search needs) (λ c. search needs) (λ c. search needs) (λ c. search needs) (λ c. search needs) (λ c. search needs) (check-nested-check-group-requires t) (λ c. search needs) (λ c κs. search needs) (λ c. search needs) (λ c. search needs) (check-nested-returns t) (λ c. search needs) (check-nested-returns-2 t)) (λ t. check-rest-lts.spec (check-rest-claims t) (check-rest-at t)
     check-rest.Post (check-rest-check-extension-requires t) (λ c. search needs) (check-rest-check-pads-requires t) (λ c. search needs) (λ c. search needs) (check-rest-returns t) (λ c. search needs) (check-rest-returns-2 t))
     λ t. check-value-lts.spec (check-value-claims t) (check-value-at t)
-    check-value.Post (λ c κs. search needs) (λ c κs. search needs) (λ c κs. search needs) (check-value-locate-requires t) (λ c. search needs) (check-value-add-check-items t) (λ c κs. search needs) (check-value-check-items-requires t) (λ c. search needs) (check-value-returns t) (λ c. search needs) (λ c. search needs) (check-value-returns-2 t) (check-value-check-item-requires t) (λ c. search needs) (check-value-returns-3 t)
+    check-value.Post (λ c κs. search needs) (λ c κs. search needs) (λ c κs. search needs) (check-value-locate-requires t) (λ c. search needs) (check-value-add-start t) (λ c κs. search needs) (λ c. search needs) (λ c. search needs) (check-value-returns t) (check-value-check-items-requires t) (check-value-same-length-2 t) (check-value-returns-2 t)

@@ -4,6 +4,7 @@ use native.Mathlib.Omega.{arith}
 use native.Mathlib.Nat.{mul-le-mul-right}
 use mathlib.Core.Path.{_≡_, sym, _∙_, refl, ap}
 use mathlib.Core.Bool.{true}
+use mathlib.Core.Logic.{⊎-elim}
 use lib.ListN.{length, drop}
 use lib.Dec.{leb}
 use Rattle.wire.specs.Bytes.{part, same}
@@ -65,7 +66,9 @@ use Rattle.parsing.proofs.check_text.Reads as check-text-reads
 use Rattle.parsing.proofs.check_texts.Reads as check-texts-reads
 use Rattle.parsing.proofs.is_absent.Reads as is-absent-reads
 use Rattle.parsing.proofs.longer.Reads as longer-reads
+use Rattle.parsing.proofs.passed.Reads as passed-reads
 use Rattle.parsing.proofs.record_fault.Reads as record-fault-reads
+use Rattle.parsing.proofs.refused.Reads as refused-reads
 use Rattle.parsing.proofs.stands.Reads as stands-reads
 use Rattle.schema.proofs.allows.Reads as allows-reads
 use Rattle.schema.proofs.field_count.Reads as field-count-reads
@@ -244,16 +247,16 @@ check-extending-returns-2 : (t : ℕ) → check-extending-lts.Need-returns-2 (ch
 check-extending-returns-2 t c = let a = c .before .before .before .before .before .before .args in let t = a .table .now in extending-group (a .sheet .now) (a .pos) (a .before) (schema t) (innerOf t (a .levels)) (ap (same (part 2 (a .pos) (a .sheet .now))) (sym is-XU) ∙ sym (c .before .before .stands .ensures) ∙ c .before .if1 .left) _ (c .check-group .ensures)
 
 abbrev check-extension-claims : ℕ → check-extension-lts.Claims
-check-extension-claims t = (stands-reads.Asked, stands-reads.Learnt, record-fault-reads.Asked, record-fault-reads.Learnt, read-u32-reads.Asked, read-u32-reads.Learnt, longer-reads.Asked, longer-reads.Learnt, check-groups-below t, check-groups.Post)
+check-extension-claims t = (stands-reads.Asked, stands-reads.Learnt, record-fault-reads.Asked, record-fault-reads.Learnt, refused-reads.Asked, refused-reads.Learnt, read-u32-reads.Asked, read-u32-reads.Learnt, longer-reads.Asked, longer-reads.Learnt, check-groups-below t, check-groups.Post, passed-reads.Asked, passed-reads.Learnt)
 
 check-extension-returns : (t : ℕ) → check-extension-lts.Need-returns (check-extension-claims t) (check-extension-at t) check-extension.Post
-check-extension-returns t c = let a = c .before .before .before .before .before .before .before .args in let t = a .table .now in extension-bad (a .sheet .now) (a .pos) (a .before) (c .before .before .before .before .before .before .before .pre .1 .1) (schema t) (innerOf t (a .levels)) (ap (same (part 2 (a .pos) (a .sheet .now))) (sym is-XT) ∙ sym (c .before .before .before .stands .ensures) ∙ c .before .before .if1 .taken) _ (as-record is-XT _ _ (c .before .record-fault .ensures)) (c .if2 .taken)
+check-extension-returns t c = let a = c .before .before .before .before .before .before .before .before .args in let t = a .table .now in rw (c .refused .ensures) (extension-bad (a .sheet .now) (a .pos) (a .before) (c .before .before .before .before .before .before .before .before .pre .1 .1) (schema t) (innerOf t (a .levels)) (ap (same (part 2 (a .pos) (a .sheet .now))) (sym is-XT) ∙ sym (c .before .before .before .before .stands .ensures) ∙ c .before .before .before .if1 .taken) _ (as-record is-XT _ _ (c .before .before .record-fault .ensures)) (c .before .if2 .taken))
 
 check-extension-read-u32-requires : (t : ℕ) → check-extension-lts.Need-read-u32-requires (check-extension-claims t) (check-extension-at t) check-extension.Post
 check-extension-read-u32-requires t c κs = let l = record-inside (c .before .before .before .before .before .before .before .args .sheet .now) (c .before .before .before .before .before .before .before .args .pos) (c .before .before .before .before .before .before .before .pre .1 .1 .inside) _ 4 _ (c .before .record-fault .ensures) (c .if2 .left) in omega (arith, l)
 
 check-extension-returns-2 : (t : ℕ) → check-extension-lts.Need-returns-2 (check-extension-claims t) (check-extension-at t) check-extension.Post
-check-extension-returns-2 t c = let a = c .before .before .before .before .before .before .before .before .before .args in let t = a .table .now in extension-empty (a .sheet .now) (a .pos) (a .before) (c .before .before .before .before .before .before .before .before .before .pre .1 .1) (schema t) (innerOf t (a .levels)) (ap (same (part 2 (a .pos) (a .sheet .now))) (sym is-XT) ∙ sym (c .before .before .before .before .before .stands .ensures) ∙ c .before .before .before .before .if1 .taken) _ (as-record is-XT _ _ (c .before .before .before .record-fault .ensures)) (c .before .before .if2 .left) _ (c .before .read-u32 .ensures .0) (c .if3 .taken)
+check-extension-returns-2 t c = let a = c .before .before .before .before .before .before .before .before .before .before .args in let t = a .table .now in rw (c .refused2 .ensures) (extension-empty (a .sheet .now) (a .pos) (a .before) (c .before .before .before .before .before .before .before .before .before .before .pre .1 .1) (schema t) (innerOf t (a .levels)) (ap (same (part 2 (a .pos) (a .sheet .now))) (sym is-XT) ∙ sym (c .before .before .before .before .before .before .stands .ensures) ∙ c .before .before .before .before .before .if1 .taken) _ (as-record is-XT _ _ (c .before .before .before .before .record-fault .ensures)) (c .before .before .before .if2 .left) _ (c .before .before .read-u32 .ensures .0) (c .before .if3 .taken))
 
 check-extension-check-groups-requires : (t : ℕ) → check-extension-lts.Need-check-groups-requires (check-extension-claims t) (check-extension-at t) check-extension.Post
 check-extension-check-groups-requires t c κs = let l = record-inside (c .before .before .before .before .before .before .before .before .before .before .args .sheet .now) (c .before .before .before .before .before .before .before .before .before .before .args .pos) (c .before .before .before .before .before .before .before .before .before .before .pre .1 .1 .inside) _ 4 _ (c .before .before .before .before .record-fault .ensures) (c .before .before .before .if2 .left) in (search needs, (c .before .before .before .before .before .before .before .before .before .before .pre .1 .0, record { small = c .before .before .before .before .before .before .before .before .before .before .pre .1 .1 .small; inside = omega (arith, l); low = c .longer .ensures .1 }))
@@ -262,45 +265,41 @@ check-extension-returns-3 : (t : ℕ) → check-extension-lts.Need-returns-3 (ch
 check-extension-returns-3 t c = let a = c .before .before .before .before .before .before .before .before .before .before .before .args in let t = a .table .now in extension-some (a .sheet .now) (a .pos) (a .before) (c .before .before .before .before .before .before .before .before .before .before .before .pre .1 .1) (schema t) (innerOf t (a .levels)) (ap (same (part 2 (a .pos) (a .sheet .now))) (sym is-XT) ∙ sym (c .before .before .before .before .before .before .before .stands .ensures) ∙ c .before .before .before .before .before .before .if1 .taken) _ (as-record is-XT _ _ (c .before .before .before .before .before .record-fault .ensures)) (c .before .before .before .before .if2 .left) _ (c .before .before .before .read-u32 .ensures .0) (c .before .before .if3 .left) _ (c .before .longer .ensures .0) _ (c .check-groups .ensures)
 
 check-extension-returns-4 : (t : ℕ) → check-extension-lts.Need-returns-4 (check-extension-claims t) (check-extension-at t) check-extension.Post
-check-extension-returns-4 t c = let a = c .before .before .before .before .before .args in let t = a .table .now in extension-none (a .sheet .now) (a .pos) (a .before) (c .before .before .before .before .before .pre .1 .1) (schema t) (innerOf t (a .levels)) (ap (same (part 2 (a .pos) (a .sheet .now))) (sym is-XT) ∙ sym (c .before .stands .ensures) ∙ c .if1 .left)
+check-extension-returns-4 t c = let a = c .before .before .before .before .before .before .args in let t = a .table .now in rw (c .passed .ensures) (extension-none (a .sheet .now) (a .pos) (a .before) (c .before .before .before .before .before .before .pre .1 .1) (schema t) (innerOf t (a .levels)) (ap (same (part 2 (a .pos) (a .sheet .now))) (sym is-XT) ∙ sym (c .before .before .stands .ensures) ∙ c .before .if1 .left))
 
 abbrev check-field-claims : ℕ → check-field-lts.Claims
-check-field-claims t = (is-absent-reads.Asked, is-absent-reads.Learnt, kind-at-reads.Asked, kind-at-reads.Learnt, is-sequence-reads.Asked, is-sequence-reads.Learnt, record-fault-reads.Asked, record-fault-reads.Learnt, read-u32-reads.Asked, read-u32-reads.Learnt, kind-width-reads.Asked, kind-width-reads.Learnt, longer-reads.Asked, longer-reads.Learnt, check-items-below t, check-items.Post, check-item-below t, check-item.Post)
+check-field-claims t = (is-absent-reads.Asked, is-absent-reads.Learnt, passed-reads.Asked, passed-reads.Learnt, kind-at-reads.Asked, kind-at-reads.Learnt, kind-width-reads.Asked, kind-width-reads.Learnt, is-sequence-reads.Asked, is-sequence-reads.Learnt, record-fault-reads.Asked, record-fault-reads.Learnt, refused-reads.Asked, refused-reads.Learnt, read-u32-reads.Asked, read-u32-reads.Learnt, longer-reads.Asked, longer-reads.Learnt, check-items-below t, check-items.Post)
 
 check-field-returns : (t : ℕ) → check-field-lts.Need-returns (check-field-claims t) (check-field-at t) check-field.Post
-check-field-returns t c = let a = c .before .before .before .before .before .args in let t = a .table .now in field-absent (a .sheet .now) (a .pos) (a .before) (innerOf t (a .levels)) (widthOf t (a .depth)) (staticOf t (a .levels) (a .depth)) (fieldAt (enums t) (drop (a .field) t)) _ (c .before .is-absent .ensures (enums t)) (c .if1 .taken) (c .before .before .before .before .before .pre .1 .1)
+check-field-returns t c = let a = c .before .before .before .before .before .before .args in let t = a .table .now in rw (c .passed .ensures) (field-absent (a .sheet .now) (a .pos) (a .before) (innerOf t (a .levels)) (widthOf t (a .depth)) (staticOf t (a .levels) (a .depth)) (fieldAt (enums t) (drop (a .field) t)) _ (c .before .before .is-absent .ensures (enums t)) (c .before .if1 .taken) (c .before .before .before .before .before .before .pre .1 .1))
 
 check-field-returns-2 : (t : ℕ) → check-field-lts.Need-returns-2 (check-field-claims t) (check-field-at t) check-field.Post
-check-field-returns-2 t c = let a = c .before .before .before .before .before .before .before .before .before .before .args in let t = a .table .now in field-there (a .sheet .now) (a .pos) (a .before) (innerOf t (a .levels)) (widthOf t (a .depth)) (staticOf t (a .levels) (a .depth)) (fieldAt (enums t) (drop (a .field) t)) _ (c .before .before .before .before .before .before .is-absent .ensures (enums t)) (c .before .before .before .before .before .if1 .left) _ (sequence-bad (a .sheet .now) (a .pos) (a .before) (innerOf t (a .levels)) (widthOf t (a .depth)) (staticOf t (a .levels) (a .depth)) (fieldAt (enums t) (drop (a .field) t)) _ (c .before .before .before .before .kind-at .ensures (enums t)) (sym (c .before .before .before .is-sequence .ensures (enums t)) ∙ c .before .before .if2 .taken) (c .before .before .before .before .before .before .before .before .before .before .pre .1 .1) _ (as-record is-SQ _ _ (c .before .record-fault .ensures)) (c .if3 .taken))
+check-field-returns-2 t c = let a = c .before .before .before .before .before .before .before .before .before .before .before .before .args in let t = a .table .now in rw (c .refused .ensures) (field-there (a .sheet .now) (a .pos) (a .before) (innerOf t (a .levels)) (widthOf t (a .depth)) (staticOf t (a .levels) (a .depth)) (fieldAt (enums t) (drop (a .field) t)) _ (c .before .before .before .before .before .before .before .before .is-absent .ensures (enums t)) (c .before .before .before .before .before .before .before .if1 .left) _ (sequence-bad (a .sheet .now) (a .pos) (a .before) (innerOf t (a .levels)) (widthOf t (a .depth)) (staticOf t (a .levels) (a .depth)) (fieldAt (enums t) (drop (a .field) t)) _ (c .before .before .before .before .before .before .kind-at .ensures (enums t)) (sym (c .before .before .before .before .is-sequence .ensures (enums t)) ∙ c .before .before .before .if2 .taken) (c .before .before .before .before .before .before .before .before .before .before .before .before .pre .1 .1) _ (as-record is-SQ _ _ (c .before .before .record-fault .ensures)) (c .before .if3 .taken)))
 
 check-field-read-u32-requires : (t : ℕ) → check-field-lts.Need-read-u32-requires (check-field-claims t) (check-field-at t) check-field.Post
-check-field-read-u32-requires t c κs = let l = record-inside (c .before .before .before .before .before .before .before .before .before .before .args .sheet .now) (c .before .before .before .before .before .before .before .before .before .before .args .pos) (c .before .before .before .before .before .before .before .before .before .before .pre .1 .1 .inside) _ 4 _ (c .before .record-fault .ensures) (c .if3 .left) in omega (arith, l)
+check-field-read-u32-requires t c κs = let l = record-inside (c .before .before .before .before .before .before .before .before .before .before .before .args .sheet .now) (c .before .before .before .before .before .before .before .before .before .before .before .args .pos) (c .before .before .before .before .before .before .before .before .before .before .before .pre .1 .1 .inside) _ 4 _ (c .before .record-fault .ensures) (c .if3 .left) in omega (arith, l)
 
 check-field-mul-longer : (t : ℕ) → check-field-lts.Need-mul-longer (check-field-claims t) (check-field-at t) check-field.Post
-check-field-mul-longer t c = omega (arith, mul-le-mul-right {m = c .before .read-u32 .result} {n = 4294967296} (c .kind-width .result) (omega (arith, c .before .read-u32 .ensures .1)), c .kind-width .ensures .1)
+check-field-mul-longer t c = omega (arith, mul-le-mul-right {m = c .read-u32 .result} {n = 4294967296} (c .before .before .before .before .before .kind-width .result) (omega (arith, c .read-u32 .ensures .1)), c .before .before .before .before .before .kind-width .ensures .1)
 
 check-field-add-longer : (t : ℕ) → check-field-lts.Need-add-longer (check-field-claims t) (check-field-at t) check-field.Post
-check-field-add-longer t c = omega (arith, mul-le-mul-right {m = c .before .read-u32 .result} {n = 4294967296} (c .kind-width .result) (omega (arith, c .before .read-u32 .ensures .1)), c .kind-width .ensures .1)
+check-field-add-longer t c = omega (arith, mul-le-mul-right {m = c .read-u32 .result} {n = 4294967296} (c .before .before .before .before .before .kind-width .result) (omega (arith, c .read-u32 .ensures .1)), c .before .before .before .before .before .kind-width .ensures .1)
 
 check-field-longer-requires : (t : ℕ) → check-field-lts.Need-longer-requires (check-field-claims t) (check-field-at t) check-field.Post
-check-field-longer-requires t c κs = omega (arith, mul-le-mul-right {m = c .before .read-u32 .result} {n = 4294967296} (c .kind-width .result) (omega (arith, c .before .read-u32 .ensures .1)), c .kind-width .ensures .1, c .before .before .before .before .before .before .before .before .before .before .before .before .pre .1 .1 .low)
+check-field-longer-requires t c κs = omega (arith, mul-le-mul-right {m = c .read-u32 .result} {n = 4294967296} (c .before .before .before .before .before .kind-width .result) (omega (arith, c .read-u32 .ensures .1)), c .before .before .before .before .before .kind-width .ensures .1, c .before .before .before .before .before .before .before .before .before .before .before .before .pre .1 .1 .low)
 
 check-field-check-items-requires : (t : ℕ) → check-field-lts.Need-check-items-requires (check-field-claims t) (check-field-at t) check-field.Post
-check-field-check-items-requires t c κs = let a = c .before .before .before .before .before .before .before .before .before .before .before .before .before .args in let t = a .table .now in
-    let l = record-inside (a .sheet .now) (a .pos) (c .before .before .before .before .before .before .before .before .before .before .before .before .before .pre .1 .1 .inside) _ 4 _ (c .before .before .before .before .record-fault .ensures) (c .before .before .before .if3 .left) in
-    let k = c .before .before .before .before .before .before .before .kind-at .ensures (enums t) in
-    let d = rw (sym k) at (c .before .before .before .before .before .before .before .before .before .before .before .before .before .pre .1 .3) in
-    (search needs, (c .before .before .before .before .before .before .before .before .before .before .before .before .before .pre .1 .0, record { small = c .before .before .before .before .before .before .before .before .before .before .before .before .before .pre .1 .1 .small; inside = omega (arith, l); low = c .longer .ensures .1 }, c .before .kind-width .ensures .0 (enums t) ∙ wide-kind t (a .index .now) (c .before .before .before .before .before .before .before .before .before .before .before .before .before .pre .1 .0) (a .depth) _ d, d))
+check-field-check-items-requires t c κs = let a = c .before .before .before .before .before .before .before .before .before .args in let t = a .table .now in let R = c .before .before .before .before .before .before .before .before .before .pre .1 .1 in
+    let d = rw (sym (c .before .before .before .kind-at .ensures (enums t))) at (c .before .before .before .before .before .before .before .before .before .pre .1 .3) in
+    let r : Ready (a .sheet .now) (c .if2 .start) (c .if2 .length) = ⊎-elim (λ w. record { small = R .small; inside = omega (arith, w .6, record-inside (a .sheet .now) (a .pos) (R .inside) _ 4 _ (w .1 .ensures) (w .2 .left)); low = omega (arith, w .7, w .4 .ensures .1) }) (λ w. rw (w .2, w .3) R) (c .if2 .came) in
+    (search needs, (c .before .before .before .before .before .before .before .before .before .pre .1 .0, r, c .before .before .kind-width .ensures .0 (enums t) ∙ wide-kind t (a .index .now) (c .before .before .before .before .before .before .before .before .before .pre .1 .0) (a .depth) _ d, d))
 
 check-field-returns-3 : (t : ℕ) → check-field-lts.Need-returns-3 (check-field-claims t) (check-field-at t) check-field.Post
-check-field-returns-3 t c = let a = c .before .before .before .before .before .before .before .before .before .before .before .before .before .before .args in let t = a .table .now in let k = c .before .before .before .before .before .before .before .before .kind-at .ensures (enums t) in let d = rw (sym k) at (c .before .before .before .before .before .before .before .before .before .before .before .before .before .before .pre .1 .3) in
-    field-there (a .sheet .now) (a .pos) (a .before) (innerOf t (a .levels)) (widthOf t (a .depth)) (staticOf t (a .levels) (a .depth)) (fieldAt (enums t) (drop (a .field) t)) _ (c .before .before .before .before .before .before .before .before .before .before .is-absent .ensures (enums t)) (c .before .before .before .before .before .before .before .before .before .if1 .left) _ (sequence-good (a .sheet .now) (a .pos) (a .before) (innerOf t (a .levels)) (widthOf t (a .depth)) (staticOf t (a .levels) (a .depth)) (fieldAt (enums t) (drop (a .field) t)) _ k (sym (c .before .before .before .before .before .before .before .is-sequence .ensures (enums t)) ∙ c .before .before .before .before .before .before .if2 .taken) (c .before .before .before .before .before .before .before .before .before .before .before .before .before .before .pre .1 .1) _ (as-record is-SQ _ _ (c .before .before .before .before .before .record-fault .ensures)) (c .before .before .before .before .if3 .left) (long-static (schema t) (innerOf t (a .levels)) (a .depth)) _ _ _ (c .before .before .before .read-u32 .ensures .0) (c .before .before .kind-width .ensures .0 (enums t) ∙ wide-kind t (a .index .now) (c .before .before .before .before .before .before .before .before .before .before .before .before .before .before .pre .1 .0) (a .depth) _ d) (c .before .longer .ensures .0) _ (c .check-items .ensures))
-
-check-field-check-item-requires : (t : ℕ) → check-field-lts.Need-check-item-requires (check-field-claims t) (check-field-at t) check-field.Post
-check-field-check-item-requires t c κs = let t = c .before .before .before .before .before .before .before .before .args .table .now in (search needs, (c .before .before .before .before .before .before .before .before .pre .1 .0, c .before .before .before .before .before .before .before .before .pre .1 .1, rw (c .before .before .kind-at .ensures (enums t)) (c .before .before .before .before .before .before .before .before .pre .1 .3)))
-
-check-field-returns-4 : (t : ℕ) → check-field-lts.Need-returns-4 (check-field-claims t) (check-field-at t) check-field.Post
-check-field-returns-4 t c = let a = c .before .before .before .before .before .before .before .before .before .args in let t = a .table .now in field-there (a .sheet .now) (a .pos) (a .before) (innerOf t (a .levels)) (widthOf t (a .depth)) (staticOf t (a .levels) (a .depth)) (fieldAt (enums t) (drop (a .field) t)) _ (c .before .before .before .before .before .is-absent .ensures (enums t)) (c .before .before .before .before .if1 .left) _ (value-one (a .sheet .now) (a .pos) (a .before) (innerOf t (a .levels)) (widthOf t (a .depth)) (staticOf t (a .levels) (a .depth)) (fieldAt (enums t) (drop (a .field) t)) _ (c .before .before .before .kind-at .ensures (enums t)) (sym (c .before .before .is-sequence .ensures (enums t)) ∙ c .before .if2 .left) _ (c .check-item .ensures))
+check-field-returns-3 t c = let a = c .before .before .before .before .before .before .before .before .before .before .args in let t = a .table .now in let k = c .before .before .before .before .kind-at .ensures (enums t) in let d = rw (sym k) at (c .before .before .before .before .before .before .before .before .before .before .pre .1 .3) in
+    field-there (a .sheet .now) (a .pos) (a .before) (innerOf t (a .levels)) (widthOf t (a .depth)) (staticOf t (a .levels) (a .depth)) (fieldAt (enums t) (drop (a .field) t)) _ (c .before .before .before .before .before .before .is-absent .ensures (enums t)) (c .before .before .before .before .before .if1 .left) _ (⊎-elim
+    (λ w. sequence-good (a .sheet .now) (a .pos) (a .before) (innerOf t (a .levels)) (widthOf t (a .depth)) (staticOf t (a .levels) (a .depth)) (fieldAt (enums t) (drop (a .field) t)) _ k (sym (c .before .before .is-sequence .ensures (enums t)) ∙ w .0 .taken) (c .before .before .before .before .before .before .before .before .before .before .pre .1 .1) _ (as-record is-SQ _ _ (w .1 .ensures)) (w .2 .left) (long-static (schema t) (innerOf t (a .levels)) (a .depth)) _ _ _ (w .3 .ensures .0) (c .before .before .before .kind-width .ensures .0 (enums t) ∙ wide-kind t (a .index .now) (c .before .before .before .before .before .before .before .before .before .before .pre .1 .0) (a .depth) _ d) (w .4 .ensures .0) _ (rw (w .5, w .6, w .7) at (c .check-items .ensures)))
+    (λ w. value-one (a .sheet .now) (a .pos) (a .before) (innerOf t (a .levels)) (widthOf t (a .depth)) (staticOf t (a .levels) (a .depth)) (fieldAt (enums t) (drop (a .field) t)) _ k (sym (c .before .before .is-sequence .ensures (enums t)) ∙ w .0 .left) _ _ (rw (w .1, w .2, w .3) at (c .check-items .ensures)))
+    (c .before .if2 .came))
 
 abbrev check-fields-Inv-loop : check-fields-lts.InvT-loop
 check-fields-Inv-loop table index sheet levels depth group pos before start total deeper i₀ field₀ next₀ length₀ i field next d =
@@ -313,7 +312,7 @@ check-fields-μ-loop table index sheet levels depth group pos before start total
     total - i
 
 abbrev check-fields-claims : ℕ → check-fields-lts.Claims
-check-fields-claims t = (group-place-reads.Asked, group-place-reads.Learnt, field-count-reads.Asked, field-count-reads.Learnt, plain-width-reads.Asked, plain-width-reads.Learnt, record-fault-reads.Asked, record-fault-reads.Learnt, check-field-below t, check-field.Post)
+check-fields-claims t = (group-place-reads.Asked, group-place-reads.Learnt, field-count-reads.Asked, field-count-reads.Learnt, plain-width-reads.Asked, plain-width-reads.Learnt, record-fault-reads.Asked, record-fault-reads.Learnt, refused-reads.Asked, refused-reads.Learnt, check-field-below t, check-field.Post, passed-reads.Asked, passed-reads.Learnt)
 
 check-fields-field-count-requires : (t : ℕ) → check-fields-lts.Need-field-count-requires (check-fields-claims t) (check-fields-at t) check-fields.Post check-fields-Inv-loop check-fields-μ-loop
 check-fields-field-count-requires t c κs = let p = placed-inside _ _ _ (c .before .before .before .before .pre .1 .0 .placed) _ (c .before .before .before .before .pre .1 .2) in omega (arith, p, c .group-place .ensures .0)
@@ -332,10 +331,10 @@ check-fields-loop-holds t c = let a = c .before .before .before .before .before 
     )
 
 check-fields-returns : (t : ℕ) → check-fields-lts.Need-returns (check-fields-claims t) (check-fields-at t) check-fields.Post check-fields-Inv-loop check-fields-μ-loop
-check-fields-returns t c = let l = c .before .before .before .before .before .loop in let a = c .before .before .before .before .before .before .before .before .before .before .before .args in let t = a .table .now in let i = l .inv in let I = innerOf t (a .levels) in let sw = widthOf t (a .depth - 1) in let S = staticOf t (a .levels) (a .depth - 1) in
-    i .3 _ (fields-stopped I sw S (enums t) t (a .sheet .now) (c .before .before .before .before .before .before .field-count .result) (l .i) (l .field) (l .next) (l .length) (c .before .before .before .before .loop-test .taken) _
-    (field-plain (a .sheet .now) (l .next) (l .length) I sw S _ _ _ (c .before .before .before .plain-width .ensures .0 (c .before .before .if1 .taken) (enums t)) _
-    (plain-bad (a .sheet .now) (l .next) (l .length) (i .0) _ any _ (as-record is-VA _ _ (c .before .record-fault .ensures)) (c .if2 .taken))) (c .if2 .taken))
+check-fields-returns t c = let l = c .before .before .before .before .before .before .loop in let a = c .before .before .before .before .before .before .before .before .before .before .before .before .args in let t = a .table .now in let i = l .inv in let I = innerOf t (a .levels) in let sw = widthOf t (a .depth - 1) in let S = staticOf t (a .levels) (a .depth - 1) in
+    rw (c .refused .ensures) (i .3 _ (fields-stopped I sw S (enums t) t (a .sheet .now) (c .before .before .before .before .before .before .before .field-count .result) (l .i) (l .field) (l .next) (l .length) (c .before .before .before .before .before .loop-test .taken) _
+    (field-plain (a .sheet .now) (l .next) (l .length) I sw S _ _ _ (c .before .before .before .before .plain-width .ensures .0 (c .before .before .before .if1 .taken) (enums t)) _
+    (plain-bad (a .sheet .now) (l .next) (l .length) (i .0) _ any _ (as-record is-VA _ _ (c .before .before .record-fault .ensures)) (c .before .if2 .taken))) (c .before .if2 .taken)))
 
 check-fields-loop-again : (t : ℕ) → check-fields-lts.Need-loop-again (check-fields-claims t) (check-fields-at t) check-fields.Post check-fields-Inv-loop check-fields-μ-loop
 check-fields-loop-again t c = let l = c .before .before .before .before .before .loop in let a = c .before .before .before .before .before .before .before .before .before .before .before .args in let t = a .table .now in let i = l .inv in let I = innerOf t (a .levels) in let sw = widthOf t (a .depth - 1) in let S = staticOf t (a .levels) (a .depth - 1) in
@@ -368,14 +367,14 @@ check-fields-loop-again-2 t c = let l = c .before .before .before .before .befor
     )
 
 check-fields-returns-3 : (t : ℕ) → check-fields-lts.Need-returns-3 (check-fields-claims t) (check-fields-at t) check-fields.Post check-fields-Inv-loop check-fields-μ-loop
-check-fields-returns-3 t c = let l = c .before .loop in let a = c .before .before .before .before .before .before .before .args in let t = a .table .now in
-    l .inv .3 _ (fields-end (innerOf t (a .levels)) (widthOf t (a .depth - 1)) (staticOf t (a .levels) (a .depth - 1)) (enums t) t (a .sheet .now) (c .before .before .field-count .result) (l .i) (l .field) (l .next) (l .length) (c .loop-test .left) (l .inv .0))
+check-fields-returns-3 t c = let l = c .before .before .loop in let a = c .before .before .before .before .before .before .before .before .args in let t = a .table .now in
+    rw (c .passed .ensures) (l .inv .3 _ (fields-end (innerOf t (a .levels)) (widthOf t (a .depth - 1)) (staticOf t (a .levels) (a .depth - 1)) (enums t) t (a .sheet .now) (c .before .before .before .field-count .result) (l .i) (l .field) (l .next) (l .length) (c .before .loop-test .left) (l .inv .0)))
 
 abbrev check-group-claims : ℕ → check-group-lts.Claims
-check-group-claims t = (record-fault-reads.Asked, record-fault-reads.Learnt, group-total-reads.Asked, group-total-reads.Learnt, read-u64-reads.Asked, read-u64-reads.Learnt, find-reads.Asked, find-reads.Learnt, allows-reads.Asked, allows-reads.Learnt, check-body-below t, check-body.Post)
+check-group-claims t = (record-fault-reads.Asked, record-fault-reads.Learnt, refused-reads.Asked, refused-reads.Learnt, group-total-reads.Asked, group-total-reads.Learnt, read-u64-reads.Asked, read-u64-reads.Learnt, find-reads.Asked, find-reads.Learnt, allows-reads.Asked, allows-reads.Learnt, check-body-below t, check-body.Post)
 
 check-group-returns : (t : ℕ) → check-group-lts.Need-returns (check-group-claims t) (check-group-at t) check-group.Post
-check-group-returns t c = let a = c .before .before .before .before .before .args in group-bad (a .sheet .now) (a .pos) (a .before) (c .before .before .before .before .before .pre .1 .1) (schema (a .table .now)) (a .allowed) (a .levels) _ (as-record is-GB _ _ (c .before .record-fault .ensures)) (c .if1 .taken)
+check-group-returns t c = let a = c .before .before .before .before .before .before .args in rw (c .refused .ensures) (group-bad (a .sheet .now) (a .pos) (a .before) (c .before .before .before .before .before .before .pre .1 .1) (schema (a .table .now)) (a .allowed) (a .levels) _ (as-record is-GB _ _ (c .before .before .record-fault .ensures)) (c .before .if1 .taken))
 
 check-group-read-u64-requires : (t : ℕ) → check-group-lts.Need-read-u64-requires (check-group-claims t) (check-group-at t) check-group.Post
 check-group-read-u64-requires t c κs = let l = record-inside (c .before .before .before .before .before .before .args .sheet .now) (c .before .before .before .before .before .before .args .pos) (c .before .before .before .before .before .before .pre .1 .1 .inside) _ 8 _ (c .before .before .record-fault .ensures) (c .before .if1 .left) in omega (arith, l)
@@ -384,17 +383,17 @@ check-group-find-requires : (t : ℕ) → check-group-lts.Need-find-requires (ch
 check-group-find-requires t c κs = let P = c .before .before .before .before .before .before .before .pre .1 .0 in (rw (sym (c .before .group-total .ensures .0 ∙ P .total)) at (P .placed), P .long, omega (arith, c .before .group-total .ensures .0, P .total, P .few), P .small)
 
 check-group-returns-2 : (t : ℕ) → check-group-lts.Need-returns-2 (check-group-claims t) (check-group-at t) check-group.Post
-check-group-returns-2 t c = let a = c .before .before .before .before .before .before .before .before .before .args in let gs = schema (a .table .now) in let n = c .before .before .before .group-total .ensures .0 ∙ c .before .before .before .before .before .before .before .before .before .pre .1 .0 .total in
-    let g = c .before .find .ensures .0 ∙ find-whole gs _ _ n ∙ ap (find gs) (c .before .before .read-u64 .ensures) in
-    group-unknown (a .sheet .now) (a .pos) (a .before) (c .before .before .before .before .before .before .before .before .before .pre .1 .1) gs (a .allowed) (a .levels) _ (as-record is-GB _ _ (c .before .before .before .before .before .record-fault .ensures)) (c .before .before .before .before .if1 .left) _ g (omega (arith, n, c .if2 .taken))
+check-group-returns-2 t c = let a = c .before .before .before .before .before .before .before .before .before .before .args in let gs = schema (a .table .now) in let n = c .before .before .before .before .group-total .ensures .0 ∙ c .before .before .before .before .before .before .before .before .before .before .pre .1 .0 .total in
+    let g = c .before .before .find .ensures .0 ∙ find-whole gs _ _ n ∙ ap (find gs) (c .before .before .before .read-u64 .ensures) in
+    rw (c .refused2 .ensures) (group-unknown (a .sheet .now) (a .pos) (a .before) (c .before .before .before .before .before .before .before .before .before .before .pre .1 .1) gs (a .allowed) (a .levels) _ (as-record is-GB _ _ (c .before .before .before .before .before .before .record-fault .ensures)) (c .before .before .before .before .before .if1 .left) _ g (omega (arith, n, c .before .if2 .taken)))
 
 check-group-allows-requires : (t : ℕ) → check-group-lts.Need-allows-requires (check-group-claims t) (check-group-at t) check-group.Post
 check-group-allows-requires t c κs = (c .before .before .before .before .before .before .before .before .before .pre .1 .0, omega (arith, c .before .before .before .group-total .ensures .0 ∙ c .before .before .before .before .before .before .before .before .before .pre .1 .0 .total, c .if2 .left))
 
 check-group-returns-3 : (t : ℕ) → check-group-lts.Need-returns-3 (check-group-claims t) (check-group-at t) check-group.Post
-check-group-returns-3 t c = let a = c .before .before .before .before .before .before .before .before .before .before .before .before .args in let gs = schema (a .table .now) in let n = c .before .before .before .before .before .before .group-total .ensures .0 ∙ c .before .before .before .before .before .before .before .before .before .before .before .before .pre .1 .0 .total in
-    let g = c .before .before .before .before .find .ensures .0 ∙ find-whole gs _ _ n ∙ ap (find gs) (c .before .before .before .before .before .read-u64 .ensures) in
-    group-deep (a .sheet .now) (a .pos) (a .before) (c .before .before .before .before .before .before .before .before .before .before .before .before .pre .1 .1) gs (a .allowed) (a .levels) _ (as-record is-GB _ _ (c .before .before .before .before .before .before .before .before .record-fault .ensures)) (c .before .before .before .before .before .before .before .if1 .left) _ g (omega (arith, n, c .before .before .before .if2 .left)) (sym (c .before .before .allows .ensures) ∙ c .before .if3 .taken) (c .if4 .taken)
+check-group-returns-3 t c = let a = c .before .before .before .before .before .before .before .before .before .before .before .before .before .args in let gs = schema (a .table .now) in let n = c .before .before .before .before .before .before .before .group-total .ensures .0 ∙ c .before .before .before .before .before .before .before .before .before .before .before .before .before .pre .1 .0 .total in
+    let g = c .before .before .before .before .before .find .ensures .0 ∙ find-whole gs _ _ n ∙ ap (find gs) (c .before .before .before .before .before .before .read-u64 .ensures) in
+    rw (c .refused3 .ensures) (group-deep (a .sheet .now) (a .pos) (a .before) (c .before .before .before .before .before .before .before .before .before .before .before .before .before .pre .1 .1) gs (a .allowed) (a .levels) _ (as-record is-GB _ _ (c .before .before .before .before .before .before .before .before .before .record-fault .ensures)) (c .before .before .before .before .before .before .before .before .if1 .left) _ g (omega (arith, n, c .before .before .before .before .if2 .left)) (sym (c .before .before .before .allows .ensures) ∙ c .before .before .if3 .taken) (c .before .if4 .taken))
 
 check-group-check-body-requires : (t : ℕ) → check-group-lts.Need-check-body-requires (check-group-claims t) (check-group-at t) check-group.Post
 check-group-check-body-requires t c κs = let l = record-inside (c .before .before .before .before .before .before .before .before .before .before .before .before .args .sheet .now) (c .before .before .before .before .before .before .before .before .before .before .before .before .args .pos) (c .before .before .before .before .before .before .before .before .before .before .before .before .pre .1 .1 .inside) _ 8 _ (c .before .before .before .before .before .before .before .before .record-fault .ensures) (c .before .before .before .before .before .before .before .if1 .left) in (search needs, (c .before .before .before .before .before .before .before .before .before .before .before .before .pre .1 .0, ready-at (c .before .before .before .before .before .before .before .before .before .before .before .before .pre .1 .1) _ l, omega (arith, c .before .before .before .before .before .before .group-total .ensures .0 ∙ c .before .before .before .before .before .before .before .before .before .before .before .before .pre .1 .0 .total, c .before .before .before .if2 .left)))
@@ -406,9 +405,9 @@ check-group-returns-4 t c = let a = c .before .before .before .before .before .b
     group-body (a .sheet .now) (a .pos) (a .before) (c .before .before .before .before .before .before .before .before .before .before .before .before .before .pre .1 .1) gs (a .allowed) (a .levels) _ (as-record is-GB _ _ (c .before .before .before .before .before .before .before .before .before .record-fault .ensures)) (c .before .before .before .before .before .before .before .before .if1 .left) _ g (omega (arith, n, c .before .before .before .before .if2 .left)) (sym (c .before .before .before .allows .ensures) ∙ c .before .before .if3 .taken) (c .before .if4 .left) _ (c .check-body .ensures (part 8 (a .pos + 2) (a .sheet .now)) (length-part 8 (a .pos + 2) (a .sheet .now) (omega (arith, l))))
 
 check-group-returns-5 : (t : ℕ) → check-group-lts.Need-returns-5 (check-group-claims t) (check-group-at t) check-group.Post
-check-group-returns-5 t c = let a = c .before .before .before .before .before .before .before .before .before .before .before .args in let gs = schema (a .table .now) in let n = c .before .before .before .before .before .group-total .ensures .0 ∙ c .before .before .before .before .before .before .before .before .before .before .before .pre .1 .0 .total in
-    let g = c .before .before .before .find .ensures .0 ∙ find-whole gs _ _ n ∙ ap (find gs) (c .before .before .before .before .read-u64 .ensures) in
-    group-other (a .sheet .now) (a .pos) (a .before) (c .before .before .before .before .before .before .before .before .before .before .before .pre .1 .1) gs (a .allowed) (a .levels) _ (as-record is-GB _ _ (c .before .before .before .before .before .before .before .record-fault .ensures)) (c .before .before .before .before .before .before .if1 .left) _ g (omega (arith, n, c .before .before .if2 .left)) (sym (c .before .allows .ensures) ∙ c .if3 .left)
+check-group-returns-5 t c = let a = c .before .before .before .before .before .before .before .before .before .before .before .before .args in let gs = schema (a .table .now) in let n = c .before .before .before .before .before .before .group-total .ensures .0 ∙ c .before .before .before .before .before .before .before .before .before .before .before .before .pre .1 .0 .total in
+    let g = c .before .before .before .before .find .ensures .0 ∙ find-whole gs _ _ n ∙ ap (find gs) (c .before .before .before .before .before .read-u64 .ensures) in
+    rw (c .refused4 .ensures) (group-other (a .sheet .now) (a .pos) (a .before) (c .before .before .before .before .before .before .before .before .before .before .before .before .pre .1 .1) gs (a .allowed) (a .levels) _ (as-record is-GB _ _ (c .before .before .before .before .before .before .before .before .record-fault .ensures)) (c .before .before .before .before .before .before .before .if1 .left) _ g (omega (arith, n, c .before .before .before .if2 .left)) (sym (c .before .before .allows .ensures) ∙ c .before .if3 .left))
 
 abbrev check-groups-Inv-loop : check-groups-lts.InvT-loop
 check-groups-Inv-loop table index sheet levels total pos before i₀ next₀ length₀ i next d =
@@ -419,7 +418,7 @@ check-groups-μ-loop table index sheet levels total pos before i₀ next₀ leng
     total - i
 
 abbrev check-groups-claims : ℕ → check-groups-lts.Claims
-check-groups-claims t = (check-extending-below t, check-extending.Post)
+check-groups-claims t = (check-extending-below t, check-extending.Post, passed-reads.Asked, passed-reads.Learnt)
 
 check-groups-loop-holds : (t : ℕ) → check-groups-lts.Need-loop-holds (check-groups-claims t) (check-groups-at t) check-groups.Post check-groups-Inv-loop check-groups-μ-loop
 check-groups-loop-holds t c = let a = c .before .before .before .args in (c .before .before .before .pre .1 .1, items-all (a .sheet .now) 4 (extendingOf (a .table .now) (a .levels)) (a .total) (a .pos) (a .before))
@@ -431,13 +430,13 @@ check-groups-loop-again : (t : ℕ) → check-groups-lts.Need-loop-again (check-
 check-groups-loop-again t c = let l = c .before .before .before .before .loop in let a = c .before .before .before .before .before .before .before .before .args in (ready (a .sheet .now) _ _ _ (c .before .before .check-extending .ensures 0 0) (c .if1 .left) (c .before .before .before .before .before .before .before .before .pre .1 .1 .small), λ k g. l .inv .1 k (items-passed (a .sheet .now) 4 (extendingOf (a .table .now) (a .levels)) (a .total) (l .i) (l .next) (l .length) (c .before .before .before .loop-test .taken) _ (c .before .before .check-extending .ensures) (c .if1 .left) k g))
 
 check-groups-returns-2 : (t : ℕ) → check-groups-lts.Need-returns-2 (check-groups-claims t) (check-groups-at t) check-groups.Post check-groups-Inv-loop check-groups-μ-loop
-check-groups-returns-2 t c = let l = c .before .loop in let a = c .before .before .before .before .before .args in l .inv .1 _ (items-end (a .sheet .now) 4 (extendingOf (a .table .now) (a .levels)) (a .total) (l .i) (l .next) (l .length) (c .loop-test .left) (l .inv .0))
+check-groups-returns-2 t c = let l = c .before .before .loop in let a = c .before .before .before .before .before .before .args in rw (c .passed .ensures) (l .inv .1 _ (items-end (a .sheet .now) 4 (extendingOf (a .table .now) (a .levels)) (a .total) (l .i) (l .next) (l .length) (c .before .loop-test .left) (l .inv .0)))
 
 abbrev check-item-claims : ℕ → check-item-lts.Claims
-check-item-claims t = (wide-reads.Asked, wide-reads.Learnt, check-plain-reads.Asked, check-plain-reads.Learnt, check-number-reads.Asked, check-number-reads.Learnt, check-inline-reads.Asked, check-inline-reads.Learnt, check-text-reads.Asked, check-text-reads.Learnt, record-fault-reads.Asked, record-fault-reads.Learnt, check-fields-below t, check-fields.Post, check-group-below t, check-group.Post)
+check-item-claims t = (wide-reads.Asked, wide-reads.Learnt, check-plain-reads.Asked, check-plain-reads.Learnt, check-number-reads.Asked, check-number-reads.Learnt, check-inline-reads.Asked, check-inline-reads.Learnt, check-text-reads.Asked, check-text-reads.Learnt, record-fault-reads.Asked, record-fault-reads.Learnt, refused-reads.Asked, refused-reads.Learnt, check-fields-below t, check-fields.Post, check-group-below t, check-group.Post)
 
 check-item-returns : (t : ℕ) → check-item-lts.Need-returns (check-item-claims t) (check-item-at t) check-item.Post
-check-item-returns t c = let a = c .before .before .before .before .before .before .before .before .args in let t = a .table .now in static-bad (a .sheet .now) (a .pos) (a .before) (c .before .before .before .before .before .before .before .before .pre .1 .1) (innerOf t (a .levels)) (staticOf t (a .levels) (a .depth)) (enums t) (a .kind) _ (c .before .before .before .kind5 .given .1) _ (as-record is-SG _ _ (c .before .record-fault .ensures)) (c .if1 .taken)
+check-item-returns t c = let a = c .before .before .before .before .before .before .before .before .before .args in let t = a .table .now in rw (c .refused .ensures) (static-bad (a .sheet .now) (a .pos) (a .before) (c .before .before .before .before .before .before .before .before .before .pre .1 .1) (innerOf t (a .levels)) (staticOf t (a .levels) (a .depth)) (enums t) (a .kind) _ (c .before .before .before .before .kind5 .given .1) _ (as-record is-SG _ _ (c .before .before .record-fault .ensures)) (c .before .if1 .taken))
 
 check-item-check-fields-requires : (t : ℕ) → check-item-lts.Need-check-fields-requires (check-item-claims t) (check-item-at t) check-item.Post
 check-item-check-fields-requires t c κs = let a = c .before .before .before .before .before .before .before .before .args in let t = a .table .now in let sw = widthOf t (a .depth) in
@@ -472,7 +471,7 @@ check-items-μ-loop table index sheet levels depth kind width total pos before i
     total - i
 
 abbrev check-items-claims : ℕ → check-items-lts.Claims
-check-items-claims t = (wide-reads.Asked, wide-reads.Learnt, check-plains-reads.Asked, check-plains-reads.Learnt, check-texts-reads.Asked, check-texts-reads.Learnt, check-item-below t, check-item.Post)
+check-items-claims t = (wide-reads.Asked, wide-reads.Learnt, check-plains-reads.Asked, check-plains-reads.Learnt, check-texts-reads.Asked, check-texts-reads.Learnt, check-item-below t, check-item.Post, passed-reads.Asked, passed-reads.Learnt)
 
 check-items-returns : (t : ℕ) → check-items-lts.Need-returns (check-items-claims t) (check-items-at t) check-items.Post check-items-Inv-loop check-items-μ-loop
 check-items-returns t c = let a = c .before .before .before .before .before .before .before .before .args in let t = a .table .now in items-plain (a .sheet .now) (a .pos) (a .before) (innerOf t (a .levels)) (staticOf t (a .levels) (a .depth)) (enums t) (a .kind) _ (widthOf t (a .depth)) _ _ _ _ (c .before .before .before .kind .given .1) (c .before .wide .ensures .0) (c .before .before .before .before .before .before .before .before .pre .1 .2) (c .check-plains .ensures)
@@ -490,7 +489,7 @@ check-items-loop-again : (t : ℕ) → check-items-lts.Need-loop-again (check-it
 check-items-loop-again t c = let l = c .before .before .before .before .loop in let a = c .before .before .before .before .before .before .before .before .before .before .args in (ready (a .sheet .now) _ _ _ (c .before .before .check-item .ensures 0 0) (c .if1 .left) (c .before .before .before .before .before .before .before .before .before .before .pre .1 .1 .small), λ k g. l .inv .1 k (items-passed (a .sheet .now) (a .width) (itemOf (a .table .now) (a .levels) (a .depth) (a .kind)) (a .total) (l .i) (l .next) (l .length) (c .before .before .before .loop-test .taken) _ (c .before .before .check-item .ensures) (c .if1 .left) k g))
 
 check-items-returns-4 : (t : ℕ) → check-items-lts.Need-returns-4 (check-items-claims t) (check-items-at t) check-items.Post check-items-Inv-loop check-items-μ-loop
-check-items-returns-4 t c = let l = c .before .loop in let a = c .before .before .before .before .before .before .before .args in l .inv .1 _ (items-end (a .sheet .now) (a .width) (itemOf (a .table .now) (a .levels) (a .depth) (a .kind)) (a .total) (l .i) (l .next) (l .length) (c .loop-test .left) (l .inv .0))
+check-items-returns-4 t c = let l = c .before .before .loop in let a = c .before .before .before .before .before .before .before .before .args in rw (c .passed .ensures) (l .inv .1 _ (items-end (a .sheet .now) (a .width) (itemOf (a .table .now) (a .levels) (a .depth) (a .kind)) (a .total) (l .i) (l .next) (l .length) (c .before .loop-test .left) (l .inv .0)))
 
 pub +check-body+check-extending+check-extension+check-field+check-fields+check-group+check-groups+check-item+check-items-spec :
     {M : Type 1} → statement M
@@ -507,17 +506,17 @@ pub +check-body+check-extending+check-extension+check-field+check-fields+check-g
     μ-check-items (λ t. check-body-lts.spec (check-body-claims t) (check-body-at t)
     check-body.Post (λ c κs. search needs) (λ c. search needs) (λ c κs. search needs) (check-body-check-fields-requires t) (check-body-returns t) (check-body-check-extension-requires t) (check-body-returns-2 t) (check-body-check-end-requires t) (check-body-returns-3 t)) (λ t. check-extending-lts.spec (check-extending-claims t) (check-extending-at t)
     check-extending.Post (λ c κs. search needs) (check-extending-check-kept-requires t) (check-extending-returns t) (λ c κs. search needs) (check-extending-returns-2 t)) (λ t. check-extension-lts.spec (check-extension-claims t) (check-extension-at t)
-    check-extension.Post (λ c κs. search needs) (λ c κs. search needs) (check-extension-returns t) (λ c. search needs) (check-extension-read-u32-requires t) (check-extension-returns-2 t) (λ c. search needs) (λ c. search needs) (λ c κs. search needs) (λ c. search needs) (check-extension-check-groups-requires t) (check-extension-returns-3 t) (check-extension-returns-4 t)) (λ t. check-field-lts.spec (check-field-claims t) (check-field-at t)
-    check-field.Post (λ c κs. search needs) (λ c. search needs) (check-field-returns t) (λ c κs. search needs) (λ c κs. search needs) (λ c κs. search needs) (check-field-returns-2 t) (λ c. search needs) (check-field-read-u32-requires t) (λ c κs. search needs) (check-field-mul-longer t) (check-field-add-longer t) (check-field-longer-requires t) (λ c. search needs) (check-field-check-items-requires t) (check-field-returns-3 t) (check-field-check-item-requires t) (check-field-returns-4 t)) (λ t. check-fields-lts.spec (check-fields-claims t) (check-fields-at t)
+    check-extension.Post (λ c κs. search needs) (λ c κs. search needs) (λ c κs. search needs) (check-extension-returns t) (λ c. search needs) (check-extension-read-u32-requires t) (λ c κs. search needs) (check-extension-returns-2 t) (λ c. search needs) (λ c. search needs) (λ c κs. search needs) (λ c. search needs) (check-extension-check-groups-requires t) (check-extension-returns-3 t) (λ c κs. search needs) (check-extension-returns-4 t)) (λ t. check-field-lts.spec (check-field-claims t) (check-field-at t)
+    check-field.Post (λ c κs. search needs) (λ c. search needs) (λ c κs. search needs) (check-field-returns t) (λ c κs. search needs) (λ c κs. search needs) (λ c κs. search needs) (λ c κs. search needs) (λ c κs. search needs) (check-field-returns-2 t) (λ c. search needs) (check-field-read-u32-requires t) (λ c. search needs) (check-field-mul-longer t) (check-field-add-longer t) (check-field-longer-requires t) (check-field-check-items-requires t) (check-field-returns-3 t)) (λ t. check-fields-lts.spec (check-fields-claims t) (check-fields-at t)
     check-fields.Post
     check-fields-Inv-loop
-    check-fields-μ-loop (λ c κs. search needs) (check-fields-field-count-requires t) (check-fields-sub-deeper t) (λ c. search needs) (check-fields-loop-holds t) (λ c κs. search needs) (λ c κs. search needs) (check-fields-returns t) (λ c. search needs) (λ c. search needs) (λ c. search needs) (λ c. search needs) (λ c. search needs) (check-fields-loop-again t) (check-fields-check-field-requires t) (check-fields-returns-2 t) (λ c. search needs) (λ c. search needs) (λ c. search needs) (check-fields-loop-again-2 t) (check-fields-returns-3 t)) (λ t. check-group-lts.spec (check-group-claims t) (check-group-at t)
-    check-group.Post (λ c κs. search needs) (check-group-returns t) (λ c κs. search needs) (λ c. search needs) (check-group-read-u64-requires t) (check-group-find-requires t) (check-group-returns-2 t) (check-group-allows-requires t) (check-group-returns-3 t) (λ c. search needs) (λ c. search needs) (check-group-check-body-requires t) (check-group-returns-4 t) (check-group-returns-5 t)) (λ t. check-groups-lts.spec (check-extending-below t, check-extending.Post) (check-groups-at t)
+    check-fields-μ-loop (λ c κs. search needs) (check-fields-field-count-requires t) (check-fields-sub-deeper t) (λ c. search needs) (check-fields-loop-holds t) (λ c κs. search needs) (λ c κs. search needs) (λ c κs. search needs) (check-fields-returns t) (λ c. search needs) (λ c. search needs) (λ c. search needs) (λ c. search needs) (λ c. search needs) (check-fields-loop-again t) (check-fields-check-field-requires t) (check-fields-returns-2 t) (λ c. search needs) (λ c. search needs) (λ c. search needs) (check-fields-loop-again-2 t) (λ c κs. search needs) (check-fields-returns-3 t)) (λ t. check-group-lts.spec (check-group-claims t) (check-group-at t)
+    check-group.Post (λ c κs. search needs) (λ c κs. search needs) (check-group-returns t) (λ c κs. search needs) (λ c. search needs) (check-group-read-u64-requires t) (check-group-find-requires t) (λ c κs. search needs) (check-group-returns-2 t) (check-group-allows-requires t) (λ c κs. search needs) (check-group-returns-3 t) (λ c. search needs) (λ c. search needs) (check-group-check-body-requires t) (check-group-returns-4 t) (λ c κs. search needs) (check-group-returns-5 t)) (λ t. check-groups-lts.spec (check-groups-claims t) (check-groups-at t)
     check-groups.Post
     check-groups-Inv-loop
-    check-groups-μ-loop (check-groups-loop-holds t) (λ c κs. search needs) (check-groups-returns t) (λ c. search needs) (λ c. search needs) (check-groups-loop-again t) (check-groups-returns-2 t)) (λ t. check-item-lts.spec (check-item-claims t) (check-item-at t)
-    check-item.Post (λ c. search needs) (λ c κs. search needs) (λ c κs. search needs) (λ c. search needs) (λ c κs. search needs) (λ c. search needs) (λ c κs. search needs) (λ c. search needs) (λ c κs. search needs) (λ c. search needs) (λ c κs. search needs) (check-item-returns t) (λ c. search needs) (check-item-check-fields-requires t) (λ c. search needs) (λ c κs. search needs) (check-item-returns-2 t) (check-item-returns-3 t) (check-item-returns-4 t) (check-item-returns-5 t) (check-item-returns-6 t) (check-item-returns-7 t))
+    check-groups-μ-loop (check-groups-loop-holds t) (λ c κs. search needs) (check-groups-returns t) (λ c. search needs) (λ c. search needs) (check-groups-loop-again t) (λ c κs. search needs) (check-groups-returns-2 t)) (λ t. check-item-lts.spec (check-item-claims t) (check-item-at t)
+    check-item.Post (λ c. search needs) (λ c κs. search needs) (λ c κs. search needs) (λ c. search needs) (λ c κs. search needs) (λ c. search needs) (λ c κs. search needs) (λ c. search needs) (λ c κs. search needs) (λ c. search needs) (λ c κs. search needs) (λ c κs. search needs) (check-item-returns t) (λ c. search needs) (check-item-check-fields-requires t) (λ c. search needs) (λ c κs. search needs) (check-item-returns-2 t) (check-item-returns-3 t) (check-item-returns-4 t) (check-item-returns-5 t) (check-item-returns-6 t) (check-item-returns-7 t))
     λ t. check-items-lts.spec (check-items-claims t) (check-items-at t)
     check-items.Post
     check-items-Inv-loop
-    check-items-μ-loop (λ c. search needs) (λ c κs. search needs) (λ c κs. search needs) (check-items-returns t) (λ c. search needs) (λ c κs. search needs) (check-items-returns-2 t) (check-items-loop-holds t) (λ c κs. search needs) (check-items-returns-3 t) (λ c. search needs) (λ c. search needs) (check-items-loop-again t) (check-items-returns-4 t)
+    check-items-μ-loop (λ c. search needs) (λ c κs. search needs) (λ c κs. search needs) (check-items-returns t) (λ c. search needs) (λ c κs. search needs) (check-items-returns-2 t) (check-items-loop-holds t) (λ c κs. search needs) (check-items-returns-3 t) (λ c. search needs) (λ c. search needs) (check-items-loop-again t) (λ c κs. search needs) (check-items-returns-4 t)

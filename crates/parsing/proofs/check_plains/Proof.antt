@@ -24,29 +24,16 @@ loop-holds : tie.Need-loop-holds Inv-loop μ-loop
 loop-holds c = let a = c .before .args in (search needs, items-all (a .sheet .now) (a .width) (plainOf (a .width)) (a .total) (a .pos) (a .before))
 
 returns : tie.Need-returns Inv-loop μ-loop
-returns c = let l = c .before .before .before .loop in let a = c .before .before .before .before .before .args in let R = ready-at (c .before .before .before .before .before .pre .0) _ (l .inv .0) in
-    l .inv .1 _ (items-stopped (a .sheet .now) (a .width) (plainOf (a .width)) (a .total) (l .i) (l .next) (a .before) (c .before .before .loop-test .taken) _ (plain-bad (a .sheet .now) (l .next) (a .before) R (a .width) any _ (as-record is-VA _ _ (c .before .record-fault .ensures)) (c .if1 .taken)) (c .if1 .taken))
+returns c = let l = c .before .before .before .before .loop in let a = c .before .before .before .before .before .before .args in let R = ready-at (c .before .before .before .before .before .before .pre .0) _ (l .inv .0) in
+    rw (c .refused .ensures) (l .inv .1 _ (items-stopped (a .sheet .now) (a .width) (plainOf (a .width)) (a .total) (l .i) (l .next) (a .before) (c .before .before .before .loop-test .taken) _ (plain-bad (a .sheet .now) (l .next) (a .before) R (a .width) any _ (as-record is-VA _ _ (c .before .before .record-fault .ensures)) (c .before .if1 .taken)) (c .before .if1 .taken)))
 
 loop-again : tie.Need-loop-again Inv-loop μ-loop
 loop-again c = let l = c .before .before .before .loop in let a = c .before .before .before .before .before .args in let R = ready-at (c .before .before .before .before .before .pre .0) _ (l .inv .0) in let e = as-record is-VA _ _ (c .before .record-fault .ensures) in
     (record-inside (a .sheet .now) (l .next) (l .inv .0) _ (a .width) _ e (c .if1 .left), λ k g. l .inv .1 k (items-passed (a .sheet .now) (a .width) (plainOf (a .width)) (a .total) (l .i) (l .next) (a .before) (c .before .before .loop-test .taken) _ (plain-good (a .sheet .now) (l .next) (a .before) R (a .width) any _ e (c .if1 .left) (any-passes _)) refl k g))
 
 returns-2 : tie.Need-returns-2 Inv-loop μ-loop
-returns-2 c = let l = c .before .loop in let a = c .before .before .before .args in let R = ready-at (c .before .before .before .pre .0) _ (l .inv .0) in
-    l .inv .1 _ (items-end (a .sheet .now) (a .width) (plainOf (a .width)) (a .total) (l .i) (l .next) (a .before) (c .loop-test .left) R)
+returns-2 c = let l = c .before .before .loop in let a = c .before .before .before .before .args in let R = ready-at (c .before .before .before .before .pre .0) _ (l .inv .0) in
+    rw (c .passed .ensures) (l .inv .1 _ (items-end (a .sheet .now) (a .width) (plainOf (a .width)) (a .total) (l .i) (l .next) (a .before) (c .before .loop-test .left) R))
 
 pub check-plains-spec : {M : Type 1} → statement M
-check-plains-spec =
-    tie.close
-    (tie.spec
-    Inv-loop
-    μ-loop
-    loop-holds
-    (λ c κs. search needs)
-    returns
-    (λ c. search needs)
-    (λ c. search needs)
-    (λ c. search needs)
-    (λ c. search needs)
-    loop-again
-    returns-2)
+check-plains-spec = tie.close (tie.spec Inv-loop μ-loop loop-holds (λ c κs. search needs) (λ c κs. search needs) returns (λ c. search needs) (λ c. search needs) (λ c. search needs) (λ c. search needs) loop-again (λ c κs. search needs) returns-2)

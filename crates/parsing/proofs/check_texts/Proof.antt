@@ -25,18 +25,7 @@ loop-again : tie.Need-loop-again Inv-loop μ-loop
 loop-again c = let a = c .before .before .before .before .before .before .args in let l = c .before .before .before .before .loop in (ready (a .sheet .now) _ _ _ (c .before .before .check-text .ensures 0 0) (c .if1 .left) (l .inv .0 .small), λ k g. l .inv .1 k (items-passed (a .sheet .now) 4 (markedW ST (indirectW (textB (a .utf8)))) (a .total) (l .i) (l .next) (l .length) (c .before .before .before .loop-test .taken) _ (c .before .before .check-text .ensures) (c .if1 .left) k g))
 
 returns-2 : tie.Need-returns-2 Inv-loop μ-loop
-returns-2 c = let a = c .before .before .before .args in let l = c .before .loop in l .inv .1 _ (items-end (a .sheet .now) 4 (markedW ST (indirectW (textB (a .utf8)))) (a .total) (l .i) (l .next) (l .length) (c .loop-test .left) (l .inv .0))
+returns-2 c = let a = c .before .before .before .before .args in let l = c .before .before .loop in rw (c .passed .ensures) (l .inv .1 _ (items-end (a .sheet .now) 4 (markedW ST (indirectW (textB (a .utf8)))) (a .total) (l .i) (l .next) (l .length) (c .before .loop-test .left) (l .inv .0)))
 
 pub check-texts-spec : {M : Type 1} → statement M
-check-texts-spec =
-    tie.close
-    (tie.spec
-    Inv-loop
-    μ-loop
-    loop-holds
-    (λ c κs. search needs)
-    returns
-    (λ c. search needs)
-    (λ c. search needs)
-    loop-again
-    returns-2)
+check-texts-spec = tie.close (tie.spec Inv-loop μ-loop loop-holds (λ c κs. search needs) returns (λ c. search needs) (λ c. search needs) loop-again (λ c κs. search needs) returns-2)

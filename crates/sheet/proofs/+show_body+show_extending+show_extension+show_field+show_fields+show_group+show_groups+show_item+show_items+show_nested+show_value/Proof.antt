@@ -4,10 +4,11 @@ use native.Mathlib.Omega.{arith}
 use native.Mathlib.Nat.{add-sub-cancel-left, sub-zero}
 use mathlib.Core.Path.{_≡_, sym, _∙_, refl, ap}
 use mathlib.Core.Bool.{true}
+use mathlib.Core.Logic.{⊎-elim}
 use lib.ListN.{length, drop}
 use lib.Dec.{leb}
 use Rattle.wire.specs.Bytes.{part}
-use Rattle.schema.specs.Schema.{fieldsWidth, shallowFields, shallow, find}
+use Rattle.schema.specs.Schema.{kindWidth, valueWidth, fieldsWidth, shallowFields, shallow, find}
 use Rattle.schema.specs.Table.{fieldAt, fieldsAt, enums, schema}
 use Rattle.schema.proofs.Records.{fields-more}
 use Rattle.schema.proofs.Types.{width-sequence, width-one, width-optional, width-required}
@@ -19,42 +20,45 @@ use Rattle.schema.specs.declared.FieldKind.the-variants.{Plain}
 use Rattle.message.specs.Walk.{byte, word, here, strict, itemsR, fieldsR}
 use Rattle.message.specs.Check.{innerOf, widthOf, staticOf}
 use Rattle.message.proofs.CheckFields.{plain-wide, items-left, wide-number, wide-inline, wide-indirect, wide-static, wide-dynamic, kind-static, start-inside, start-static, start-width, start-shallow}
-use Rattle.sheet.specs.Show.{passage, itemOf, extendingOf}
-use Rattle.sheet.proofs.ShowLaws.{Left, begun, opened, first-fits, called, fits-opens, shown-opens, shown-none, shown-just, shown-mark, shown-bytes, mark-room, bytes-room, just-room, alike, shown-then}
-use Rattle.sheet.proofs.ShowReaders.{is-VA, is-ST, is-SG, is-SQ, is-GB, is-XT, is-XU, marked-inline, inline-count, inline-length, marked-inner, item-fits, items-next, items-done, field-fits, fields-next, fields-done, field-plain, field-absent, field-present, field-always, value-item, sequence-inside, sequence-opens, wide-plain, item-plain, item-number, item-inline, item-static, item-text, text-inside, item-group, group-inside, items-plain, extension-none, extension-inside, extension-empty, extension-some, extending-inside, extending-known, extending-kept, head, group-opens}
+use Rattle.sheet.specs.Show.{passage, bodyOf, itemOf, valueOf, fieldOf, extensionOf, extendingOf}
+use Rattle.sheet.proofs.ShowLaws.{just, then, Opens, Left, begun, opened, first-fits, called, fits-opens, shown-opens, shown-none, shown-just, shown-mark, shown-bytes, mark-room, bytes-room, just-room, alike, shown-then}
+use Rattle.sheet.proofs.ShowReaders.{is-VA, is-ST, is-SG, is-SQ, is-GB, is-XT, is-XU, marked-inline, inline-count, inline-length, marked-inner, item-fits, items-next, items-done, field-fits, fields-next, fields-done, field-plain, field-absent, field-present, field-always, value-item, sequence-inside, sequence-opens, wide-plain, item-plain, item-number, item-inline, item-static, item-text, text-inside, item-group, group-inside, items-plain, extension-none, extension-inside, extension-empty, extension-some, extending-inside, extending-known, extending-kept, body-wide, body-opens, head, group-opens}
 use Prim.Native.Nat.{ℕ}
 use borrow.Fn.Kinds.{In}
 use borrow.Fn.PlainCycle.{Measures, is, falls, and}
+use Rattle.sheet.proofs.show_body.Reads as show-body
+use Rattle.sheet.proofs.show_body.Kinds as show-body-kinds
+use Rattle.sheet.proofs.+show_body+show_extending+show_extension+show_field+show_fields+show_group+show_groups+show_item+show_items+show_nested+show_value.Lts-show_body as show-body-lts
 use Rattle.sheet.proofs.show_extending.Reads as show-extending
 use Rattle.sheet.proofs.show_extending.Kinds as show-extending-kinds
-use Rattle.sheet.proofs.+show_extending+show_extension+show_field+show_fields+show_group+show_groups+show_item+show_items+show_nested+show_value.Lts-show_extending as show-extending-lts
+use Rattle.sheet.proofs.+show_body+show_extending+show_extension+show_field+show_fields+show_group+show_groups+show_item+show_items+show_nested+show_value.Lts-show_extending as show-extending-lts
 use Rattle.sheet.proofs.show_extension.Reads as show-extension
 use Rattle.sheet.proofs.show_extension.Kinds as show-extension-kinds
-use Rattle.sheet.proofs.+show_extending+show_extension+show_field+show_fields+show_group+show_groups+show_item+show_items+show_nested+show_value.Lts-show_extension as show-extension-lts
+use Rattle.sheet.proofs.+show_body+show_extending+show_extension+show_field+show_fields+show_group+show_groups+show_item+show_items+show_nested+show_value.Lts-show_extension as show-extension-lts
 use Rattle.sheet.proofs.show_field.Reads as show-field
 use Rattle.sheet.proofs.show_field.Kinds as show-field-kinds
-use Rattle.sheet.proofs.+show_extending+show_extension+show_field+show_fields+show_group+show_groups+show_item+show_items+show_nested+show_value.Lts-show_field as show-field-lts
+use Rattle.sheet.proofs.+show_body+show_extending+show_extension+show_field+show_fields+show_group+show_groups+show_item+show_items+show_nested+show_value.Lts-show_field as show-field-lts
 use Rattle.sheet.proofs.show_fields.Reads as show-fields
 use Rattle.sheet.proofs.show_fields.Kinds as show-fields-kinds
-use Rattle.sheet.proofs.+show_extending+show_extension+show_field+show_fields+show_group+show_groups+show_item+show_items+show_nested+show_value.Lts-show_fields as show-fields-lts
+use Rattle.sheet.proofs.+show_body+show_extending+show_extension+show_field+show_fields+show_group+show_groups+show_item+show_items+show_nested+show_value.Lts-show_fields as show-fields-lts
 use Rattle.sheet.proofs.show_group.Reads as show-group
 use Rattle.sheet.proofs.show_group.Kinds as show-group-kinds
-use Rattle.sheet.proofs.+show_extending+show_extension+show_field+show_fields+show_group+show_groups+show_item+show_items+show_nested+show_value.Lts-show_group as show-group-lts
+use Rattle.sheet.proofs.+show_body+show_extending+show_extension+show_field+show_fields+show_group+show_groups+show_item+show_items+show_nested+show_value.Lts-show_group as show-group-lts
 use Rattle.sheet.proofs.show_groups.Reads as show-groups
 use Rattle.sheet.proofs.show_groups.Kinds as show-groups-kinds
-use Rattle.sheet.proofs.+show_extending+show_extension+show_field+show_fields+show_group+show_groups+show_item+show_items+show_nested+show_value.Lts-show_groups as show-groups-lts
+use Rattle.sheet.proofs.+show_body+show_extending+show_extension+show_field+show_fields+show_group+show_groups+show_item+show_items+show_nested+show_value.Lts-show_groups as show-groups-lts
 use Rattle.sheet.proofs.show_item.Reads as show-item
 use Rattle.sheet.proofs.show_item.Kinds as show-item-kinds
-use Rattle.sheet.proofs.+show_extending+show_extension+show_field+show_fields+show_group+show_groups+show_item+show_items+show_nested+show_value.Lts-show_item as show-item-lts
+use Rattle.sheet.proofs.+show_body+show_extending+show_extension+show_field+show_fields+show_group+show_groups+show_item+show_items+show_nested+show_value.Lts-show_item as show-item-lts
 use Rattle.sheet.proofs.show_items.Reads as show-items
 use Rattle.sheet.proofs.show_items.Kinds as show-items-kinds
-use Rattle.sheet.proofs.+show_extending+show_extension+show_field+show_fields+show_group+show_groups+show_item+show_items+show_nested+show_value.Lts-show_items as show-items-lts
+use Rattle.sheet.proofs.+show_body+show_extending+show_extension+show_field+show_fields+show_group+show_groups+show_item+show_items+show_nested+show_value.Lts-show_items as show-items-lts
 use Rattle.sheet.proofs.show_nested.Reads as show-nested
 use Rattle.sheet.proofs.show_nested.Kinds as show-nested-kinds
-use Rattle.sheet.proofs.+show_extending+show_extension+show_field+show_fields+show_group+show_groups+show_item+show_items+show_nested+show_value.Lts-show_nested as show-nested-lts
+use Rattle.sheet.proofs.+show_body+show_extending+show_extension+show_field+show_fields+show_group+show_groups+show_item+show_items+show_nested+show_value.Lts-show_nested as show-nested-lts
 use Rattle.sheet.proofs.show_value.Reads as show-value
 use Rattle.sheet.proofs.show_value.Kinds as show-value-kinds
-use Rattle.sheet.proofs.+show_extending+show_extension+show_field+show_fields+show_group+show_groups+show_item+show_items+show_nested+show_value.Lts-show_value as show-value-lts
+use Rattle.sheet.proofs.+show_body+show_extending+show_extension+show_field+show_fields+show_group+show_groups+show_item+show_items+show_nested+show_value.Lts-show_value as show-value-lts
 use Rattle.schema.proofs.field_count.Reads as field-count-reads
 use Rattle.schema.proofs.field_width.Reads as field-width-reads
 use Rattle.schema.proofs.find.Reads as find-reads
@@ -75,12 +79,15 @@ use Rattle.wire.proofs.wide.Reads as wide-reads
 use Rattle.wire.proofs.copy.Reads as copy-reads
 use Rattle.wire.proofs.read_u32.Reads as read-u32-reads
 use Rattle.wire.proofs.read_u64.Reads as read-u64-reads
-use Rattle.sheet.proofs.+show_extending+show_extension+show_field+show_fields+show_group+show_groups+show_item+show_items+show_nested+show_value.{
+use Rattle.sheet.proofs.+show_body+show_extending+show_extension+show_field+show_fields+show_group+show_groups+show_item+show_items+show_nested+show_value.{
   statement,
 }
-use Rattle.sheet.proofs.+show_extending+show_extension+show_field+show_fields+show_group+show_groups+show_item+show_items+show_nested+show_value.Tie.{
+use Rattle.sheet.proofs.+show_body+show_extending+show_extension+show_field+show_fields+show_group+show_groups+show_item+show_items+show_nested+show_value.Tie.{
   close,
 }
+
+abbrev μ-show-body : Measures 4 show-body-kinds.ps ℕ
+μ-show-body κs a = 64 * a .1 .1 .1 .0 + 60
 
 abbrev μ-show-extending : Measures 4 show-extending-kinds.ps ℕ
 μ-show-extending κs a = 64 * a .1 .1 .1 .0 + 6
@@ -111,6 +118,13 @@ abbrev μ-show-nested : Measures 4 show-nested-kinds.ps ℕ
 
 abbrev μ-show-value : Measures 4 show-value-kinds.ps ℕ
 μ-show-value κs a = 64 * a .1 .1 .1 .0 + 10 * a .1 .1 .1 .1 .0 + 8
+
+abbrev show-body-at : ℕ → In 4 show-body-kinds.ps
+show-body-at t = and 4 show-body-kinds.ps (is 4 show-body-kinds.ps μ-show-body t) show-body.Pre
+
+abbrev show-body-below : ℕ → In 4 show-body-kinds.ps
+show-body-below t =
+    and 4 show-body-kinds.ps (falls 4 show-body-kinds.ps _<_ μ-show-body t) show-body.Pre
 
 abbrev show-extending-at : ℕ → In 4 show-extending-kinds.ps
 show-extending-at t =
@@ -207,6 +221,38 @@ abbrev show-value-below : ℕ → In 4 show-value-kinds.ps
 show-value-below t =
     and 4 show-value-kinds.ps (falls 4 show-value-kinds.ps _<_ μ-show-value t) show-value.Pre
 
+abbrev show-body-claims : ℕ → show-body-lts.Claims
+show-body-claims t = (copy-reads.Asked, copy-reads.Learnt, show-fields-below t, show-fields.Post, show-extension-below t, show-extension.Post, show-mark-reads.Asked, show-mark-reads.Learnt)
+
+show-body-part-copy-end : (t : ℕ) → show-body-lts.Need-part-copy-end (show-body-claims t) (show-body-at t) show-body.Post
+show-body-part-copy-end t c = let a = c .before .before .before .before .before .args in let R = c .before .before .before .before .before .pre .1 in let t = a .table .now in let b = a .bytes .now in omega (arith, body-wide t (a .levels) (a .group) b _ (R .3 .reads))
+
+show-body-copy-requires : (t : ℕ) → show-body-lts.Need-copy-requires (show-body-claims t) (show-body-at t) show-body.Post
+show-body-copy-requires t c κs = let a = c .before .before .before .before .before .before .args in let R = c .before .before .before .before .before .before .pre .1 in let t = a .table .now in let b = a .bytes .now in
+    just-room (part 8 4 b) _ _ (first-fits _ _ _ _ _ _ _ (opened _ _ _ _ _ _ _ (body-opens t (a .levels) (a .group) b) (begun _ _ _ (R .3))))
+
+-- what is left behind the type id
+show-body-copied : (t : ℕ) (c : show-body-lts.After-copy (show-body-claims t) (show-body-at t) show-body.Post) → let a = c .before .before .before .before .before .before .before .args in let t = a .table .now in let b = a .bytes .now in
+    Left (bodyOf t (a .levels) (a .group) b) (a .pos) (a .out .now) (then (then (passage (staticOf t (a .levels) 5 (a .group)) b 16) (passage (extensionOf t (a .levels)) b 12)) (just GE)) (a .pos + 8) (c .copy .last .0)
+show-body-copied t c = let a = c .before .before .before .before .before .before .before .args in let R = c .before .before .before .before .before .before .before .pre .1 in let t = a .table .now in let b = a .bytes .now in let W = body-wide t (a .levels) (a .group) b _ (R .3 .reads) in
+    called _ _ _ _ _ _ _ (opened _ _ _ _ _ _ _ (body-opens t (a .levels) (a .group) b) (begun _ _ _ (R .3))) _ _ (shown-just (part 8 4 b) _ _ _ _ _ (c .copy .ensures) refl (ap (λ (n : ℕ). a .pos + n) (sym (length-part 8 4 b (omega (arith, W))))))
+
+show-body-show-fields-requires : (t : ℕ) → show-body-lts.Need-show-fields-requires (show-body-claims t) (show-body-at t) show-body.Post
+show-body-show-fields-requires t c κs = let L = show-body-copied t (c .before .before .before) in let a = c .before .before .before .before .before .before .before .before .before .before .args in let R = c .before .before .before .before .before .before .before .before .before .before .pre .1 in let t = a .table .now in let b = a .bytes .now in let W = body-wide t (a .levels) (a .group) b _ (R .3 .reads) in
+    (search needs, (R .0, R .1, W, R .2, R .0 .shallows _, first-fits _ _ _ _ _ _ _ (begun _ _ _ (first-fits _ _ _ _ _ _ _ L))))
+
+show-body-show-extension-requires : (t : ℕ) → show-body-lts.Need-show-extension-requires (show-body-claims t) (show-body-at t) show-body.Post
+show-body-show-extension-requires t c κs = let L = show-body-copied t (c .before .before .before .before .before .before .before) in let a = c .before .before .before .before .before .before .before .before .before .before .before .before .before .before .args in let R = c .before .before .before .before .before .before .before .before .before .before .before .before .before .before .pre .1 in let t = a .table .now in let b = a .bytes .now in let W = body-wide t (a .levels) (a .group) b _ (R .3 .reads) in
+    (search needs, (R .0, R .1, omega (arith, W), called _ _ _ _ _ _ _ (begun _ _ _ (first-fits _ _ _ _ _ _ _ L)) _ _ (c .before .before .before .show-fields .ensures) .fits))
+
+show-body-show-mark-requires : (t : ℕ) → show-body-lts.Need-show-mark-requires (show-body-claims t) (show-body-at t) show-body.Post
+show-body-show-mark-requires t c κs = let L = show-body-copied t (c .before .before .before .before .before .before .before .before .before .before .before) in
+    just-room GE _ _ (called _ _ _ _ _ _ _ L _ _ (shown-then _ _ _ _ _ _ _ _ (c .before .before .before .before .before .before .before .show-fields .ensures) (c .before .before .before .show-extension .ensures)) .fits)
+
+show-body-returns : (t : ℕ) → show-body-lts.Need-returns (show-body-claims t) (show-body-at t) show-body.Post
+show-body-returns t c = let L = show-body-copied t (c .before .before .before .before .before .before .before .before .before .before .before .before .before .before) in
+    called _ _ _ _ _ _ _ L _ _ (shown-then _ _ _ _ _ _ _ _ (c .before .before .before .before .before .before .before .before .before .before .show-fields .ensures) (c .before .before .before .before .before .before .show-extension .ensures)) .whole _ _ (shown-just GE 2 _ _ _ _ (c .before .before .show-mark .ensures .0) refl (c .before .before .show-mark .ensures .1))
+
 abbrev show-extending-claims : ℕ → show-extending-lts.Claims
 show-extending-claims t = (read-u32-reads.Asked, read-u32-reads.Learnt, read-u64-reads.Asked, read-u64-reads.Learnt, is-known-reads.Asked, is-known-reads.Learnt, show-nested-below t, show-nested.Post, show-bytes-reads.Asked, show-bytes-reads.Learnt)
 
@@ -221,7 +267,7 @@ show-extending-show-nested-requires t c κs = let a = c .before .before .before 
     (search needs, (R .0, R .1, q .1, (0, fits-opens _ _ _ _ (extending-known (schema t) I b (a .at) _ _ ip refl k) (R .3))))
 
 show-extending-returns : (t : ℕ) → show-extending-lts.Need-returns (show-extending-claims t) (show-extending-at t) show-extending.Post
-show-extending-returns t c = let a = c .before .before .before .before .before .before .before .before .before .before .before .before .args in let R = c .before .before .before .before .before .before .before .before .before .before .before .before .pre .1 in let t = a .table .now in let b = a .bytes .now in let I = innerOf t (a .levels) in let ip = ap (λ (n : ℕ). a .at + n) (c .before .before .before .before .before .before .before .read-u32 .ensures .0) in
+show-extending-returns t c = let a = c .before .before .before .before .before .before .before .before .before .before .before .before .args in let t = a .table .now in let b = a .bytes .now in let I = innerOf t (a .levels) in let ip = ap (λ (n : ℕ). a .at + n) (c .before .before .before .before .before .before .before .read-u32 .ensures .0) in
     let k = rw (c .before .before .before .before .before .before .read-u64 .ensures) at (sym (c .before .before .before .before .before .is-known .ensures)) ∙ c .before .before .before .before .if1 .taken in
     shown-opens _ _ _ _ _ _ (extending-known (schema t) I b (a .at) _ _ ip refl k) (c .before .before .show-nested .ensures 0)
 
@@ -247,14 +293,14 @@ abbrev show-extension-claims : ℕ → show-extension-lts.Claims
 show-extension-claims t = (read-u32-reads.Asked, read-u32-reads.Learnt, show-bytes-reads.Asked, show-bytes-reads.Learnt, show-groups-below t, show-groups.Post)
 
 show-extension-returns : (t : ℕ) → show-extension-lts.Need-returns (show-extension-claims t) (show-extension-at t) show-extension.Post
-show-extension-returns t c = let a = c .before .before .before .before .before .before .args in let R = c .before .before .before .before .before .before .pre .1 in let t = a .table .now in let b = a .bytes .now in let I = innerOf t (a .levels) in shown-opens _ _ _ _ _ _ (extension-none (schema t) I b (sym (c .before .read-u32 .ensures .0) ∙ c .if1 .taken)) (shown-none _ _)
+show-extension-returns t c = let a = c .before .before .before .before .before .before .args in let t = a .table .now in let b = a .bytes .now in let I = innerOf t (a .levels) in shown-opens _ _ _ _ _ _ (extension-none (schema t) I b (sym (c .before .read-u32 .ensures .0) ∙ c .if1 .taken)) (shown-none _ _)
 
 show-extension-read-u32-requires-2 : (t : ℕ) → show-extension-lts.Need-read-u32-requires-2 (show-extension-claims t) (show-extension-at t) show-extension.Post
 show-extension-read-u32-requires-2 t c κs = let a = c .before .before .before .before .before .before .args in let R = c .before .before .before .before .before .before .pre .1 in let t = a .table .now in let b = a .bytes .now in let I = innerOf t (a .levels) in let ip = ap (λ (n : ℕ). 12 + n) (c .before .read-u32 .ensures .0) in let z : word 12 b ≡ 0 → ⊥ = λ e. c .if1 .left (c .before .read-u32 .ensures .0 ∙ e) in
     let q = extension-inside (schema t) I b z _ _ ip refl _ (R .3 .reads) in omega (arith, q)
 
 show-extension-returns-2 : (t : ℕ) → show-extension-lts.Need-returns-2 (show-extension-claims t) (show-extension-at t) show-extension.Post
-show-extension-returns-2 t c = let a = c .before .before .before .before .before .before .before .before .args in let R = c .before .before .before .before .before .before .before .before .pre .1 in let t = a .table .now in let b = a .bytes .now in let I = innerOf t (a .levels) in let ip = ap (λ (n : ℕ). 12 + n) (c .before .before .before .read-u32 .ensures .0) in let z : word 12 b ≡ 0 → ⊥ = λ e. c .before .before .if1 .left (c .before .before .before .read-u32 .ensures .0 ∙ e) in
+show-extension-returns-2 t c = let a = c .before .before .before .before .before .before .before .before .args in let t = a .table .now in let b = a .bytes .now in let I = innerOf t (a .levels) in let ip = ap (λ (n : ℕ). 12 + n) (c .before .before .before .read-u32 .ensures .0) in let z : word 12 b ≡ 0 → ⊥ = λ e. c .before .before .if1 .left (c .before .before .before .read-u32 .ensures .0 ∙ e) in
     shown-opens _ _ _ _ _ _ (extension-empty (schema t) I b z _ _ ip (c .before .read-u322 .ensures .0) (c .if2 .taken)) (shown-none _ _)
 
 show-extension-show-bytes-requires : (t : ℕ) → show-extension-lts.Need-show-bytes-requires (show-extension-claims t) (show-extension-at t) show-extension.Post
@@ -276,30 +322,32 @@ abbrev show-field-claims : ℕ → show-field-lts.Claims
 show-field-claims t = (is-optional-reads.Asked, is-optional-reads.Learnt, show-mark-reads.Asked, show-mark-reads.Learnt, show-value-below t, show-value.Post)
 
 show-field-shared-slice-read-if2 : (t : ℕ) → show-field-lts.Need-shared-slice-read-if2 (show-field-claims t) (show-field-at t) show-field.Post
-show-field-shared-slice-read-if2 t c = let a = c .before .before .before .before .before .before .before .args in let R = c .before .before .before .before .before .before .before .pre .1 in let t = a .table .now in let b = a .bytes .now in let I = innerOf t (a .levels) in let es = enums t in let sw = widthOf t (a .depth) in let S = staticOf t (a .levels) (a .depth) in let f = fieldAt es (drop (a .field) t) in let o = sym (c .before .before .is-optional .ensures es) ∙ c .before .if1 .taken in let w = width-optional sw f o in omega (arith, w, R .3)
+show-field-shared-slice-read-if2 t c = let a = c .before .before .before .before .before .before .before .args in let t = a .table .now in let es = enums t in
+    omega (arith, width-optional (widthOf t (a .depth)) (fieldAt es (drop (a .field) t)) (sym (c .before .before .is-optional .ensures es) ∙ c .before .if1 .taken), c .before .before .before .before .before .before .before .pre .1 .3)
 
 show-field-show-mark-requires : (t : ℕ) → show-field-lts.Need-show-mark-requires (show-field-claims t) (show-field-at t) show-field.Post
-show-field-show-mark-requires t c κs = let a = c .before .before .before .before .before .before .before .before .before .args in let R = c .before .before .before .before .before .before .before .before .before .pre .1 in let t = a .table .now in let b = a .bytes .now in let I = innerOf t (a .levels) in let es = enums t in let sw = widthOf t (a .depth) in let S = staticOf t (a .levels) (a .depth) in let f = fieldAt es (drop (a .field) t) in let o = sym (c .before .before .before .before .is-optional .ensures es) ∙ c .before .before .before .if1 .taken in let w = width-optional sw f o in just-room NO _ _ (fits-opens _ _ _ _ (field-absent I sw S f b (a .at) o (c .before .if2 .taken)) (R .5))
+show-field-show-mark-requires t c κs = let a = c .before .before .before .before .before .before .before .before .before .args in let t = a .table .now in let es = enums t in
+    just-room NO _ _ (fits-opens _ _ _ _ (field-absent (innerOf t (a .levels)) (widthOf t (a .depth)) (staticOf t (a .levels) (a .depth)) (fieldAt es (drop (a .field) t)) (a .bytes .now) (a .at) (sym (c .before .before .before .before .is-optional .ensures es) ∙ c .before .before .before .if1 .taken) (c .before .if2 .taken)) (c .before .before .before .before .before .before .before .before .before .pre .1 .5))
 
 show-field-returns : (t : ℕ) → show-field-lts.Need-returns (show-field-claims t) (show-field-at t) show-field.Post
-show-field-returns t c = let a = c .before .before .before .before .before .before .before .before .before .before .before .before .args in let R = c .before .before .before .before .before .before .before .before .before .before .before .before .pre .1 in let t = a .table .now in let b = a .bytes .now in let I = innerOf t (a .levels) in let es = enums t in let sw = widthOf t (a .depth) in let S = staticOf t (a .levels) (a .depth) in let f = fieldAt es (drop (a .field) t) in let o = sym (c .before .before .before .before .before .before .before .is-optional .ensures es) ∙ c .before .before .before .before .before .before .if1 .taken in let w = width-optional sw f o in
-    shown-opens _ _ _ _ _ _ (field-absent I sw S f b (a .at) o (c .before .before .before .before .if2 .taken)) (shown-just NO 2 _ _ _ _ (c .before .before .show-mark .ensures .0) refl (c .before .before .show-mark .ensures .1))
+show-field-returns t c = let a = c .before .before .before .before .before .before .before .before .before .before .before .before .args in let t = a .table .now in let es = enums t in
+    shown-opens _ _ _ _ _ _ (field-absent (innerOf t (a .levels)) (widthOf t (a .depth)) (staticOf t (a .levels) (a .depth)) (fieldAt es (drop (a .field) t)) (a .bytes .now) (a .at) (sym (c .before .before .before .before .before .before .before .is-optional .ensures es) ∙ c .before .before .before .before .before .before .if1 .taken) (c .before .before .before .before .if2 .taken)) (shown-just NO 2 _ _ _ _ (c .before .before .show-mark .ensures .0) refl (c .before .before .show-mark .ensures .1))
+
+-- where the value stands
+show-field-value : (t : ℕ) (c : show-field-lts.Joined1 (show-field-claims t) (show-field-at t) show-field.Post) → let a = c .before .before .before .before .before .before .args in let t = a .table .now in let b = a .bytes .now in
+    (c .if1 .place + valueWidth (widthOf t (a .depth)) (fieldAt (enums t) (drop (a .field) t)) ≤ length b) × Opens (passage (fieldOf t (a .levels) (a .depth) (a .field)) b (a .at)) (passage (valueOf t (a .levels) (a .depth) (a .field)) b (c .if1 .place))
+show-field-value t c = let a = c .before .before .before .before .before .before .args in let l = c .before .before .before .before .before .before .pre .1 .3 in let t = a .table .now in let b = a .bytes .now in let I = innerOf t (a .levels) in let es = enums t in let sw = widthOf t (a .depth) in let S = staticOf t (a .levels) (a .depth) in let f = fieldAt es (drop (a .field) t) in let o = sym (c .before .is-optional .ensures es) in
+    ⊎-elim
+    (λ w. let e = o ∙ w .0 .taken in rw (w .3) (omega (arith, width-optional sw f e, l), field-present I sw S f b (a .at) e (w .2 .left)))
+    (λ w. let e = o ∙ w .0 .left in rw (w .1) (omega (arith, width-required sw f e, l), field-always I sw S f b (a .at) e))
+    (c .if1 .came)
 
 show-field-show-value-requires : (t : ℕ) → show-field-lts.Need-show-value-requires (show-field-claims t) (show-field-at t) show-field.Post
-show-field-show-value-requires t c κs = let a = c .before .before .before .before .before .before .before .before .before .args in let R = c .before .before .before .before .before .before .before .before .before .pre .1 in let t = a .table .now in let b = a .bytes .now in let I = innerOf t (a .levels) in let es = enums t in let sw = widthOf t (a .depth) in let S = staticOf t (a .levels) (a .depth) in let f = fieldAt es (drop (a .field) t) in let o = sym (c .before .before .before .before .is-optional .ensures es) ∙ c .before .before .before .if1 .taken in let w = width-optional sw f o in
-    (search needs, (R .0, R .1, R .2, omega (arith, w, R .3), R .4, fits-opens _ _ _ _ (field-present I sw S f b (a .at) o (c .before .if2 .left)) (R .5)))
+show-field-show-value-requires t c κs = let R = c .before .before .before .before .before .before .before .pre .1 in let v = show-field-value t (c .before) in
+    (search needs, (R .0, R .1, R .2, v .0, R .4, fits-opens _ _ _ _ (v .1) (R .5)))
 
 show-field-returns-2 : (t : ℕ) → show-field-lts.Need-returns-2 (show-field-claims t) (show-field-at t) show-field.Post
-show-field-returns-2 t c = let a = c .before .before .before .before .before .before .before .before .before .before .before .before .args in let R = c .before .before .before .before .before .before .before .before .before .before .before .before .pre .1 in let t = a .table .now in let b = a .bytes .now in let I = innerOf t (a .levels) in let es = enums t in let sw = widthOf t (a .depth) in let S = staticOf t (a .levels) (a .depth) in let f = fieldAt es (drop (a .field) t) in let o = sym (c .before .before .before .before .before .before .before .is-optional .ensures es) ∙ c .before .before .before .before .before .before .if1 .taken in let w = width-optional sw f o in
-    shown-opens _ _ _ _ _ _ (field-present I sw S f b (a .at) o (c .before .before .before .before .if2 .left)) (c .before .before .show-value .ensures)
-
-show-field-show-value-requires-2 : (t : ℕ) → show-field-lts.Need-show-value-requires-2 (show-field-claims t) (show-field-at t) show-field.Post
-show-field-show-value-requires-2 t c κs = let a = c .before .before .before .before .before .before .before .args in let R = c .before .before .before .before .before .before .before .pre .1 in let t = a .table .now in let b = a .bytes .now in let I = innerOf t (a .levels) in let es = enums t in let sw = widthOf t (a .depth) in let S = staticOf t (a .levels) (a .depth) in let f = fieldAt es (drop (a .field) t) in let o = sym (c .before .before .is-optional .ensures es) ∙ c .before .if1 .left in let w = width-required sw f o in
-    (search needs, (R .0, R .1, R .2, omega (arith, w, R .3), R .4, fits-opens _ _ _ _ (field-always I sw S f b (a .at) o) (R .5)))
-
-show-field-returns-3 : (t : ℕ) → show-field-lts.Need-returns-3 (show-field-claims t) (show-field-at t) show-field.Post
-show-field-returns-3 t c = let a = c .before .before .before .before .before .before .before .before .before .before .args in let R = c .before .before .before .before .before .before .before .before .before .before .pre .1 in let t = a .table .now in let b = a .bytes .now in let I = innerOf t (a .levels) in let es = enums t in let sw = widthOf t (a .depth) in let S = staticOf t (a .levels) (a .depth) in let f = fieldAt es (drop (a .field) t) in let o = sym (c .before .before .before .before .before .is-optional .ensures es) ∙ c .before .before .before .before .if1 .left in let w = width-required sw f o in
-    shown-opens _ _ _ _ _ _ (field-always I sw S f b (a .at) o) (c .before .before .show-value2 .ensures)
+show-field-returns-2 t c = shown-opens _ _ _ _ _ _ (show-field-value t (c .before .before .before .before) .1) (c .before .before .show-value .ensures)
 
 abbrev show-fields-Inv-loop : show-fields-lts.InvT-loop
 show-fields-Inv-loop table index bytes levels depth group at out₀ pos start total deeper i₀ field₀ place₀ next₀ out i field place next =
@@ -315,10 +363,10 @@ abbrev show-fields-claims : ℕ → show-fields-lts.Claims
 show-fields-claims t = (group-place-reads.Asked, group-place-reads.Learnt, field-count-reads.Asked, field-count-reads.Learnt, plain-width-reads.Asked, plain-width-reads.Learnt, show-bytes-reads.Asked, show-bytes-reads.Learnt, field-width-reads.Asked, field-width-reads.Learnt, show-field-below t, show-field.Post)
 
 show-fields-field-count-requires : (t : ℕ) → show-fields-lts.Need-field-count-requires (show-fields-claims t) (show-fields-at t) show-fields.Post show-fields-Inv-loop show-fields-μ-loop
-show-fields-field-count-requires t c κs = let a = c .before .before .before .before .before .args in let R = c .before .before .before .before .before .pre .1 in let t = a .table .now in let b = a .bytes .now in let I = innerOf t (a .levels) in let p = placed-inside _ _ _ (R .0 .placed) _ (R .3) in omega (arith, p, c .group-place .ensures .0)
+show-fields-field-count-requires t c κs = let R = c .before .before .before .before .before .pre .1 in let p = placed-inside _ _ _ (R .0 .placed) _ (R .3) in omega (arith, p, c .group-place .ensures .0)
 
 show-fields-sub-deeper : (t : ℕ) → show-fields-lts.Need-sub-deeper (show-fields-claims t) (show-fields-at t) show-fields.Post show-fields-Inv-loop show-fields-μ-loop
-show-fields-sub-deeper t c = let a = c .before .before .before .before .before .before .args in let R = c .before .before .before .before .before .before .pre .1 in let t = a .table .now in let b = a .bytes .now in let I = innerOf t (a .levels) in omega (arith, shallow-some (schema t) _ _ (R .4))
+show-fields-sub-deeper t c = let a = c .before .before .before .before .before .before .args in let R = c .before .before .before .before .before .before .pre .1 in let t = a .table .now in omega (arith, shallow-some (schema t) _ _ (R .4))
 
 show-fields-loop-holds : (t : ℕ) → show-fields-lts.Need-loop-holds (show-fields-claims t) (show-fields-at t) show-fields.Post show-fields-Inv-loop show-fields-μ-loop
 show-fields-loop-holds t c = let a = c .before .before .before .before .before .before .args in let R = c .before .before .before .before .before .before .pre .1 in let t = a .table .now in let b = a .bytes .now in let I = innerOf t (a .levels) in let P = R .0 in let k = a .index .now in
@@ -334,13 +382,13 @@ show-fields-loop-holds t c = let a = c .before .before .before .before .before .
     )
 
 show-fields-show-bytes-requires : (t : ℕ) → show-fields-lts.Need-show-bytes-requires (show-fields-claims t) (show-fields-at t) show-fields.Post show-fields-Inv-loop show-fields-μ-loop
-show-fields-show-bytes-requires t c κs = let a = c .before .before .before .before .before .before .before .before .before .before .before .args in let R = c .before .before .before .before .before .before .before .before .before .before .before .pre .1 in let t = a .table .now in let b = a .bytes .now in let I = innerOf t (a .levels) in let i = c .before .before .before .before .loop .inv in let l = c .before .before .before .loop-test .taken in let sw = widthOf t (a .depth - 1) in let S = staticOf t (a .levels) (a .depth - 1) in let es = enums t in
+show-fields-show-bytes-requires t c κs = let a = c .before .before .before .before .before .before .before .before .before .before .before .args in let t = a .table .now in let b = a .bytes .now in let I = innerOf t (a .levels) in let i = c .before .before .before .before .loop .inv in let l = c .before .before .before .loop-test .taken in let sw = widthOf t (a .depth - 1) in let S = staticOf t (a .levels) (a .depth - 1) in let es = enums t in
     let f = fields-more es t (c .before .before .before .before .loop .field) (c .before .before .before .before .before .field-count .result) (c .before .before .before .before .loop .i) l in let w = width-cons sw _ _ _ f in
     let e = c .before .before .plain-width .ensures .0 (c .before .if1 .taken) es in let p = plain-wide sw _ _ _ e in let h : c .before .before .before .before .loop .place + c .before .before .plain-width .result ≤ length b = omega (arith, i .3, w, p) in
     (h, bytes-room VA _ _ _ _ b h (fits-opens _ _ _ _ (field-plain I sw S _ b (c .before .before .before .before .loop .place) _ _ e) (field-fits _ _ _ b (c .before .before .before .before .before .field-count .result) (c .before .before .before .before .loop .i) (c .before .before .before .before .loop .place) _ _ I sw S es t (c .before .before .before .before .loop .field) (i .5) l)))
 
 show-fields-loop-again : (t : ℕ) → show-fields-lts.Need-loop-again (show-fields-claims t) (show-fields-at t) show-fields.Post show-fields-Inv-loop show-fields-μ-loop
-show-fields-loop-again t c = let a = c .before .before .before .before .before .before .before .before .before .before .before .before .before .before .args in let R = c .before .before .before .before .before .before .before .before .before .before .before .before .before .before .pre .1 in let t = a .table .now in let b = a .bytes .now in let I = innerOf t (a .levels) in let i = c .before .before .before .before .before .before .before .loop .inv in let l = c .before .before .before .before .before .before .loop-test .taken in let sw = widthOf t (a .depth - 1) in let S = staticOf t (a .levels) (a .depth - 1) in let es = enums t in
+show-fields-loop-again t c = let a = c .before .before .before .before .before .before .before .before .before .before .before .before .before .before .args in let t = a .table .now in let b = a .bytes .now in let I = innerOf t (a .levels) in let i = c .before .before .before .before .before .before .before .loop .inv in let l = c .before .before .before .before .before .before .loop-test .taken in let sw = widthOf t (a .depth - 1) in let S = staticOf t (a .levels) (a .depth - 1) in let es = enums t in
     let f = fields-more es t (c .before .before .before .before .before .before .before .loop .field) (c .before .before .before .before .before .before .before .before .field-count .result) (c .before .before .before .before .before .before .before .loop .i) l in let w = width-cons sw _ _ _ f in
     let e = c .before .before .before .before .before .plain-width .ensures .0 (c .before .before .before .before .if1 .taken) es in let p = plain-wide sw _ _ _ e in let h : c .before .before .before .before .before .before .before .loop .place + c .before .before .before .before .before .plain-width .result ≤ length b = omega (arith, i .3, w, p) in (
       search needs,
@@ -370,55 +418,31 @@ show-fields-loop-again-2 t c = let a = c .before .before .before .before .before
     )
 
 show-fields-returns : (t : ℕ) → show-fields-lts.Need-returns (show-fields-claims t) (show-fields-at t) show-fields.Post show-fields-Inv-loop show-fields-μ-loop
-show-fields-returns t c = let a = c .before .before .before .before .before .before .before .before .args in let R = c .before .before .before .before .before .before .before .before .pre .1 in let t = a .table .now in let b = a .bytes .now in let I = innerOf t (a .levels) in let sw = widthOf t (a .depth - 1) in let S = staticOf t (a .levels) (a .depth - 1) in let es = enums t in
+show-fields-returns t c = let a = c .before .before .before .before .before .before .before .before .args in let t = a .table .now in let b = a .bytes .now in let I = innerOf t (a .levels) in let sw = widthOf t (a .depth - 1) in let S = staticOf t (a .levels) (a .depth - 1) in let es = enums t in
     fields-done _ _ _ b (c .before .before .field-count .result) (c .before .loop .i) (c .before .loop .place) _ _ I sw S es t (c .before .loop .field) (c .before .loop .inv .5) (c .loop-test .left)
 
 abbrev show-group-claims : ℕ → show-group-lts.Claims
-show-group-claims t = (group-total-reads.Asked, group-total-reads.Learnt, read-u64-reads.Asked, read-u64-reads.Learnt, find-reads.Asked, find-reads.Learnt, copy-reads.Asked, copy-reads.Learnt, show-fields-below t, show-fields.Post, show-extension-below t, show-extension.Post, show-mark-reads.Asked, show-mark-reads.Learnt)
+show-group-claims t = (group-total-reads.Asked, group-total-reads.Learnt, read-u64-reads.Asked, read-u64-reads.Learnt, find-reads.Asked, find-reads.Learnt, show-body-below t, show-body.Post)
 
 show-group-read-u64-requires : (t : ℕ) → show-group-lts.Need-read-u64-requires (show-group-claims t) (show-group-at t) show-group.Post
-show-group-read-u64-requires t c κs = let a = c .before .before .before .before .before .args in let R = c .before .before .before .before .before .pre .1 in let t = a .table .now in let b = a .bytes .now in let I = innerOf t (a .levels) in let P = R .0 in let H = head t (a .levels) (R .2 .0) b _ (R .2 .1 .reads) in omega (arith, H .long)
+show-group-read-u64-requires t c κs = let a = c .before .before .before .before .before .args in let R = c .before .before .before .before .before .pre .1 in omega (arith, head (a .table .now) (a .levels) (R .2 .0) (a .bytes .now) _ (R .2 .1 .reads) .long)
 
 show-group-find-requires : (t : ℕ) → show-group-lts.Need-find-requires (show-group-claims t) (show-group-at t) show-group.Post
-show-group-find-requires t c κs = let a = c .before .before .before .before .before .before .args in let R = c .before .before .before .before .before .before .pre .1 in let t = a .table .now in let b = a .bytes .now in let I = innerOf t (a .levels) in let P = R .0 in
+show-group-find-requires t c κs = let P = c .before .before .before .before .before .before .pre .1 .0 in
     (rw (sym (c .before .group-total .ensures .0 ∙ P .total)) at (P .placed), P .long, omega (arith, c .before .group-total .ensures .0, P .total, P .few), P .small)
 
-show-group-sub-deeper : (t : ℕ) → show-group-lts.Need-sub-deeper (show-group-claims t) (show-group-at t) show-group.Post
-show-group-sub-deeper t c = let a = c .before .before .before .before .before .before .before .args in let R = c .before .before .before .before .before .before .before .pre .1 in let t = a .table .now in let b = a .bytes .now in let I = innerOf t (a .levels) in let P = R .0 in let H = head t (a .levels) (R .2 .0) b _ (R .2 .1 .reads) in omega (arith, H .some)
+show-group-sub-show-body : (t : ℕ) → show-group-lts.Need-sub-show-body (show-group-claims t) (show-group-at t) show-group.Post
+show-group-sub-show-body t c = let a = c .before .before .before .before .before .before .before .args in let R = c .before .before .before .before .before .before .before .pre .1 in omega (arith, head (a .table .now) (a .levels) (R .2 .0) (a .bytes .now) _ (R .2 .1 .reads) .some)
 
-show-group-part-copy-end : (t : ℕ) → show-group-lts.Need-part-copy-end (show-group-claims t) (show-group-at t) show-group.Post
-show-group-part-copy-end t c = let a = c .before .before .before .before .before .before .before .before .args in let R = c .before .before .before .before .before .before .before .before .pre .1 in let t = a .table .now in let b = a .bytes .now in let I = innerOf t (a .levels) in let P = R .0 in let H = head t (a .levels) (R .2 .0) b _ (R .2 .1 .reads) in omega (arith, H .long)
-
-show-group-copy-requires : (t : ℕ) → show-group-lts.Need-copy-requires (show-group-claims t) (show-group-at t) show-group.Post
-show-group-copy-requires t c κs = let a = c .before .before .before .before .before .before .before .before .before .args in let R = c .before .before .before .before .before .before .before .before .before .pre .1 in let t = a .table .now in let b = a .bytes .now in let I = innerOf t (a .levels) in let P = R .0 in let H = head t (a .levels) (R .2 .0) b _ (R .2 .1 .reads) in
-    let n = c .before .before .before .before .group-total .ensures .0 ∙ P .total in let g = c .before .before .find .ensures .0 ∙ find-whole (schema t) _ _ n ∙ ap (find (schema t)) (c .before .before .before .read-u64 .ensures) in let L = opened _ _ _ _ _ _ _ (group-opens t (a .levels) (R .2 .0) b _ g) (begun _ _ _ (R .2 .1)) in
-    just-room (part 8 4 b) _ _ (first-fits _ _ _ _ _ _ _ L)
-
-show-group-show-fields-requires : (t : ℕ) → show-group-lts.Need-show-fields-requires (show-group-claims t) (show-group-at t) show-group.Post
-show-group-show-fields-requires t c κs = let a = c .before .before .before .before .before .before .before .before .before .before .before .before .before .args in let R = c .before .before .before .before .before .before .before .before .before .before .before .before .before .pre .1 in let t = a .table .now in let b = a .bytes .now in let I = innerOf t (a .levels) in let P = R .0 in let H = head t (a .levels) (R .2 .0) b _ (R .2 .1 .reads) in
-    let n = c .before .before .before .before .before .before .before .before .group-total .ensures .0 ∙ P .total in let g = c .before .before .before .before .before .before .find .ensures .0 ∙ find-whole (schema t) _ _ n ∙ ap (find (schema t)) (c .before .before .before .before .before .before .before .read-u64 .ensures) in let L = opened _ _ _ _ _ _ _ (group-opens t (a .levels) (R .2 .0) b _ g) (begun _ _ _ (R .2 .1)) in
-    let L1 = called _ _ _ _ _ _ _ L _ _ (shown-just (part 8 4 b) _ _ _ _ _ (c .before .before .before .copy .ensures) refl (ap (λ (n : ℕ). a .pos + n) (sym (length-part 8 4 b (omega (arith, H .long)))))) in let L2 = begun _ _ _ (first-fits _ _ _ _ _ _ _ L1) in
-    (omega (arith, H .some), (P, R .1, rw (sym g) at (H .wide), rw (sym g) at (H .inside), P .shallows _, first-fits _ _ _ _ _ _ _ L2))
-
-show-group-show-extension-requires : (t : ℕ) → show-group-lts.Need-show-extension-requires (show-group-claims t) (show-group-at t) show-group.Post
-show-group-show-extension-requires t c κs = let a = c .before .before .before .before .before .before .before .before .before .before .before .before .before .before .before .before .before .args in let R = c .before .before .before .before .before .before .before .before .before .before .before .before .before .before .before .before .before .pre .1 in let t = a .table .now in let b = a .bytes .now in let I = innerOf t (a .levels) in let P = R .0 in let H = head t (a .levels) (R .2 .0) b _ (R .2 .1 .reads) in
-    let n = c .before .before .before .before .before .before .before .before .before .before .before .before .group-total .ensures .0 ∙ P .total in let g = c .before .before .before .before .before .before .before .before .before .before .find .ensures .0 ∙ find-whole (schema t) _ _ n ∙ ap (find (schema t)) (c .before .before .before .before .before .before .before .before .before .before .before .read-u64 .ensures) in let L = opened _ _ _ _ _ _ _ (group-opens t (a .levels) (R .2 .0) b _ g) (begun _ _ _ (R .2 .1)) in
-    let L1 = called _ _ _ _ _ _ _ L _ _ (shown-just (part 8 4 b) _ _ _ _ _ (c .before .before .before .before .before .before .before .copy .ensures) refl (ap (λ (n : ℕ). a .pos + n) (sym (length-part 8 4 b (omega (arith, H .long)))))) in let L2 = begun _ _ _ (first-fits _ _ _ _ _ _ _ L1) in
-    (omega (arith, H .some), (P, R .1, H .long, called _ _ _ _ _ _ _ L2 _ _ (c .before .before .before .show-fields .ensures) .fits))
-
-show-group-show-mark-requires : (t : ℕ) → show-group-lts.Need-show-mark-requires (show-group-claims t) (show-group-at t) show-group.Post
-show-group-show-mark-requires t c κs = let a = c .before .before .before .before .before .before .before .before .before .before .before .before .before .before .before .before .before .before .before .before .before .args in let R = c .before .before .before .before .before .before .before .before .before .before .before .before .before .before .before .before .before .before .before .before .before .pre .1 in let t = a .table .now in let b = a .bytes .now in let I = innerOf t (a .levels) in let P = R .0 in let H = head t (a .levels) (R .2 .0) b _ (R .2 .1 .reads) in
-    let n = c .before .before .before .before .before .before .before .before .before .before .before .before .before .before .before .before .group-total .ensures .0 ∙ P .total in let g = c .before .before .before .before .before .before .before .before .before .before .before .before .before .before .find .ensures .0 ∙ find-whole (schema t) _ _ n ∙ ap (find (schema t)) (c .before .before .before .before .before .before .before .before .before .before .before .before .before .before .before .read-u64 .ensures) in let L = opened _ _ _ _ _ _ _ (group-opens t (a .levels) (R .2 .0) b _ g) (begun _ _ _ (R .2 .1)) in
-    let L1 = called _ _ _ _ _ _ _ L _ _ (shown-just (part 8 4 b) _ _ _ _ _ (c .before .before .before .before .before .before .before .before .before .before .before .copy .ensures) refl (ap (λ (n : ℕ). a .pos + n) (sym (length-part 8 4 b (omega (arith, H .long)))))) in let L2 = begun _ _ _ (first-fits _ _ _ _ _ _ _ L1) in
-    let v = called _ _ _ _ _ _ _ L2 _ _ (c .before .before .before .before .before .before .before .show-fields .ensures) .whole _ _ (c .before .before .before .show-extension .ensures) in
-    just-room GE _ _ (called _ _ _ _ _ _ _ L1 _ _ v .fits)
+show-group-show-body-requires : (t : ℕ) → show-group-lts.Need-show-body-requires (show-group-claims t) (show-group-at t) show-group.Post
+show-group-show-body-requires t c κs = let a = c .before .before .before .before .before .before .before .before .args in let R = c .before .before .before .before .before .before .before .before .pre .1 in let t = a .table .now in let b = a .bytes .now in let H = head t (a .levels) (R .2 .0) b _ (R .2 .1 .reads) in
+    let g = c .before .find .ensures .0 ∙ find-whole (schema t) _ _ (c .before .before .before .group-total .ensures .0 ∙ c .before .before .before .before .before .before .before .before .pre .1 .0 .total) ∙ ap (find (schema t)) (c .before .before .read-u64 .ensures) in
+    (omega (arith, H .some), (R .0, R .1, rw (sym g) at (H .inside), fits-opens _ _ _ _ (group-opens t (a .levels) (R .2 .0) b _ g) (R .2 .1)))
 
 show-group-returns : (t : ℕ) → show-group-lts.Need-returns (show-group-claims t) (show-group-at t) show-group.Post
-show-group-returns t c = let a = c .before .before .before .before .before .before .before .before .before .before .before .before .before .before .before .before .before .before .before .before .before .before .before .before .args in let R = c .before .before .before .before .before .before .before .before .before .before .before .before .before .before .before .before .before .before .before .before .before .before .before .before .pre .1 in let t = a .table .now in let b = a .bytes .now in let I = innerOf t (a .levels) in let P = R .0 in let H = head t (a .levels) (R .2 .0) b _ (R .2 .1 .reads) in
-    let n = c .before .before .before .before .before .before .before .before .before .before .before .before .before .before .before .before .before .before .before .group-total .ensures .0 ∙ P .total in let g = c .before .before .before .before .before .before .before .before .before .before .before .before .before .before .before .before .before .find .ensures .0 ∙ find-whole (schema t) _ _ n ∙ ap (find (schema t)) (c .before .before .before .before .before .before .before .before .before .before .before .before .before .before .before .before .before .before .read-u64 .ensures) in
-    let v = shown-then _ _ _ _ _ _ _ _ (c .before .before .before .before .before .before .before .before .before .before .show-fields .ensures) (c .before .before .before .before .before .before .show-extension .ensures) in
-    let w = shown-then _ _ _ _ _ _ _ _ v (shown-just GE 2 _ _ _ _ (c .before .before .show-mark .ensures .0) refl (c .before .before .show-mark .ensures .1)) in
-    λ allowed. shown-opens _ _ _ _ _ _ (group-opens t (a .levels) allowed b _ g) (shown-then _ _ _ _ _ _ _ _ (shown-just (part 8 4 b) _ _ _ _ _ (c .before .before .before .before .before .before .before .before .before .before .before .before .before .before .copy .ensures) refl (ap (λ (n : ℕ). a .pos + n) (sym (length-part 8 4 b (omega (arith, H .long)))))) w)
+show-group-returns t c = let a = c .before .before .before .before .before .before .before .before .before .before .before .args in let t = a .table .now in
+    let g = c .before .before .before .before .find .ensures .0 ∙ find-whole (schema t) _ _ (c .before .before .before .before .before .before .group-total .ensures .0 ∙ c .before .before .before .before .before .before .before .before .before .before .before .pre .1 .0 .total) ∙ ap (find (schema t)) (c .before .before .before .before .before .read-u64 .ensures) in
+    λ allowed. shown-opens _ _ _ _ _ _ (group-opens t (a .levels) allowed (a .bytes .now) _ g) (c .before .before .show-body .ensures)
 
 abbrev show-groups-Inv-loop : show-groups-lts.InvT-loop
 show-groups-Inv-loop table index bytes levels total at out₀ pos i₀ place₀ next₀ out i place next =
@@ -432,14 +456,14 @@ abbrev show-groups-claims : ℕ → show-groups-lts.Claims
 show-groups-claims t = (show-extending-below t, show-extending.Post)
 
 show-groups-loop-holds : (t : ℕ) → show-groups-lts.Need-loop-holds (show-groups-claims t) (show-groups-at t) show-groups.Post show-groups-Inv-loop show-groups-μ-loop
-show-groups-loop-holds t c = let a = c .before .before .before .before .args in let R = c .before .before .before .before .pre .1 in let t = a .table .now in let b = a .bytes .now in let I = innerOf t (a .levels) in (search needs, search needs, rw (sub-zero (a .total)) (R .2), rw (sub-zero (a .total)) (begun _ _ _ (R .3)))
+show-groups-loop-holds t c = let a = c .before .before .before .before .args in let R = c .before .before .before .before .pre .1 in (search needs, search needs, rw (sub-zero (a .total)) (R .2), rw (sub-zero (a .total)) (begun _ _ _ (R .3)))
 
 show-groups-show-extending-requires : (t : ℕ) → show-groups-lts.Need-show-extending-requires (show-groups-claims t) (show-groups-at t) show-groups.Post show-groups-Inv-loop show-groups-μ-loop
-show-groups-show-extending-requires t c κs = let a = c .before .before .before .before .before .before .before .args in let R = c .before .before .before .before .before .before .before .pre .1 in let t = a .table .now in let b = a .bytes .now in let I = innerOf t (a .levels) in let i = c .before .before .loop .inv in let l = c .before .loop-test .taken in
+show-groups-show-extending-requires t c κs = let a = c .before .before .before .before .before .before .before .args in let R = c .before .before .before .before .before .before .before .pre .1 in let i = c .before .before .loop .inv in let l = c .before .loop-test .taken in
     (search needs, (R .0, R .1, omega (arith, items-left (a .total) (c .before .before .loop .i) 4 l, i .2), item-fits _ _ _ _ _ _ _ _ _ _ _ (i .3) l))
 
 show-groups-loop-again : (t : ℕ) → show-groups-lts.Need-loop-again (show-groups-claims t) (show-groups-at t) show-groups.Post show-groups-Inv-loop show-groups-μ-loop
-show-groups-loop-again t c = let a = c .before .before .before .before .before .before .before .before .before .before .args in let R = c .before .before .before .before .before .before .before .before .before .before .pre .1 in let t = a .table .now in let b = a .bytes .now in let I = innerOf t (a .levels) in let i = c .before .before .before .before .before .loop .inv in let l = c .before .before .before .before .loop-test .taken in
+show-groups-loop-again t c = let a = c .before .before .before .before .before .before .before .before .before .before .args in let i = c .before .before .before .before .before .loop .inv in let l = c .before .before .before .before .loop-test .taken in
     (search needs, search needs, omega (arith, items-left (a .total) (c .before .before .before .before .before .loop .i) 4 l, i .2), items-next _ _ _ _ _ _ _ _ _ _ _ (i .3) _ _ l (c .before .before .show-extending .ensures))
 
 show-groups-returns : (t : ℕ) → show-groups-lts.Need-returns (show-groups-claims t) (show-groups-at t) show-groups.Post show-groups-Inv-loop show-groups-μ-loop
@@ -462,19 +486,19 @@ show-item-show-inline-requires t c κs = let a = c .before .before .before .befo
     (h, rw (inline-length (byte (a .at) b) (a .at) b h) at (just-room _ _ _ (fits-opens _ _ _ _ (λ s r. marked-inline ST b (a .at) _ _ s (o s r)) (R .4))))
 
 show-item-read-u32-requires : (t : ℕ) → show-item-lts.Need-read-u32-requires (show-item-claims t) (show-item-at t) show-item.Post
-show-item-read-u32-requires t c κs = let a = c .before .before .before .before .before .before .before .args in let R = c .before .before .before .before .before .before .before .pre .1 in let t = a .table .now in let b = a .bytes .now in let I = innerOf t (a .levels) in let es = enums t in let sw = widthOf t (a .depth) in let S = staticOf t (a .levels) (a .depth) in omega (arith, wide-indirect sw es (a .kind) _ (c .before .kind4 .given .1), R .2)
+show-item-read-u32-requires t c κs = let a = c .before .before .before .before .before .before .before .args in let R = c .before .before .before .before .before .before .before .pre .1 in let t = a .table .now in let es = enums t in let sw = widthOf t (a .depth) in omega (arith, wide-indirect sw es (a .kind) _ (c .before .kind4 .given .1), R .2)
 
 show-item-read-u32-requires-2 : (t : ℕ) → show-item-lts.Need-read-u32-requires-2 (show-item-claims t) (show-item-at t) show-item.Post
-show-item-read-u32-requires-2 t c κs = let a = c .before .before .before .before .before .before .before .before .args in let R = c .before .before .before .before .before .before .before .before .pre .1 in let t = a .table .now in let b = a .bytes .now in let I = innerOf t (a .levels) in let es = enums t in let sw = widthOf t (a .depth) in let S = staticOf t (a .levels) (a .depth) in let e = c .before .before .kind4 .given .1 in let ip = ap (λ (n : ℕ). a .at + n) (c .read-u32 .ensures .0) in
+show-item-read-u32-requires-2 t c κs = let a = c .before .before .before .before .before .before .before .before .args in let R = c .before .before .before .before .before .before .before .before .pre .1 in let t = a .table .now in let b = a .bytes .now in let I = innerOf t (a .levels) in let es = enums t in let S = staticOf t (a .levels) (a .depth) in let e = c .before .before .kind4 .given .1 in let ip = ap (λ (n : ℕ). a .at + n) (c .read-u32 .ensures .0) in
     omega (arith, text-inside I S es b (a .at) (a .kind) _ _ ip refl _ e _ (R .4 .reads))
 
 show-item-show-bytes-requires-3 : (t : ℕ) → show-item-lts.Need-show-bytes-requires-3 (show-item-claims t) (show-item-at t) show-item.Post
-show-item-show-bytes-requires-3 t c κs = let a = c .before .before .before .before .before .before .before .before .before .before .args in let R = c .before .before .before .before .before .before .before .before .before .before .pre .1 in let t = a .table .now in let b = a .bytes .now in let I = innerOf t (a .levels) in let es = enums t in let sw = widthOf t (a .depth) in let S = staticOf t (a .levels) (a .depth) in let e = c .before .before .before .before .kind4 .given .1 in let ip = ap (λ (n : ℕ). a .at + n) (c .before .before .read-u32 .ensures .0) in
+show-item-show-bytes-requires-3 t c κs = let a = c .before .before .before .before .before .before .before .before .before .before .args in let R = c .before .before .before .before .before .before .before .before .before .before .pre .1 in let t = a .table .now in let b = a .bytes .now in let I = innerOf t (a .levels) in let es = enums t in let S = staticOf t (a .levels) (a .depth) in let e = c .before .before .before .before .kind4 .given .1 in let ip = ap (λ (n : ℕ). a .at + n) (c .before .before .read-u32 .ensures .0) in
     let n = c .before .read-u322 .ensures .0 in let h = text-inside I S es b (a .at) (a .kind) _ _ ip n _ e _ (R .4 .reads) in
     (h, bytes-room ST _ _ _ _ b h (fits-opens _ _ _ _ (item-text I S es b (a .at) (a .kind) _ _ ip n _ e) (R .4)))
 
 show-item-show-mark-requires : (t : ℕ) → show-item-lts.Need-show-mark-requires (show-item-claims t) (show-item-at t) show-item.Post
-show-item-show-mark-requires t c κs = let a = c .before .before .before .before .before .before .before .before .args in let R = c .before .before .before .before .before .before .before .before .pre .1 in let t = a .table .now in let b = a .bytes .now in let I = innerOf t (a .levels) in let es = enums t in let sw = widthOf t (a .depth) in let S = staticOf t (a .levels) (a .depth) in let e = c .before .before .kind5 .given .1 in let L = opened _ _ _ _ _ _ _ (item-static I S es b (a .at) (a .kind) _ e) (begun _ _ _ (R .4)) in mark-room SG _ _ (first-fits _ _ _ _ _ _ _ L)
+show-item-show-mark-requires t c κs = let a = c .before .before .before .before .before .before .before .before .args in let R = c .before .before .before .before .before .before .before .before .pre .1 in let t = a .table .now in let b = a .bytes .now in let I = innerOf t (a .levels) in let es = enums t in let S = staticOf t (a .levels) (a .depth) in let e = c .before .before .kind5 .given .1 in let L = opened _ _ _ _ _ _ _ (item-static I S es b (a .at) (a .kind) _ e) (begun _ _ _ (R .4)) in mark-room SG _ _ (first-fits _ _ _ _ _ _ _ L)
 
 show-item-show-fields-requires : (t : ℕ) → show-item-lts.Need-show-fields-requires (show-item-claims t) (show-item-at t) show-item.Post
 show-item-show-fields-requires t c κs = let a = c .before .before .before .before .before .before .before .before .before .before .before .before .args in let R = c .before .before .before .before .before .before .before .before .before .before .before .before .pre .1 in let t = a .table .now in let b = a .bytes .now in let I = innerOf t (a .levels) in let es = enums t in let sw = widthOf t (a .depth) in let S = staticOf t (a .levels) (a .depth) in let e = c .before .before .before .before .before .before .kind5 .given .1 in let L = opened _ _ _ _ _ _ _ (item-static I S es b (a .at) (a .kind) _ e) (begun _ _ _ (R .4)) in
@@ -483,10 +507,10 @@ show-item-show-fields-requires t c κs = let a = c .before .before .before .befo
     (search needs, (R .0, R .1, omega (arith, w, R .2), static-inside (schema t) (a .depth) _ (q .0), q .1, called _ _ _ _ _ _ _ L _ _ (shown-mark SG _ is-SG _ _ _ _ (c .before .before .before .show-mark .ensures .0) (c .before .before .before .show-mark .ensures .1)) .fits))
 
 show-item-read-u32-requires-3 : (t : ℕ) → show-item-lts.Need-read-u32-requires-3 (show-item-claims t) (show-item-at t) show-item.Post
-show-item-read-u32-requires-3 t c κs = let a = c .before .before .before .before .before .before .before .args in let R = c .before .before .before .before .before .before .before .pre .1 in let t = a .table .now in let b = a .bytes .now in let I = innerOf t (a .levels) in let es = enums t in let sw = widthOf t (a .depth) in let S = staticOf t (a .levels) (a .depth) in omega (arith, wide-dynamic sw es (a .kind) _ (c .before .kind6 .given .1), R .2)
+show-item-read-u32-requires-3 t c κs = let a = c .before .before .before .before .before .before .before .args in let R = c .before .before .before .before .before .before .before .pre .1 in let t = a .table .now in let es = enums t in let sw = widthOf t (a .depth) in omega (arith, wide-dynamic sw es (a .kind) _ (c .before .kind6 .given .1), R .2)
 
 show-item-show-nested-requires : (t : ℕ) → show-item-lts.Need-show-nested-requires (show-item-claims t) (show-item-at t) show-item.Post
-show-item-show-nested-requires t c κs = let a = c .before .before .before .before .before .before .before .before .before .args in let R = c .before .before .before .before .before .before .before .before .before .pre .1 in let t = a .table .now in let b = a .bytes .now in let I = innerOf t (a .levels) in let es = enums t in let sw = widthOf t (a .depth) in let S = staticOf t (a .levels) (a .depth) in let e = c .before .before .before .kind6 .given .1 in let ip = ap (λ (n : ℕ). a .at + n) (c .before .read-u323 .ensures .0) in
+show-item-show-nested-requires t c κs = let a = c .before .before .before .before .before .before .before .before .before .args in let R = c .before .before .before .before .before .before .before .before .before .pre .1 in let t = a .table .now in let b = a .bytes .now in let I = innerOf t (a .levels) in let es = enums t in let S = staticOf t (a .levels) (a .depth) in let e = c .before .before .before .kind6 .given .1 in let ip = ap (λ (n : ℕ). a .at + n) (c .before .read-u323 .ensures .0) in
     (search needs, (R .0, R .1, group-inside I S es b (a .at) (a .kind) _ _ ip refl _ e _ (R .4 .reads), (_, fits-opens _ _ _ _ (item-group I S es b (a .at) (a .kind) _ _ ip refl _ e) (R .4))))
 
 show-item-returns : (t : ℕ) → show-item-lts.Need-returns (show-item-claims t) (show-item-at t) show-item.Post
@@ -503,15 +527,15 @@ show-item-returns-3 t c = let a = c .before .before .before .before .before .bef
     shown-opens _ _ _ _ _ _ (λ s r. marked-inline ST b (a .at) _ _ s (o s r)) (shown-just _ _ _ _ _ _ (c .before .before .show-inline .ensures .0) (inline-length (byte (a .at) b) (a .at) b h) (c .before .before .show-inline .ensures .1))
 
 show-item-returns-4 : (t : ℕ) → show-item-lts.Need-returns-4 (show-item-claims t) (show-item-at t) show-item.Post
-show-item-returns-4 t c = let a = c .before .before .before .before .before .before .before .before .before .before .before .before .before .args in let R = c .before .before .before .before .before .before .before .before .before .before .before .before .before .pre .1 in let t = a .table .now in let b = a .bytes .now in let I = innerOf t (a .levels) in let es = enums t in let sw = widthOf t (a .depth) in let S = staticOf t (a .levels) (a .depth) in let e = c .before .before .before .before .before .before .before .kind4 .given .1 in let ip = ap (λ (n : ℕ). a .at + n) (c .before .before .before .before .before .read-u32 .ensures .0) in
+show-item-returns-4 t c = let a = c .before .before .before .before .before .before .before .before .before .before .before .before .before .args in let R = c .before .before .before .before .before .before .before .before .before .before .before .before .before .pre .1 in let t = a .table .now in let b = a .bytes .now in let I = innerOf t (a .levels) in let es = enums t in let S = staticOf t (a .levels) (a .depth) in let e = c .before .before .before .before .before .before .before .kind4 .given .1 in let ip = ap (λ (n : ℕ). a .at + n) (c .before .before .before .before .before .read-u32 .ensures .0) in
     let n = c .before .before .before .before .read-u322 .ensures .0 in let h = text-inside I S es b (a .at) (a .kind) _ _ ip n _ e _ (R .4 .reads) in
     shown-opens _ _ _ _ _ _ (item-text I S es b (a .at) (a .kind) _ _ ip n _ e) (shown-bytes ST _ is-ST _ _ _ _ _ _ b h (c .before .before .show-bytes3 .ensures .0) (c .before .before .show-bytes3 .ensures .1))
 
 show-item-returns-5 : (t : ℕ) → show-item-lts.Need-returns-5 (show-item-claims t) (show-item-at t) show-item.Post
-show-item-returns-5 t c = let a = c .before .before .before .before .before .before .before .before .before .before .before .before .before .before .before .args in let R = c .before .before .before .before .before .before .before .before .before .before .before .before .before .before .before .pre .1 in let t = a .table .now in let b = a .bytes .now in let I = innerOf t (a .levels) in let es = enums t in let sw = widthOf t (a .depth) in let S = staticOf t (a .levels) (a .depth) in let e = c .before .before .before .before .before .before .before .before .before .kind5 .given .1 in let L = opened _ _ _ _ _ _ _ (item-static I S es b (a .at) (a .kind) _ e) (begun _ _ _ (R .4)) in called _ _ _ _ _ _ _ L _ _ (shown-mark SG _ is-SG _ _ _ _ (c .before .before .before .before .before .before .show-mark .ensures .0) (c .before .before .before .before .before .before .show-mark .ensures .1)) .whole _ _ (c .before .before .show-fields .ensures)
+show-item-returns-5 t c = let a = c .before .before .before .before .before .before .before .before .before .before .before .before .before .before .before .args in let R = c .before .before .before .before .before .before .before .before .before .before .before .before .before .before .before .pre .1 in let t = a .table .now in let b = a .bytes .now in let I = innerOf t (a .levels) in let es = enums t in let S = staticOf t (a .levels) (a .depth) in let e = c .before .before .before .before .before .before .before .before .before .kind5 .given .1 in let L = opened _ _ _ _ _ _ _ (item-static I S es b (a .at) (a .kind) _ e) (begun _ _ _ (R .4)) in called _ _ _ _ _ _ _ L _ _ (shown-mark SG _ is-SG _ _ _ _ (c .before .before .before .before .before .before .show-mark .ensures .0) (c .before .before .before .before .before .before .show-mark .ensures .1)) .whole _ _ (c .before .before .show-fields .ensures)
 
 show-item-returns-6 : (t : ℕ) → show-item-lts.Need-returns-6 (show-item-claims t) (show-item-at t) show-item.Post
-show-item-returns-6 t c = let a = c .before .before .before .before .before .before .before .before .before .before .before .before .args in let R = c .before .before .before .before .before .before .before .before .before .before .before .before .pre .1 in let t = a .table .now in let b = a .bytes .now in let I = innerOf t (a .levels) in let es = enums t in let sw = widthOf t (a .depth) in let S = staticOf t (a .levels) (a .depth) in let e = c .before .before .before .before .before .before .kind6 .given .1 in let ip = ap (λ (n : ℕ). a .at + n) (c .before .before .before .before .read-u323 .ensures .0) in
+show-item-returns-6 t c = let a = c .before .before .before .before .before .before .before .before .before .before .before .before .args in let t = a .table .now in let b = a .bytes .now in let I = innerOf t (a .levels) in let es = enums t in let S = staticOf t (a .levels) (a .depth) in let e = c .before .before .before .before .before .before .kind6 .given .1 in let ip = ap (λ (n : ℕ). a .at + n) (c .before .before .before .before .read-u323 .ensures .0) in
     shown-opens _ _ _ _ _ _ (item-group I S es b (a .at) (a .kind) _ _ ip refl _ e) (c .before .before .show-nested .ensures _)
 
 abbrev show-items-Inv-loop : show-items-lts.InvT-loop
@@ -534,17 +558,17 @@ show-items-returns t c = let a = c .before .before .before .before .before .befo
     shown-opens _ _ _ _ _ _ (items-plain I S es b (a .at) (a .kind) sw _ _ _ e (R .3)) (c .before .before .show-plain .ensures)
 
 show-items-loop-holds : (t : ℕ) → show-items-lts.Need-loop-holds (show-items-claims t) (show-items-at t) show-items.Post show-items-Inv-loop show-items-μ-loop
-show-items-loop-holds t c = let a = c .before .before .before .before .before .args in let R = c .before .before .before .before .before .pre .1 in let t = a .table .now in let b = a .bytes .now in let I = innerOf t (a .levels) in (search needs, search needs, rw (sub-zero (a .total)) (R .2), rw (sub-zero (a .total)) (begun _ _ _ (R .5)))
+show-items-loop-holds t c = let a = c .before .before .before .before .before .args in let R = c .before .before .before .before .before .pre .1 in (search needs, search needs, rw (sub-zero (a .total)) (R .2), rw (sub-zero (a .total)) (begun _ _ _ (R .5)))
 
 show-items-show-item-requires : (t : ℕ) → show-items-lts.Need-show-item-requires (show-items-claims t) (show-items-at t) show-items.Post show-items-Inv-loop show-items-μ-loop
-show-items-show-item-requires t c κs = let a = c .before .before .before .before .before .before .before .before .args in let R = c .before .before .before .before .before .before .before .before .pre .1 in let t = a .table .now in let b = a .bytes .now in let I = innerOf t (a .levels) in let i = c .before .before .loop .inv in let l = c .before .loop-test .taken in
+show-items-show-item-requires t c κs = let a = c .before .before .before .before .before .before .before .before .args in let R = c .before .before .before .before .before .before .before .before .pre .1 in let i = c .before .before .loop .inv in let l = c .before .loop-test .taken in
     (search needs, (R .0, R .1, omega (arith, items-left (a .total) (c .before .before .loop .i) (a .width) l, i .2, R .3), R .4, item-fits _ _ _ _ _ _ _ _ _ _ _ (i .3) l))
 
 show-items-add-place : (t : ℕ) → show-items-lts.Need-add-place (show-items-claims t) (show-items-at t) show-items.Post show-items-Inv-loop show-items-μ-loop
-show-items-add-place t c = let a = c .before .before .before .before .before .before .before .before .before .before .before .args in let R = c .before .before .before .before .before .before .before .before .before .before .before .pre .1 in let t = a .table .now in let b = a .bytes .now in let I = innerOf t (a .levels) in let i = c .before .before .before .before .before .loop .inv in omega (arith, items-left (a .total) (c .before .before .before .before .before .loop .i) (a .width) (c .before .before .before .before .loop-test .taken), i .2, R .1)
+show-items-add-place t c = let a = c .before .before .before .before .before .before .before .before .before .before .before .args in let R = c .before .before .before .before .before .before .before .before .before .before .before .pre .1 in let i = c .before .before .before .before .before .loop .inv in omega (arith, items-left (a .total) (c .before .before .before .before .before .loop .i) (a .width) (c .before .before .before .before .loop-test .taken), i .2, R .1)
 
 show-items-loop-again : (t : ℕ) → show-items-lts.Need-loop-again (show-items-claims t) (show-items-at t) show-items.Post show-items-Inv-loop show-items-μ-loop
-show-items-loop-again t c = let a = c .before .before .before .before .before .before .before .before .before .before .before .args in let R = c .before .before .before .before .before .before .before .before .before .before .before .pre .1 in let t = a .table .now in let b = a .bytes .now in let I = innerOf t (a .levels) in let i = c .before .before .before .before .before .loop .inv in let l = c .before .before .before .before .loop-test .taken in
+show-items-loop-again t c = let a = c .before .before .before .before .before .before .before .before .before .before .before .args in let i = c .before .before .before .before .before .loop .inv in let l = c .before .before .before .before .loop-test .taken in
     (search needs, search needs, omega (arith, items-left (a .total) (c .before .before .before .before .before .loop .i) (a .width) l, i .2), items-next _ _ _ _ _ _ _ _ _ _ _ (i .3) _ _ l (c .before .before .show-item .ensures))
 
 show-items-returns-2 : (t : ℕ) → show-items-lts.Need-returns-2 (show-items-claims t) (show-items-at t) show-items.Post show-items-Inv-loop show-items-μ-loop
@@ -554,60 +578,62 @@ abbrev show-nested-claims : ℕ → show-nested-lts.Claims
 show-nested-claims t = (read-u32-reads.Asked, read-u32-reads.Learnt, show-mark-reads.Asked, show-mark-reads.Learnt, show-group-below t, show-group.Post)
 
 show-nested-show-mark-requires : (t : ℕ) → show-nested-lts.Need-show-mark-requires (show-nested-claims t) (show-nested-at t) show-nested.Post
-show-nested-show-mark-requires t c κs = let a = c .before .before .before .before .before .before .args in let R = c .before .before .before .before .before .before .pre .1 in let t = a .table .now in let b = a .bytes .now in let I = innerOf t (a .levels) in let L = opened _ _ _ _ _ _ _ (marked-inner GB b (a .place) t (a .levels) (R .3 .0) _) (begun _ _ _ (R .3 .1)) in mark-room GB _ _ (first-fits _ _ _ _ _ _ _ L)
+show-nested-show-mark-requires t c κs = let a = c .before .before .before .before .before .before .args in let R = c .before .before .before .before .before .before .pre .1 in let t = a .table .now in let b = a .bytes .now in let L = opened _ _ _ _ _ _ _ (marked-inner GB b (a .place) t (a .levels) (R .3 .0) _) (begun _ _ _ (R .3 .1)) in mark-room GB _ _ (first-fits _ _ _ _ _ _ _ L)
 
 show-nested-show-group-requires : (t : ℕ) → show-nested-lts.Need-show-group-requires (show-nested-claims t) (show-nested-at t) show-nested.Post
-show-nested-show-group-requires t c κs = let a = c .before .before .before .before .before .before .before .before .before .before .before .args in let R = c .before .before .before .before .before .before .before .before .before .before .before .pre .1 in let t = a .table .now in let b = a .bytes .now in let I = innerOf t (a .levels) in let L = opened _ _ _ _ _ _ _ (marked-inner GB b (a .place) t (a .levels) (R .3 .0) _) (begun _ _ _ (R .3 .1)) in let m : a .place + (4 + c .before .before .before .before .before .before .read-u32 .result) - a .place ≡ 4 + word (a .place) b = add-sub-cancel-left (a .place) _ ∙ ap (λ (n : ℕ). 4 + n) (c .before .before .before .before .before .before .read-u32 .ensures .0) in
+show-nested-show-group-requires t c κs = let a = c .before .before .before .before .before .before .before .before .before .before .before .args in let R = c .before .before .before .before .before .before .before .before .before .before .before .pre .1 in let t = a .table .now in let b = a .bytes .now in let L = opened _ _ _ _ _ _ _ (marked-inner GB b (a .place) t (a .levels) (R .3 .0) _) (begun _ _ _ (R .3 .1)) in let m : a .place + (4 + c .before .before .before .before .before .before .read-u32 .result) - a .place ≡ 4 + word (a .place) b = add-sub-cancel-left (a .place) _ ∙ ap (λ (n : ℕ). 4 + n) (c .before .before .before .before .before .before .read-u32 .ensures .0) in
     (search needs, (R .0, search needs, (R .3 .0, rw m (called _ _ _ _ _ _ _ L _ _ (shown-mark GB _ is-GB _ _ _ _ (c .before .before .before .before .show-mark .ensures .0) (c .before .before .before .before .show-mark .ensures .1)) .fits))))
 
 show-nested-returns : (t : ℕ) → show-nested-lts.Need-returns (show-nested-claims t) (show-nested-at t) show-nested.Post
-show-nested-returns t c = let a = c .before .before .before .before .before .before .before .before .before .before .before .before .before .before .args in let R = c .before .before .before .before .before .before .before .before .before .before .before .before .before .before .pre .1 in let t = a .table .now in let b = a .bytes .now in let I = innerOf t (a .levels) in let m : a .place + (4 + c .before .before .before .before .before .before .before .before .before .read-u32 .result) - a .place ≡ 4 + word (a .place) b = add-sub-cancel-left (a .place) _ ∙ ap (λ (n : ℕ). 4 + n) (c .before .before .before .before .before .before .before .before .before .read-u32 .ensures .0) in
+show-nested-returns t c = let a = c .before .before .before .before .before .before .before .before .before .before .before .before .before .before .args in let t = a .table .now in let b = a .bytes .now in let m : a .place + (4 + c .before .before .before .before .before .before .before .before .before .read-u32 .result) - a .place ≡ 4 + word (a .place) b = add-sub-cancel-left (a .place) _ ∙ ap (λ (n : ℕ). 4 + n) (c .before .before .before .before .before .before .before .before .before .read-u32 .ensures .0) in
     λ allowed. shown-opens _ _ _ _ _ _ (marked-inner GB b (a .place) t (a .levels) allowed _) (shown-then _ _ _ _ _ _ _ _ (shown-mark GB _ is-GB _ _ _ _ (c .before .before .before .before .before .before .before .show-mark .ensures .0) (c .before .before .before .before .before .before .before .show-mark .ensures .1)) (rw m at (c .before .before .show-group .ensures allowed)))
 
 abbrev show-value-claims : ℕ → show-value-lts.Claims
-show-value-claims t = (kind-at-reads.Asked, kind-at-reads.Learnt, is-sequence-reads.Asked, is-sequence-reads.Learnt, kind-width-reads.Asked, kind-width-reads.Learnt, read-u32-reads.Asked, read-u32-reads.Learnt, show-bytes-reads.Asked, show-bytes-reads.Learnt, show-items-below t, show-items.Post, show-item-below t, show-item.Post)
+show-value-claims t = (kind-at-reads.Asked, kind-at-reads.Learnt, kind-width-reads.Asked, kind-width-reads.Learnt, is-sequence-reads.Asked, is-sequence-reads.Learnt, read-u32-reads.Asked, read-u32-reads.Learnt, show-bytes-reads.Asked, show-bytes-reads.Learnt, show-items-below t, show-items.Post)
 
 show-value-read-u32-requires : (t : ℕ) → show-value-lts.Need-read-u32-requires (show-value-claims t) (show-value-at t) show-value.Post
-show-value-read-u32-requires t c κs = let a = c .before .before .before .before .before .before .before .before .args in let R = c .before .before .before .before .before .before .before .before .pre .1 in let t = a .table .now in let b = a .bytes .now in let I = innerOf t (a .levels) in let es = enums t in let sw = widthOf t (a .depth) in let S = staticOf t (a .levels) (a .depth) in let f = fieldAt es (drop (a .field) t) in let k = c .before .before .before .kind-at .ensures es in let o = sym (c .before .before .is-sequence .ensures es) ∙ c .before .if1 .taken in omega (arith, width-sequence sw f o, R .3)
+show-value-read-u32-requires t c κs = let a = c .before .before .before .before .before .before .before .before .args in let t = a .table .now in let es = enums t in
+    omega (arith, width-sequence (widthOf t (a .depth)) (fieldAt es (drop (a .field) t)) (sym (c .before .is-sequence .ensures es) ∙ c .if1 .taken), c .before .before .before .before .before .before .before .before .pre .1 .3)
 
 show-value-read-u32-requires-2 : (t : ℕ) → show-value-lts.Need-read-u32-requires-2 (show-value-claims t) (show-value-at t) show-value.Post
-show-value-read-u32-requires-2 t c κs = let a = c .before .before .before .before .before .before .before .before .before .args in let R = c .before .before .before .before .before .before .before .before .before .pre .1 in let t = a .table .now in let b = a .bytes .now in let I = innerOf t (a .levels) in let es = enums t in let sw = widthOf t (a .depth) in let S = staticOf t (a .levels) (a .depth) in let f = fieldAt es (drop (a .field) t) in let k = c .before .before .before .before .kind-at .ensures es in let o = sym (c .before .before .before .is-sequence .ensures es) ∙ c .before .before .if1 .taken in let d = rw (sym k) at (R .4) in
-    let iw = c .before .kind-width .ensures .0 es ∙ wide-kind t (a .index .now) (R .0) (a .depth) _ d in let ip = ap (λ (n : ℕ). a .at + n) (c .read-u32 .ensures .0) in
+show-value-read-u32-requires-2 t c κs = let a = c .before .before .before .before .before .before .before .before .before .args in let R = c .before .before .before .before .before .before .before .before .before .pre .1 in let t = a .table .now in let b = a .bytes .now in let I = innerOf t (a .levels) in let es = enums t in let sw = widthOf t (a .depth) in let S = staticOf t (a .levels) (a .depth) in let f = fieldAt es (drop (a .field) t) in let k = c .before .before .before .before .kind-at .ensures es in let o = sym (c .before .before .is-sequence .ensures es) ∙ c .before .if1 .taken in
+    let iw = c .before .before .before .kind-width .ensures .0 es ∙ wide-kind t (a .index .now) (R .0) (a .depth) _ (rw (sym k) at (R .4)) in let ip = ap (λ (n : ℕ). a .at + n) (c .read-u32 .ensures .0) in
     omega (arith, sequence-inside I sw S f b (a .at) _ k o _ iw _ _ ip refl _ (R .5 .reads))
 
 show-value-show-bytes-requires : (t : ℕ) → show-value-lts.Need-show-bytes-requires (show-value-claims t) (show-value-at t) show-value.Post
-show-value-show-bytes-requires t c κs = let a = c .before .before .before .before .before .before .before .before .before .before .before .args in let R = c .before .before .before .before .before .before .before .before .before .before .before .pre .1 in let t = a .table .now in let b = a .bytes .now in let I = innerOf t (a .levels) in let es = enums t in let sw = widthOf t (a .depth) in let S = staticOf t (a .levels) (a .depth) in let f = fieldAt es (drop (a .field) t) in let k = c .before .before .before .before .before .before .kind-at .ensures es in let o = sym (c .before .before .before .before .before .is-sequence .ensures es) ∙ c .before .before .before .before .if1 .taken in let d = rw (sym k) at (R .4) in
-    let iw = c .before .before .before .kind-width .ensures .0 es ∙ wide-kind t (a .index .now) (R .0) (a .depth) _ d in let ip = ap (λ (n : ℕ). a .at + n) (c .before .before .read-u32 .ensures .0) in
-    let n = c .before .read-u322 .ensures .0 in let q = sequence-inside I sw S f b (a .at) _ k o _ iw _ _ ip n _ (R .5 .reads) in let h : a .at + c .before .before .read-u32 .result + 4 ≤ length b = omega (arith, q) in
-    let L = opened _ _ _ _ _ _ _ (sequence-opens I sw S f b (a .at) _ k o _ iw _ _ ip n) (begun _ _ _ (R .5)) in
-    (h, bytes-room SQ _ _ 4 _ b h (first-fits _ _ _ _ _ _ _ L))
+show-value-show-bytes-requires t c κs = let a = c .before .before .before .before .before .before .before .before .before .before .before .args in let R = c .before .before .before .before .before .before .before .before .before .before .before .pre .1 in let t = a .table .now in let b = a .bytes .now in let I = innerOf t (a .levels) in let es = enums t in let sw = widthOf t (a .depth) in let S = staticOf t (a .levels) (a .depth) in let f = fieldAt es (drop (a .field) t) in let k = c .before .before .before .before .before .before .kind-at .ensures es in let o = sym (c .before .before .before .before .is-sequence .ensures es) ∙ c .before .before .before .if1 .taken in
+    let iw = c .before .before .before .before .before .kind-width .ensures .0 es ∙ wide-kind t (a .index .now) (R .0) (a .depth) _ (rw (sym k) at (R .4)) in let ip = ap (λ (n : ℕ). a .at + n) (c .before .before .read-u32 .ensures .0) in let n = c .before .read-u322 .ensures .0 in
+    let h : a .at + c .before .before .read-u32 .result + 4 ≤ length b = omega (arith, sequence-inside I sw S f b (a .at) _ k o _ iw _ _ ip n _ (R .5 .reads)) in
+    (h, bytes-room SQ _ _ 4 _ b h (first-fits _ _ _ _ _ _ _ (opened _ _ _ _ _ _ _ (sequence-opens I sw S f b (a .at) _ k o _ iw _ _ ip n) (begun _ _ _ (R .5)))))
+
+-- what is left: so many items, from there on
+show-value-items : (t : ℕ) (c : show-value-lts.Joined1 (show-value-claims t) (show-value-at t) show-value.Post) → let a = c .before .before .before .before .before .before .before .before .args in let t = a .table .now in let b = a .bytes .now in
+    (c .if1 .start + c .if1 .total * c .before .before .kind-width .result ≤ length b) × Left (passage (valueOf t (a .levels) (a .depth) (a .field)) b (a .at)) (a .pos) (a .out .now) (passage (itemsR (c .before .before .kind-width .result) (itemOf t (a .levels) (a .depth) (c .before .before .before .kind-at .result)) (c .if1 .total)) b (c .if1 .start)) (c .if1 .next) (c .if1 .out)
+show-value-items t c = let a = c .before .before .before .before .before .before .before .before .args in let R = c .before .before .before .before .before .before .before .before .pre .1 in let t = a .table .now in let b = a .bytes .now in let I = innerOf t (a .levels) in let es = enums t in let sw = widthOf t (a .depth) in let S = staticOf t (a .levels) (a .depth) in let f = fieldAt es (drop (a .field) t) in let k = c .before .before .before .kind-at .ensures es in
+    let iw = c .before .before .kind-width .ensures .0 es ∙ wide-kind t (a .index .now) (R .0) (a .depth) _ (rw (sym k) at (R .4)) in let o = sym (c .before .is-sequence .ensures es) in let L = begun _ _ _ (R .5) in
+    ⊎-elim
+    (λ w. let e = o ∙ w .0 .taken in let ip = ap (λ (n : ℕ). a .at + n) (w .1 .ensures .0) in let n = w .2 .ensures .0 in
+    let q = sequence-inside I sw S f b (a .at) _ k e _ iw _ _ ip n _ (R .5 .reads) in let h : a .at + w .1 .result + 4 ≤ length b = omega (arith, q) in
+    rw (w .7, w .8, w .9, w .10) (omega (arith, q), called _ _ _ _ _ _ _ (opened _ _ _ _ _ _ _ (sequence-opens I sw S f b (a .at) _ k e _ iw _ _ ip n) L) _ _ (shown-bytes SQ _ is-SQ _ _ _ _ 4 _ b h (w .4 .ensures .0) (w .4 .ensures .1))))
+    (λ w. let e = o ∙ w .0 .left in
+    rw (w .1, w .2, w .3, w .4) (omega (arith, width-one sw f e, ap (kindWidth sw) k, iw, R .3), opened _ _ _ _ _ _ _ (value-item I sw S f b (a .at) _ k e _) L))
+    (c .if1 .came)
 
 show-value-show-items-requires : (t : ℕ) → show-value-lts.Need-show-items-requires (show-value-claims t) (show-value-at t) show-value.Post
-show-value-show-items-requires t c κs = let a = c .before .before .before .before .before .before .before .before .before .before .before .before .before .before .before .args in let R = c .before .before .before .before .before .before .before .before .before .before .before .before .before .before .before .pre .1 in let t = a .table .now in let b = a .bytes .now in let I = innerOf t (a .levels) in let es = enums t in let sw = widthOf t (a .depth) in let S = staticOf t (a .levels) (a .depth) in let f = fieldAt es (drop (a .field) t) in let k = c .before .before .before .before .before .before .before .before .before .before .kind-at .ensures es in let o = sym (c .before .before .before .before .before .before .before .before .before .is-sequence .ensures es) ∙ c .before .before .before .before .before .before .before .before .if1 .taken in let d = rw (sym k) at (R .4) in
-    let iw = c .before .before .before .before .before .before .before .kind-width .ensures .0 es ∙ wide-kind t (a .index .now) (R .0) (a .depth) _ d in let ip = ap (λ (n : ℕ). a .at + n) (c .before .before .before .before .before .before .read-u32 .ensures .0) in
-    let n = c .before .before .before .before .before .read-u322 .ensures .0 in let q = sequence-inside I sw S f b (a .at) _ k o _ iw _ _ ip n _ (R .5 .reads) in let h : a .at + c .before .before .before .before .before .before .read-u32 .result + 4 ≤ length b = omega (arith, q) in
-    let L = opened _ _ _ _ _ _ _ (sequence-opens I sw S f b (a .at) _ k o _ iw _ _ ip n) (begun _ _ _ (R .5)) in
-    (search needs, (R .0, R .1, omega (arith, q), iw, d, called _ _ _ _ _ _ _ L _ _ (shown-bytes SQ _ is-SQ _ _ _ _ 4 _ b h (c .before .before .before .show-bytes .ensures .0) (c .before .before .before .show-bytes .ensures .1)) .fits))
+show-value-show-items-requires t c κs = let v = show-value-items t (c .before) in let a = c .before .before .before .before .before .before .before .before .before .args in let R = c .before .before .before .before .before .before .before .before .before .pre .1 in let t = a .table .now in let d = rw (sym (c .before .before .before .before .kind-at .ensures (enums t))) at (R .4) in
+    (search needs, (R .0, R .1, v .0, c .before .before .before .kind-width .ensures .0 (enums t) ∙ wide-kind t (a .index .now) (R .0) (a .depth) _ d, d, v .1 .fits))
+
+show-value-same-length : (t : ℕ) → show-value-lts.Need-same-length (show-value-claims t) (show-value-at t) show-value.Post
+show-value-same-length t c = ⊎-elim (λ w. let e = ap length (w .7) in search needs) (λ w. let e = ap length (w .1) in search needs) (c .before .before .before .before .if1 .came)
 
 show-value-returns : (t : ℕ) → show-value-lts.Need-returns (show-value-claims t) (show-value-at t) show-value.Post
-show-value-returns t c = let a = c .before .before .before .before .before .before .before .before .before .before .before .before .before .before .before .before .before .before .args in let R = c .before .before .before .before .before .before .before .before .before .before .before .before .before .before .before .before .before .before .pre .1 in let t = a .table .now in let b = a .bytes .now in let I = innerOf t (a .levels) in let es = enums t in let sw = widthOf t (a .depth) in let S = staticOf t (a .levels) (a .depth) in let f = fieldAt es (drop (a .field) t) in let k = c .before .before .before .before .before .before .before .before .before .before .before .before .before .kind-at .ensures es in let o = sym (c .before .before .before .before .before .before .before .before .before .before .before .before .is-sequence .ensures es) ∙ c .before .before .before .before .before .before .before .before .before .before .before .if1 .taken in let d = rw (sym k) at (R .4) in
-    let iw = c .before .before .before .before .before .before .before .before .before .before .kind-width .ensures .0 es ∙ wide-kind t (a .index .now) (R .0) (a .depth) _ d in let ip = ap (λ (n : ℕ). a .at + n) (c .before .before .before .before .before .before .before .before .before .read-u32 .ensures .0) in
-    let n = c .before .before .before .before .before .before .before .before .read-u322 .ensures .0 in let q = sequence-inside I sw S f b (a .at) _ k o _ iw _ _ ip n _ (R .5 .reads) in let h : a .at + c .before .before .before .before .before .before .before .before .before .read-u32 .result + 4 ≤ length b = omega (arith, q) in
-    let L = opened _ _ _ _ _ _ _ (sequence-opens I sw S f b (a .at) _ k o _ iw _ _ ip n) (begun _ _ _ (R .5)) in
-    called _ _ _ _ _ _ _ L _ _ (shown-bytes SQ _ is-SQ _ _ _ _ 4 _ b h (c .before .before .before .before .before .before .show-bytes .ensures .0) (c .before .before .before .before .before .before .show-bytes .ensures .1)) .whole _ _ (c .before .before .show-items .ensures)
+show-value-returns t c = show-value-items t (c .before .before .before .before) .1 .whole _ _ (c .before .before .show-items .ensures)
 
-show-value-show-item-requires : (t : ℕ) → show-value-lts.Need-show-item-requires (show-value-claims t) (show-value-at t) show-value.Post
-show-value-show-item-requires t c κs = let a = c .before .before .before .before .before .before .before .before .args in let R = c .before .before .before .before .before .before .before .before .pre .1 in let t = a .table .now in let b = a .bytes .now in let I = innerOf t (a .levels) in let es = enums t in let sw = widthOf t (a .depth) in let S = staticOf t (a .levels) (a .depth) in let f = fieldAt es (drop (a .field) t) in let k = c .before .before .before .kind-at .ensures es in let o = sym (c .before .before .is-sequence .ensures es) ∙ c .before .if1 .left in let w = width-one sw f o in
-    (search needs, (R .0, R .1, rw k (omega (arith, w, R .3)), rw k (R .4), fits-opens _ _ _ _ (value-item I sw S f b (a .at) _ k o) (R .5)))
-
-show-value-returns-2 : (t : ℕ) → show-value-lts.Need-returns-2 (show-value-claims t) (show-value-at t) show-value.Post
-show-value-returns-2 t c = let a = c .before .before .before .before .before .before .before .before .before .before .before .args in let R = c .before .before .before .before .before .before .before .before .before .before .before .pre .1 in let t = a .table .now in let b = a .bytes .now in let I = innerOf t (a .levels) in let es = enums t in let sw = widthOf t (a .depth) in let S = staticOf t (a .levels) (a .depth) in let f = fieldAt es (drop (a .field) t) in let k = c .before .before .before .before .before .before .kind-at .ensures es in let o = sym (c .before .before .before .before .before .is-sequence .ensures es) ∙ c .before .before .before .before .if1 .left in
-    shown-opens _ _ _ _ _ _ (value-item I sw S f b (a .at) _ k o) (c .before .before .show-item .ensures)
-
-pub +show-extending+show-extension+show-field+show-fields+show-group+show-groups+show-item+show-items+show-nested+show-value-spec :
+pub +show-body+show-extending+show-extension+show-field+show-fields+show-group+show-groups+show-item+show-items+show-nested+show-value-spec :
     {M : Type 1} → statement M
-+show-extending+show-extension+show-field+show-fields+show-group+show-groups+show-item+show-items+show-nested+show-value-spec =
++show-body+show-extending+show-extension+show-field+show-fields+show-group+show-groups+show-item+show-items+show-nested+show-value-spec =
     close
+    μ-show-body
     μ-show-extending
     μ-show-extension
     μ-show-field
@@ -617,14 +643,15 @@ pub +show-extending+show-extension+show-field+show-fields+show-group+show-groups
     μ-show-item
     μ-show-items
     μ-show-nested
-    μ-show-value (λ t. show-extending-lts.spec (show-extending-claims t) (show-extending-at t)
+    μ-show-value (λ t. show-body-lts.spec (show-body-claims t) (show-body-at t)
+    show-body.Post (λ c. search needs) (λ c. search needs) (show-body-part-copy-end t) (show-body-copy-requires t) (λ c. search needs) (show-body-show-fields-requires t) (show-body-show-extension-requires t) (show-body-show-mark-requires t) (λ c. search needs) (show-body-returns t)) (λ t. show-extending-lts.spec (show-extending-claims t) (show-extending-at t)
     show-extending.Post (λ c κs. search needs) (λ c. search needs) (λ c. search needs) (show-extending-read-u64-requires t) (λ c κs. search needs) (show-extending-show-nested-requires t) (λ c. search needs) (show-extending-returns t) (show-extending-read-u32-requires-2 t) (λ c. search needs) (show-extending-show-bytes-requires t) (λ c. search needs) (show-extending-returns-2 t)) (λ t. show-extension-lts.spec (show-extension-claims t) (show-extension-at t)
     show-extension.Post (λ c κs. search needs) (show-extension-returns t) (λ c. search needs) (show-extension-read-u32-requires-2 t) (show-extension-returns-2 t) (show-extension-show-bytes-requires t) (λ c. search needs) (show-extension-show-groups-requires t) (λ c. search needs) (show-extension-returns-3 t)) (λ t. show-field-lts.spec (show-field-claims t) (show-field-at t)
-    show-field.Post (λ c κs. search needs) (show-field-shared-slice-read-if2 t) (show-field-show-mark-requires t) (λ c. search needs) (show-field-returns t) (λ c. search needs) (show-field-show-value-requires t) (λ c. search needs) (show-field-returns-2 t) (show-field-show-value-requires-2 t) (λ c. search needs) (show-field-returns-3 t)) (λ t. show-fields-lts.spec (show-fields-claims t) (show-fields-at t)
+    show-field.Post (λ c κs. search needs) (show-field-shared-slice-read-if2 t) (show-field-show-mark-requires t) (λ c. search needs) (show-field-returns t) (λ c. search needs) (show-field-show-value-requires t) (λ c. search needs) (show-field-returns-2 t)) (λ t. show-fields-lts.spec (show-fields-claims t) (show-fields-at t)
     show-fields.Post
     show-fields-Inv-loop
     show-fields-μ-loop (λ c κs. search needs) (show-fields-field-count-requires t) (show-fields-sub-deeper t) (λ c. search needs) (show-fields-loop-holds t) (λ c κs. search needs) (show-fields-show-bytes-requires t) (λ c. search needs) (λ c. search needs) (λ c. search needs) (λ c. search needs) (show-fields-loop-again t) (λ c κs. search needs) (show-fields-show-field-requires t) (λ c. search needs) (λ c. search needs) (λ c. search needs) (λ c. search needs) (show-fields-loop-again-2 t) (λ c. search needs) (show-fields-returns t)) (λ t. show-group-lts.spec (show-group-claims t) (show-group-at t)
-    show-group.Post (λ c κs. search needs) (show-group-read-u64-requires t) (show-group-find-requires t) (show-group-sub-deeper t) (λ c. search needs) (λ c. search needs) (show-group-part-copy-end t) (show-group-copy-requires t) (λ c. search needs) (show-group-show-fields-requires t) (show-group-show-extension-requires t) (show-group-show-mark-requires t) (λ c. search needs) (show-group-returns t)) (λ t. show-groups-lts.spec (show-extending-below t, show-extending.Post) (show-groups-at t)
+    show-group.Post (λ c κs. search needs) (show-group-read-u64-requires t) (show-group-find-requires t) (show-group-sub-show-body t) (show-group-show-body-requires t) (λ c. search needs) (show-group-returns t)) (λ t. show-groups-lts.spec (show-extending-below t, show-extending.Post) (show-groups-at t)
     show-groups.Post
     show-groups-Inv-loop
     show-groups-μ-loop (show-groups-loop-holds t) (show-groups-show-extending-requires t) (λ c. search needs) (λ c. search needs) (λ c. search needs) (show-groups-loop-again t) (λ c. search needs) (show-groups-returns t)) (λ t. show-item-lts.spec (show-item-claims t) (show-item-at t)
@@ -634,4 +661,4 @@ pub +show-extending+show-extension+show-field+show-fields+show-group+show-groups
     show-items-μ-loop (λ c. search needs) (λ c κs. search needs) (show-items-show-plain-requires t) (λ c. search needs) (show-items-returns t) (show-items-loop-holds t) (show-items-show-item-requires t) (show-items-add-place t) (λ c. search needs) (λ c. search needs) (show-items-loop-again t) (λ c. search needs) (show-items-returns-2 t)) (λ t. show-nested-lts.spec (show-nested-claims t) (show-nested-at t)
     show-nested.Post (λ c κs. search needs) (λ c. search needs) (λ c. search needs) (show-nested-show-mark-requires t) (λ c. search needs) (λ c. search needs) (λ c. search needs) (show-nested-show-group-requires t) (λ c. search needs) (show-nested-returns t))
     λ t. show-value-lts.spec (show-value-claims t) (show-value-at t)
-    show-value.Post (λ c κs. search needs) (λ c κs. search needs) (λ c κs. search needs) (show-value-read-u32-requires t) (λ c. search needs) (show-value-read-u32-requires-2 t) (show-value-show-bytes-requires t) (λ c. search needs) (show-value-show-items-requires t) (λ c. search needs) (show-value-returns t) (show-value-show-item-requires t) (λ c. search needs) (show-value-returns-2 t)
+    show-value.Post (λ c κs. search needs) (λ c κs. search needs) (λ c κs. search needs) (show-value-read-u32-requires t) (λ c. search needs) (show-value-read-u32-requires-2 t) (λ c. search needs) (show-value-show-bytes-requires t) (show-value-show-items-requires t) (show-value-same-length t) (show-value-returns t)

@@ -4,7 +4,7 @@ use mathlib.Core.Bool.{Bool, true, false, not, cond}
 use mathlib.Core.List.{List}
 use Prim.Native.Nat.{ℕ}
 use lib.Dec.{T, eqb}
-use lib.Ieee.{binary64, isNan, nanBits, ofBits}
+use lib.Ieee.{binary64, nanBits, ofBits}
 use lib.Ieee.Bits.{nanBits-is}
 use Rattle.wire.specs.Bytes.{le}
 use Rattle.schema.specs.declared.Verdict.{Verdict}

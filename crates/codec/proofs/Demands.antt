@@ -16,24 +16,23 @@ use Rattle.schema.specs.Faults.{need, also}
 use Rattle.schema.specs.Schema.{Group}
 use Rattle.schema.specs.Table.{schema, tableVerdict}
 use Rattle.table.proofs.Accepted as table
-use Rattle.message.specs.Walk.{Reading, refused, done, strict, walk, messageR}
+use Rattle.message.specs.Walk.{Reading, refused, done, strict, walk}
 use Rattle.message.specs.Proper.{Proper}
 use Rattle.message.specs.Conforms.{Conforms}
-use Rattle.message.proofs.Ids.{table-fresh}
 use Rattle.message.proofs.Accepted.{accepted-conforms}
-use Rattle.message.proofs.Sat.{Sat, sat-is, sat-need}
+use Rattle.message.proofs.Sat.{Sat, sat-is, sat-all, sat-need}
 use Rattle.message.proofs.Eleven.{eleven}
 use Rattle.reading.specs.declared.Part.{Part}
 use Rattle.reading.specs.declared.Part.the-variants.{Refusal, Lies}
 use Rattle.reading.specs.Part.{bytesIn}
 use Rattle.reading.specs.Part as part
-use Rattle.sheet.specs.Written.{Writing, stopped, wrote, sheetW, fitted, written}
+use Rattle.sheet.specs.Written.{Writing, stopped, wrote, fitted, written}
 use Rattle.sheet.specs.Rewritten.{Rooms, Enough, sheetIn, rewritten}
 use Rattle.sheet.specs.Canonical as canonical
 use Rattle.sheet.proofs.RoundTrip as trip
-use Rattle.codec.specs.Answers.{accepted, messageReading, verdictOf, messageVerdict, roomAfter, toSheet, toMessage, rewriting, numberUnder, numberAnswer, partUnder, partAnswer, bytesVerdict}
+use Rattle.codec.specs.Answers.{accepted, verdictOf, messageVerdict, roomAfter, toSheet, toMessage, rewriting, numberUnder, numberAnswer, partUnder, partAnswer, bytesVerdict}
 use Rattle.codec.specs.Demands.{Demand1, Means, Makes, Demand2, OneForm, Demand3, Demands}
-use Rattle.codec.proofs.Laws.{sized}
+use Rattle.codec.proofs.Laws.{sized, reading-under, message-under}
 
 -- DEMAND 1
 
@@ -60,7 +59,9 @@ demand1 t b s scratch = record {
 -- WHAT AN ACCEPTED TABLE GIVES
 
 proper : (t : List ℕ) → tableVerdict t ≡ Accepted → Proper (schema t)
-proper t e = record { falls = table.accepted t e .supers; fresh = table-fresh t e }
+proper t e =
+    let a = table.accepted t e in
+    record { falls = a .supers; fresh = λ g x rest at has. a .fresh g (x .id) (record { it = x; rest = rest; at = at; has = has; is = refl }) }
 
 done-is : (x : Reading) → verdictOf x ≡ Accepted → (s : List ℕ) × (m : List ℕ) × (x ≡ done s m)
 unfolding verdictOf
@@ -74,29 +75,21 @@ is-done x (s, m, e) = rw e
 -- "as long as 4 + its size word"
 sat-size : (gs : List Group) (b : List ℕ) → Sat (λ s m. length b ≡ 4 + le (take 4 b)) (walk strict gs b)
 unfolding walk
-sat-size gs b = sat-need _ 22 0 (λ t. trip.sat-all (λ s m. eqb-true _ _ (and-eq-true-iff (leb 4 (length b)) _ .0 t .1)) _)
+sat-size gs b = sat-need _ 22 0 (λ t. sat-all (λ s m. eqb-true _ _ (and-eq-true-iff (leb 4 (length b)) _ .0 t .1)) _)
 
 module _ (t : List ℕ) (e : tableVerdict t ≡ Accepted) where
   abbrev gs : List Group
   gs = schema t
 
-  under : (b : List ℕ) (scratch : ℕ) → messageReading t b scratch ≡ messageR strict gs scratch b
-  unfolding messageReading accepted need
-  under b scratch = rw e
-
-  writes : (s : List ℕ) (room : ℕ) → toMessage t s room ≡ written gs room s
-  unfolding toMessage accepted need
-  writes s room = rw e
-
   rewrites : (b : List ℕ) (rooms : Rooms) → rewriting t b rooms ≡ rewritten strict gs rooms b
   unfolding rewriting toSheet rewritten
-  rewrites b rooms = rw (under b (rooms .scratch))
+  rewrites b rooms = rw (reading-under t e b (rooms .scratch))
 
   there : (b s : List ℕ) → Means t b s → canonical.Means strict gs b s
-  there b s M scratch h = sym (under b scratch) ∙ M scratch h
+  there b s M scratch h = sym (reading-under t e b scratch) ∙ M scratch h
 
   back : (b s : List ℕ) → canonical.Means strict gs b s → Means t b s
-  back b s M scratch h = under b scratch ∙ M scratch h
+  back b s M scratch h = reading-under t e b scratch ∙ M scratch h
 
   -- DEMAND 2
 
@@ -104,22 +97,22 @@ module _ (t : List ℕ) (e : tableVerdict t ≡ Accepted) where
   unfolding messageVerdict
   accepted-exactly b scratch room =
       let iff = accepted-conforms strict gs (proper t e) scratch b room in
-      (λ v. iff .0 (done-is _ (ap verdictOf (sym (under b scratch)) ∙ v)), λ c. ap verdictOf (under b scratch) ∙ is-done _ (iff .1 c))
+      (λ v. iff .0 (done-is _ (ap verdictOf (sym (reading-under t e b scratch)) ∙ v)), λ c. ap verdictOf (reading-under t e b scratch) ∙ is-done _ (iff .1 c))
 
   sheet : (b : List ℕ) (scratch : ℕ) → messageVerdict t b scratch ≡ Accepted → (s : List ℕ) × Means t b s
   unfolding messageVerdict
-  sheet b scratch v = let (s, m, d) = done-is _ v in (s, back b s (trip.message-means strict gs scratch b s m (sym (under b scratch) ∙ d)))
+  sheet b scratch v = let (s, m, d) = done-is _ v in (s, back b s (trip.message-means strict gs scratch b s m (sym (reading-under t e b scratch) ∙ d)))
 
   sheet-written : (b s : List ℕ) → Means t b s → (scratch room : ℕ) → length b ≤ scratch → length s ≤ room → toSheet t b scratch room ≡ wrote s [] []
   unfolding toSheet sheetIn need
   sheet-written b s M scratch room h l = rw (M scratch h, le-leb _ _ l)
 
   reads-back : (s X Y r : List ℕ) (room : ℕ) → toMessage t s room ≡ wrote X Y r → (length X ≤ room) × Means t X s
-  reads-back s X Y r room w = let (l, M) = trip.written-means gs (sized t e) strict room s X Y r (sym (writes s room) ∙ w) in (l, back X s M)
+  reads-back s X Y r room w = let (l, M) = trip.written-means gs (sized t e) strict room s X Y r (sym (message-under t e s room) ∙ w) in (l, back X s M)
 
   only-room : (s X : List ℕ) → Makes t s X → (room n p : ℕ) → toMessage t s room ≡ stopped n p → (n ≡ 47) × (p ≡ 0)
   unfolding written fitted need
-  only-room s X m room n p w = go (leb (length X) room && leb (length X) 65536) (rw m at (sym (writes s room) ∙ w))
+  only-room s X m room n p w = go (leb (length X) room && leb (length X) 65536) (rw m at (sym (message-under t e s room) ∙ w))
     where
       go : (c : Bool) → need c (stopped 47 0) (wrote X [] []) ≡ stopped n p → (n ≡ 47) × (p ≡ 0)
       go true q = unfold need in let z : _≡_ {A = ℕ} 0 1 = cc in absurd (omega arith)
@@ -128,7 +121,7 @@ module _ (t : List ℕ) (e : tableVerdict t ≡ Accepted) where
   room-exactly : (s X : List ℕ) → Makes t s X → (room : ℕ) → (toMessage t s room ≡ stopped 47 0) ↔ ((c : List ℕ) → Means t c s → length c ≤ room → ⊥)
   room-exactly s X m room =
       let iff = trip.room-short gs (sized t e) strict room s X [] [] m in
-      (λ w c M l. iff .0 (sym (writes s room) ∙ w) c (there c s M) l, λ f. writes s room ∙ iff .1 (λ c M l. f c (back c s M) l))
+      (λ w c M l. iff .0 (sym (message-under t e s room) ∙ w) c (there c s M) l, λ f. message-under t e s room ∙ iff .1 (λ c M l. f c (back c s M) l))
 
   read-one-way : (s s′ X Y Y′ r r′ : List ℕ) (room room′ : ℕ) → toMessage t s room ≡ wrote X Y r → toMessage t s′ room′ ≡ wrote X Y′ r′ → s ≡ s′
   read-one-way s s′ X Y Y′ r r′ room room′ w w′ =

@@ -9,7 +9,6 @@ use lib.Dec.{leb}
 use borrow.Author.Tests.{le-leb, lt-leb, leb-true}
 use Rattle.wire.specs.Bytes.{part, splice}
 use Rattle.wire.proofs.Laws.{length-splice, part-splice}
-use Rattle.schema.specs.declared.Verdict.{Verdict}
 use Rattle.schema.specs.declared.Verdict.the-variants.{Accepted, Refused}
 use Rattle.schema.specs.Faults.{need, also}
 use Rattle.schema.specs.Schema.{Kind, plain, inline, indirect, static, dynamic, Field, Group}
@@ -75,6 +74,10 @@ sized-fields n own (f ∷ fs) e = let x = and-both _ _ e in (sized-kind n own (f
 pub sized : (t : List ℕ) → tableVerdict t ≡ Accepted → Sized (schema t)
 sized t e = let a = table.accepted t e in record { kinds = λ g. sized-fields _ g _ (a .sound g); shallows = a .shallows }
 
+pub reading-under : (t : List ℕ) → tableVerdict t ≡ Accepted → (b : List ℕ) (scratch : ℕ) → messageReading t b scratch ≡ messageR strict (schema t) scratch b
+unfolding messageReading accepted need
+reading-under t e b scratch = rw e
+
 -- what a check says of the walk
 walked-refuses : (x : Reading) (n p : ℕ) → countOf (Failed n p) [] ≡ count x → x ≡ refused n p
 unfolding countOf count
@@ -87,14 +90,10 @@ walked-means (refused n′ p) n e = let z : _≡_ {A = ℕ} 0 1 = cc in absurd (
 walked-means (done s m) n e = let l : length s ≡ n = cc in let i : m ≡ [] = cc in (s, ap (done s) i, l)
 
 module _ (t b s : List ℕ) (e : Accepted ≡ tableVerdict t) where
-  under : messageReading t b (length s) ≡ messageR strict (schema t) (length s) b
-  unfolding messageReading accepted need
-  under = rw (← e)
-
   module _ (long : 65536 < length b) where
     pub reading-23 : messageReading t b (length s) ≡ refused 23 0
     unfolding messageR need
-    reading-23 = under ∙ rw (lt-leb _ _ long)
+    reading-23 = reading-under t (sym e) b (length s) ∙ rw (lt-leb _ _ long)
 
     pub scratch-23 : scratchAfter t b s ≡ s
     unfolding scratchAfter accepted
@@ -103,7 +102,7 @@ module _ (t b s : List ℕ) (e : Accepted ≡ tableVerdict t) where
   module _ (fits : length b ≤ 65536) (short : length s < length b) where
     pub reading-21 : messageReading t b (length s) ≡ refused 21 0
     unfolding messageR need
-    reading-21 = under ∙ rw (le-leb _ _ fits, lt-leb _ _ short)
+    reading-21 = reading-under t (sym e) b (length s) ∙ rw (le-leb _ _ fits, lt-leb _ _ short)
 
     pub scratch-21 : scratchAfter t b s ≡ s
     unfolding scratchAfter accepted
@@ -112,7 +111,7 @@ module _ (t b s : List ℕ) (e : Accepted ≡ tableVerdict t) where
   module _ (fits : length b ≤ 65536) (room : length b ≤ length s) where
     walked : messageReading t b (length s) ≡ walk strict (schema t) b
     unfolding messageR need
-    walked = under ∙ rw (le-leb _ _ fits, le-leb _ _ room)
+    walked = reading-under t (sym e) b (length s) ∙ rw (le-leb _ _ fits, le-leb _ _ room)
 
     pub opened : (k : List ℕ) → Layout t k → (w : Walked) → countOf w [] ≡ after 0 (count (walk strict (schema t) b)) → Opened t b (length s) k w
     opened k l w c =
@@ -235,9 +234,8 @@ module _ (gs : List Group) (s : List ℕ) (room : ℕ) where
 
 -- "Every message whose sheet equals A's, A among them, has at least as many bytes as the rewritten A."
 pub known-within : (t b : List ℕ) (scratch : ℕ) (k : List ℕ) (n : ℕ) (K : Known t b scratch k n) → Within (schema t) (K .sheet) (length b)
-unfolding messageReading accepted need
 known-within t b scratch k n K =
-    let M = trip.message-means strict (schema t) scratch b (K .sheet) [] (rw (K .table) at (K .means)) in
+    let M = trip.message-means strict (schema t) scratch b (K .sheet) [] (sym (reading-under t (K .table) b scratch) ∙ K .means) in
     let x = trip.read-write (schema t) (sized t (K .table)) strict b (K .sheet) M in
     record { message = x .0; makes = x .1; most = x .2; small = K .small }
 

@@ -11,7 +11,6 @@ pub mod Holders
 pub mod Agree
 pub mod Accepted
 pub mod Eleven
-pub mod Ids
 pub mod CheckAnswers
 pub mod CheckPlaces
 pub mod CheckValues

@@ -19,6 +19,10 @@ pub sat-is : {Q : List ℕ → List ℕ → Type 0} {s m : List ℕ} → Sat Q (
 sat-is (said q) = q
 
 module _ {Q : List ℕ → List ℕ → Type 0} where
+  pub sat-all : ((s m : List ℕ) → Q s m) → (r : Reading) → Sat Q r
+  sat-all f (refused n p) = unsaid
+  sat-all f (done s m) = said (f s m)
+
   pub sat-need : (c : Bool) (n p : ℕ) {k : Reading} → (c ≡ true → Sat Q k) → Sat Q (need c (refused n p) k)
   unfolding need
   sat-need true n p f = f refl

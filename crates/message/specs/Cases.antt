@@ -1,7 +1,6 @@
 -- Document 004's messages, with their sheets: document 01's "twelve cases .. for the written rules themselves, as one table under a single claim".
 -- A message stands as document 004 prints it, a line for each of its lines; a sheet has a line for each of its records.
 use mathlib.Core.Path.{_≡_, refl}
-use mathlib.Core.Bool.{Bool, true, false, not}
 use mathlib.Core.List.{List, [], _∷_, _++_}
 use Prim.Native.Nat.{ℕ}
 use lib.ListN.{length}

@@ -60,9 +60,9 @@ placeBy F (Nowhere n p) = lost n p
 
 -- A value of k bytes at p that was claimed, with the word n, is taken.
 pub record Claims (F : ℕ → List ℕ) (p n k : ℕ) (r : Located) : Type 0 where
-  pub place : (q j : ℕ) (s : ℕ) → r ≡ At q j s → q ≡ p
-  pub word : (q j : ℕ) (s : ℕ) → r ≡ At q j s → j ≡ n
-  pub taken : (q j : ℕ) (s : ℕ) → r ≡ At q j s → mark p k (F s) ≡ F s
+  pub place : (q j s : ℕ) → r ≡ At q j s → q ≡ p
+  pub word : (q j s : ℕ) → r ≡ At q j s → j ≡ n
+  pub taken : (q j s : ℕ) → r ≡ At q j s → mark p k (F s) ≡ F s
 
 -- A value that was found has a count of four bytes, lies in the bytes b, and is taken.
 pub record Lands (F : ℕ → List ℕ) (w : ℕ) (b : List ℕ) (r : Located) : Type 0 where

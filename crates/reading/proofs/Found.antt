@@ -9,7 +9,7 @@ use lib.Dec.{eqb}
 use borrow.Author.Tests.{ne-eqb, eqb-true}
 use Rattle.wire.specs.Bytes.{part}
 use Rattle.schema.specs.Schema.{Kind, member, kindWidth, width, find}
-use Rattle.schema.specs.Table.{scalarWidth, kindOf, fieldAt, fieldsAt, fieldType, fieldSize, reference, fieldCount, enums, schema}
+use Rattle.schema.specs.Table.{scalarWidth, kindOf, fieldAt, fieldType, fieldSize, reference, fieldCount, enums, schema}
 use Rattle.schema.specs.Layout.{groupPlace, groupTotal, widthIn, Placed, Layout}
 use Rattle.schema.specs.FieldKinds.{testedKind, kindFrom}
 use Rattle.schema.specs.declared.FieldKind.{FieldKind}

@@ -1,17 +1,12 @@
 -- Numbers, once over the width.
-use mathlib.Core.Path.{_≡_, refl, sym, _∙_, subst}
+use mathlib.Core.Path.{_≡_, refl}
 use mathlib.Core.Bool.{Bool, true, false, _||_}
 use mathlib.Core.List.{List, [], _∷_}
 use Prim.Native.Nat.{ℕ, _+_, _≤_}
 use native.Mathlib.Omega.{arith}
 use native.Mathlib.Nat.{add-zero}
-use lib.IntN.{ℤ}
 use lib.ListN.{length, getD}
-use lib.Dec.{T, leb}
 use lib.Ieee.{ofBits, nanBits, binary64}
-use mir.Syntax.{Width, w64}
-use mir.Val.{hbits, SFits, toZ, ofZ}
-use mir.Facts.{toZ-ofZ, sfits-widen}
 use borrow.Author.Tests.{ne-eqb, eqb-true}
 use Rattle.wire.specs.Bytes.{part, le, signed}
 use Rattle.wire.proofs.Laws.{part-part}

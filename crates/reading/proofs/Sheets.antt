@@ -22,7 +22,7 @@ use Rattle.reading.specs.declared.Located.the-variants.{At}
 use Rattle.reading.specs.Number.{numberTypes, numberWidth}
 use Rattle.reading.proofs.Done.{need-done, next-done, indirect-done}
 use Rattle.reading.proofs.Read.{Read}
-use Rattle.reading.proofs.Opened.{inner, statics, top, KindRead}
+use Rattle.reading.proofs.Opened.{inner, top, KindRead}
 use Rattle.reading.proofs.Found.{every, among, number-kind, found-read}
 use Rattle.reading.proofs.Alike.{alike-done, deeper-alike, any-alike}
 

@@ -137,6 +137,7 @@ pub record Sane (t : List ℕ) : Type 0 where
   pub supers : (g : ℕ) → superOf (schema t) g ≤ g
   pub groups : length (schema t) ≤ 64
   pub lists : length (enums t) ≤ 64
+  pub fresh : (g id : ℕ) → Names (schema t) g id → known (take g (schema t)) id ≡ false
   pub unique : (g k id : ℕ) → Names (schema t) g id → Names (schema t) k id → g ≡ k
 
 pub accepted : (t : List ℕ) → tableVerdict t ≡ Accepted → Sane t
@@ -146,6 +147,7 @@ accepted t e = record {
   supers = supers-low t shape records;
   groups = groups;
   lists = lists;
+  fresh = new;
   unique = unique;
 }
   where

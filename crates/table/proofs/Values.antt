@@ -1,20 +1,17 @@
--- An accepted table's enumerations rise, and no capacity of it is over 255.
-use mathlib.Core.Path.{_≡_, refl, sym, ap, _∙_}
+-- An accepted table's enumerations rise.
+use mathlib.Core.Path.{_≡_, sym, ap, _∙_}
 use mathlib.Core.Bool.{true}
 use mathlib.Core.List.{List, [], _∷_}
 use Prim.Native.Nat.{ℕ, zero, suc, _-_}
 use native.Mathlib.Omega.{arith}
 use lib.ListN.{length, drop, getD, List·getD-eq-default}
 use lib.Dec.{leb}
-use borrow.Author.Tests.{leb-true, lt-ltb}
 use Rattle.schema.specs.declared.Verdict.the-variants.{Accepted}
-use Rattle.schema.specs.Schema.{Kind, plain, inline, indirect, static, dynamic, Field, Group, fieldsOf}
+use Rattle.schema.specs.Schema.{Group}
 use Rattle.schema.specs.Table.{symbolCount, valuesAt, enumsFrom, recordCount, enums, schema, shapeVerdict, rank, symbolVerdict, recordsFrom, recordsVerdict, tableVerdict}
-use Rattle.table.specs.Measure.{soundKind, soundFields, cappedKind, cappedFields, rankOf, risingFrom}
+use Rattle.table.specs.Measure.{rankOf, risingFrom}
 use Rattle.table.proofs.Laws.{record-symbol}
 use Rattle.table.proofs.Records.{symbol-no-group, symbol-no-enum, symbol-no-field, field-no-group, field-no-enum, enum-no-group, enum-no-symbol, group-no-enum}
-use Rattle.schema.proofs.Depth.{and-both}
-use Rattle.table.proofs.Accepted.{accepted}
 use Rattle.table.proofs.Formed.{need-accepted, also-accepted, Formed, end, symbol, field, enum, group, formed}
 
 -- SYMBOLS
@@ -59,23 +56,3 @@ symbols-rise t h e =
     let a = also-accepted _ _ (need-accepted _ _ _ _ h .1) in
     let b = also-accepted _ _ (a .1) in
     rises (length (enums t)) (schema t) (formed (recordCount t) 0 0 0 0 t (a .0)) 0 0 (b .0) .0 e
-
--- CAPACITIES
-
-kind-capped : (ng own : ℕ) (k : Kind) → soundKind ng own k ≡ true → cappedKind k ≡ true
-unfolding soundKind cappedKind
-kind-capped ng own (plain w t) e = refl
-kind-capped ng own (inline u c) e = lt-ltb c 256 (omega (arith, leb-true c 255 (and-both (leb 1 c) (leb c 255) e .1)))
-kind-capped ng own (indirect u) e = refl
-kind-capped ng own (static g) e = refl
-kind-capped ng own (dynamic n) e = refl
-
-fields-capped : (ng own : ℕ) (fs : List Field) → soundFields ng own fs ≡ true → cappedFields fs ≡ true
-unfolding soundFields cappedFields
-fields-capped ng own [] e = refl
-fields-capped ng own (f ∷ fs) e =
-    let a = and-both (soundKind ng own (f .kind)) (soundFields ng own fs) e in
-    rw (kind-capped ng own (f .kind) (a .0)) (fields-capped ng own fs (a .1))
-
-pub capacities : (t : List ℕ) → tableVerdict t ≡ Accepted → (g : ℕ) → cappedFields (fieldsOf (schema t) g) ≡ true
-capacities t h g = fields-capped (length (schema t)) g (fieldsOf (schema t) g) (accepted t h .sound g)

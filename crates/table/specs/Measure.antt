@@ -28,18 +28,6 @@ soundFields ng own (f ∷ fs) = soundKind ng own (f .kind) && soundFields ng own
 abbrev pub Sound : List Group → Type 0
 Sound gs = (g : ℕ) → soundFields (length gs) g (fieldsOf gs g) ≡ true
 
--- What 33 leaves of a capacity: a byte.
-unfoldable pub cappedKind : Kind → Bool
-cappedKind (plain w t) = true
-cappedKind (inline u c) = ltb c 256
-cappedKind (indirect u) = true
-cappedKind (static g) = true
-cappedKind (dynamic n) = true
-
-unfoldable pub cappedFields : List Field → Bool
-cappedFields [] = true
-cappedFields (f ∷ fs) = cappedKind (f .kind) && cappedFields fs
-
 -- What 34 leaves of an enumeration's values: as signed numbers they rise, from this rank on.
 unfoldable pub rankOf : ℕ → ℕ
 rankOf v = cond (ltb v 0x80000000) (v + 0x80000000) (v - 0x80000000)

@@ -4,9 +4,9 @@ use mathlib.Core.Path.{_≡_, refl, sym, ap, _∙_}
 use mathlib.Core.List.{List, [], _∷_, _++_, append-assoc}
 use native.Mathlib.Omega.{arith}
 use native.Mathlib.Numerals.{add-one}
-use native.Mathlib.Nat.{zero-add, suc-add, add-assoc, pow-suc, pow-succ', mul-assoc, div-div-eq-div-mul, div-one}
-use lib.ListN.{length, getD, set, take, drop, replicate, length-append, length-take, length-drop, length-set, take-append-drop}
-use lib.Seq.{drop-cons, drop-drop, take-add, take-take, take-all, take-nil, take-at, drop-at, take-suc-set, drop-set-lt, take-append-le, drop-append-le, length-take-le}
+use native.Mathlib.Nat.{zero-add, suc-add, add-assoc, pow-succ', mul-assoc, div-div-eq-div-mul, div-one}
+use lib.ListN.{length, getD, set, take, drop, length-append, length-take, length-drop, length-set, take-append-drop}
+use lib.Seq.{drop-cons, drop-drop, take-add, take-take, take-all, take-nil, take-at, drop-at, take-suc-set, drop-set-lt}
 use Rattle.wire.specs.Bytes.{part, splice, le, bytesOf}
 
 -- PARTS

@@ -5,12 +5,12 @@ use mathlib.Core.Bool.{Bool, true, false}
 use mathlib.Core.List.{List, [], _∷_, _++_, append-assoc}
 use native.Mathlib.Omega.{arith}
 use native.Mathlib.Nat.{sub-zero, add-zero}
-use lib.ListN.{length, take, drop, getD, replicate, List·getD-eq-default, length-append, length-take, take-append-drop}
+use lib.ListN.{length, take, drop, getD, set, replicate, List·getD-eq-default, length-append, length-take, take-append-drop}
 use lib.Seq.{take-at, drop-at, drop-drop, getD-take, getD-drop}
 use lib.Dec.{ltb}
 use borrow.Author.Tests.{ltb-true, ltb-false}
 use Rattle.wire.specs.Bytes.{part, splice, le, bytesOf}
-use Rattle.wire.proofs.Laws.{part-add, length-part, length-splice, splice-append, splice-nil, splice-part, bytes-le}
+use Rattle.wire.proofs.Laws.{drop-more, part-add, length-part, length-splice, splice-append, splice-cons, splice-nil, splice-part, bytes-le}
 use Rattle.writing.specs.Write.{put}
 
 -- TWO SPLICES
@@ -51,7 +51,7 @@ module _ (m n p q : ℕ) (xs ys : List ℕ) (e : length xs ≡ m) (h : p + m ≤
       ∙ sym (ap (λ (x : List ℕ). splice n q ys (splice m p xs x)) o)
 
 -- the first of two splices in a row may be written last
-pub splice-before : (m n p q : ℕ) (xs ys s : List ℕ) → q ≡ p + m → length xs ≡ m → q + n ≤ length s → splice m p xs (splice n q ys s) ≡ splice (m + n) p (xs ++ ys) s
+splice-before : (m n p q : ℕ) (xs ys s : List ℕ) → q ≡ p + m → length xs ≡ m → q + n ≤ length s → splice m p xs (splice n q ys s) ≡ splice (m + n) p (xs ++ ys) s
 splice-before m n p q xs ys s i e h =
     splice-commute m n p q xs ys e (omega arith) s h ∙ rw i (splice-append m n p xs ys s e (omega arith))
 
@@ -136,23 +136,28 @@ copied n pos s h b =
 pub put-number : (k n pos at v : ℕ) (s out left : List ℕ) → n ≡ k → v ≡ le (part k pos s) → left ≡ splice k at (bytesOf k v) out → pos + n ≤ length s → ((i : ℕ) → getD s i 0 < 256) → left ≡ splice n at (part n pos s) out
 put-number k n pos at v s out left i e m h b = m ∙ rw (i, e, copied k pos s (omega arith) b)
 
--- what is left of n bytes to copy, eight bytes further; and at the end
-module _ (n i pos at : ℕ) (s out : List ℕ) (h : pos + n ≤ length s) (r : at + n ≤ length out) where
-  pub words-next : 8 ≤ n - i → (v : ℕ) (mid : List ℕ) → v ≡ le (part 8 (pos + i) s) → mid ≡ splice 8 (at + i) (bytesOf 8 v) out → ((k : ℕ) → getD s k 0 < 256)
-      → splice (n - i) (at + i) (part (n - i) (pos + i) s) out ≡ splice (n - (i + 8)) (at + (i + 8)) (part (n - (i + 8)) (pos + (i + 8)) s) mid
-  words-next l v mid e m b =
-      let w : ℕ = n - (i + 8) in
-      let q : n - i ≡ 8 + w = omega arith in
-      let p : pos + (i + 8) ≡ pos + i + 8 = omega arith in
-      let a : at + (i + 8) ≡ at + i + 8 = omega arith in
-      let k : mid ≡ splice 8 (at + i) (part 8 (pos + i) s) out = put-number 8 8 (pos + i) (at + i) v s out mid refl e m (omega arith) b in
-      rw (q, p, a, k, part-add 8 w (pos + i) s) (sym (splice-append 8 w (at + i) (part 8 (pos + i) s) (part w (pos + i + 8) s) out (length-part 8 (pos + i) s (omega arith)) (omega arith)))
+-- n bytes to copy, of which w are copied and k are left
+pub words-step : (n w k pos at v : ℕ) (s out mid : List ℕ) → n ≡ w + k → pos + n ≤ length s → at + n ≤ length out → v ≡ le (part w pos s) → mid ≡ splice w at (bytesOf w v) out → ((i : ℕ) → getD s i 0 < 256)
+    → splice n at (part n pos s) out ≡ splice k (at + w) (part k (pos + w) s) mid
+words-step n w k pos at v s out mid q h r e m b =
+    let l : mid ≡ splice w at (part w pos s) out = put-number w w pos at v s out mid refl e m (omega arith) b in
+    rw (q, l, part-add w k pos s) (sym (splice-append w k at (part w pos s) (part k (pos + w) s) out (length-part w pos s (omega arith)) (omega arith)))
 
-  pub words-end : i ≤ n → (left : List ℕ) → left ≡ splice (length (part (pos + n - (pos + i)) (pos + i) s)) (at + i) (part (pos + n - (pos + i)) (pos + i) s) out → left ≡ splice (n - i) (at + i) (part (n - i) (pos + i) s) out
-  words-end l left m =
-      let q : pos + n - (pos + i) ≡ n - i = omega arith in
-      let k = rw q at m in
-      k ∙ rw (length-part (n - i) (pos + i) s (omega arith))
+-- the same from the byte i on, up to the byte j
+pub words-next : (n i w j pos at v : ℕ) (s out mid : List ℕ) → j ≡ i + w → j ≤ n → pos + n ≤ length s → at + n ≤ length out → v ≡ le (part w (pos + i) s) → mid ≡ splice w (at + i) (bytesOf w v) out → ((i : ℕ) → getD s i 0 < 256)
+    → splice (n - i) (at + i) (part (n - i) (pos + i) s) out ≡ splice (n - j) (at + j) (part (n - j) (pos + j) s) mid
+words-next n i w j pos at v s out mid q l h r e m b =
+    let p : pos + j ≡ pos + i + w = omega arith in
+    let a : at + j ≡ at + i + w = omega arith in
+    rw (p, a) (words-step (n - i) w (n - j) (pos + i) (at + i) v s out mid (omega arith) (omega arith) (omega arith) e m b)
 
 pub words-start : (n pos at : ℕ) (s out : List ℕ) → splice n at (part n pos s) out ≡ splice (n - 0) (at + 0) (part (n - 0) (pos + 0) s) out
 words-start n pos at s out = rw (sub-zero, add-zero, add-zero)
+
+pub words-none : (n i pos at : ℕ) (s out : List ℕ) → n ≤ i → splice (n - i) (at + i) (part (n - i) (pos + i) s) out ≡ out
+words-none n i pos at s out h = let q : n - i ≡ 0 = omega arith in rw q (splice-nil (at + i) out)
+
+pub words-last : (n i pos at : ℕ) (s out : List ℕ) → n ≡ i + 1 → pos + n ≤ length s → at + n ≤ length out → splice (n - i) (at + i) (part (n - i) (pos + i) s) out ≡ set out (at + i) (getD s (pos + i) 0)
+words-last n i pos at s out e h r =
+    let q : n - i ≡ 1 = omega arith in
+    rw (q, drop-more s (pos + i) (omega arith)) (splice-cons 0 (at + i) (getD s (pos + i) 0) [] out (omega arith) ∙ splice-nil (at + i + 1) _)

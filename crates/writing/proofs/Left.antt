@@ -1,5 +1,5 @@
 -- Writing a message part by part: what is left of a writing, and how each write and each call goes on from there.
-use Prim.Native.Nat.{ℕ, _+_, _-_, _≤_}
+use Prim.Native.Nat.{ℕ, _+_, _≤_}
 use mathlib.Core.Path.{_≡_, refl, sym, ap, _∙_}
 use mathlib.Core.Bool.{Bool, true, false}
 use mathlib.Core.List.{List, [], _++_, append-nil}
@@ -45,7 +45,7 @@ module _ (F D r : List ℕ) where
   swapped-wrote A B (stopped n p) e = absurd (let z : _≡_ {A = ℕ} 0 1 = cc in omega arith)
   swapped-wrote A B (wrote F′ D′ r′) e = (F′, D′, cc, cc, cc)
 
-  pub next-wrote : (y : Writing) (k : List ℕ → List ℕ → Writing) → nextW y k ≡ wrote F D r
+  next-wrote : (y : Writing) (k : List ℕ → List ℕ → Writing) → nextW y k ≡ wrote F D r
       → (A : List ℕ) × (B : List ℕ) × (t : List ℕ) × (F′ : List ℕ) × (D′ : List ℕ) × (y ≡ wrote A B t) × (k B t ≡ wrote F′ D′ r) × (F ≡ A ++ F′) × (D ≡ B ++ D′)
   unfolding nextW
   next-wrote (stopped n p) k e = absurd (let z : _≡_ {A = ℕ} 0 1 = cc in omega arith)
@@ -57,10 +57,19 @@ module _ (F D r : List ℕ) where
   back-wrote (stopped n p) k e = absurd (let z : _≡_ {A = ℕ} 0 1 = cc in omega arith)
   back-wrote (wrote A B t) k e = let j = swapped-wrote A B (k B t) e in (A, B, t, j .0, j .1, refl, j .2, j .3, j .4)
 
+pub behind-opens : (y z : Writing) → Opens y z → Opens (behind y) (behind z)
+behind-opens y z o F D r e = let b = behind-wrote F D r y e in ap behind (o _ _ _ (b .2)) ∙ sym (ap behind (b .2)) ∙ e
+
 pub placed-is : (o : ℕ) (y : Writing) → placed o y ≡ headed (bytesOf 4 o) (behind y)
 unfolding placed headed behind
 placed-is o (stopped n p) = refl
 placed-is o (wrote X Y r) = ap (λ (F : List ℕ). wrote F (X ++ Y) r) (sym (append-nil (bytesOf 4 o)))
+
+-- nothing behind a writing
+pub next-none : (y : Writing) → nextW y (λ D r. wrote [] [] r) ≡ y
+unfolding nextW joined
+next-none (stopped n p) = refl
+next-none (wrote F D r) = rw (append-nil F, append-nil D)
 
 pub one-writing : (y : Writing) (F D r F′ D′ r′ : List ℕ) → y ≡ wrote F D r → y ≡ wrote F′ D′ r′ → (F ≡ F′) × (D ≡ D′) × (r ≡ r′)
 one-writing y F D r F′ D′ r′ e f = (cc, cc, cc)

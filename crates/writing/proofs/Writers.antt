@@ -19,11 +19,11 @@ use Rattle.schema.specs.declared.Tested.the-variants.{Flag, Millis, Nanos, Symb
 use Rattle.schema.proofs.Records.{fields-more, fields-none}
 use Rattle.schema.proofs.Types.{width-optional}
 use Rattle.message.proofs.Tests.{same-eq}
-use Rattle.message.specs.Sheet.{Mark, VA, markBytes, NO, kindMark, fieldMark}
+use Rattle.message.specs.Sheet.{Mark, VA, ST, markBytes, NO, kindMark, fieldMark}
 use Rattle.sheet.specs.Written.{Writing, stopped, wrote, Writer, InnerW, headed, nextW, placed, grab, due, noneW, thenW, markedW, optionalW, plainW, counted, inlineW, indirectW, textB, innerB, itemsW, listB, kindW, valueW, fieldW, fieldsW}
 use Rattle.writing.specs.Write.{behind, put, Fits, Stands}
 use Rattle.writing.proofs.Laws.{put-part}
-use Rattle.writing.proofs.Left.{Opens, need-wrote, headed-wrote, behind-wrote, placed-is, one-writing, Wide, wide-is, Left, begun, left-fits, first-fits, opened, finished, done, headed-left, behind-left, called}
+use Rattle.writing.proofs.Left.{Opens, need-wrote, headed-wrote, behind-wrote, placed-is, next-none, one-writing, Wide, wide-is, Left, begun, left-fits, first-fits, opened, finished, done, headed-left, behind-left, called}
 use Rattle.writing.proofs.Widths.{Wides, wide-headed, wides-items, wides-field}
 
 -- THE SHEET'S NEXT BYTES
@@ -44,7 +44,7 @@ module _ (pos : ℕ) (s : List ℕ) (F D r : List ℕ) where
 
 module _ (pos : ℕ) (s F D r : List ℕ) where
   -- a count and so many bytes
-  pub counted-wrote : (k : List ℕ → List ℕ → List ℕ → Writing) → counted (drop pos s) k ≡ wrote F D r
+  counted-wrote : (k : List ℕ → List ℕ → List ℕ → Writing) → counted (drop pos s) k ≡ wrote F D r
       → (pos + 4 ≤ length s) × (pos + (4 + le (part 4 pos s)) ≤ length s) × (k (part 4 pos s) (part (le (part 4 pos s)) (pos + 4) s) (drop (pos + (4 + le (part 4 pos s))) s) ≡ wrote F D r)
   unfolding counted
   counted-wrote k e =
@@ -258,13 +258,22 @@ module _ (x : Writing) (at₀ free₀ : ℕ) (out₀ : List ℕ) (least w : ℕ)
       let l = wide-is _ _ _ _ _ list-wide (p .2) in
       (list-inside, o .0, omega (arith, list-opened .room, ap length (p .4) ∙ length-append (p .0) (p .1), l))
 
-  pub list-left : (mid left : List ℕ) (p : ℕ) → mid ≡ splice 4 at (bytesOf 4 (free - at)) out → left ≡ splice 4 free (part 4 pos s) mid → p ≡ pos + 4
-      → Left x at₀ free₀ out₀ (itemsW w W n (free + 4) (free + (4 + n * w)) (drop p s)) (free + 4) (free + (4 + n * w)) left
-  list-left mid left p m l ip =
+  pub list-left : (mid left : List ℕ) (p items end : ℕ) → mid ≡ splice 4 at (bytesOf 4 (free - at)) out → left ≡ splice 4 free (part 4 pos s) mid → p ≡ pos + 4 → items ≡ free + 4 → end ≡ free + (4 + n * w)
+      → Left x at₀ free₀ out₀ (itemsW w W n items end (drop p s)) items end left
+  list-left mid left p items end m l ip ii ie =
       let b = behind-left x at₀ free₀ out₀ list (4 + n * w) (at + 4) free mid (offset-left x at₀ free₀ out₀ list at free out list-opened mid m) list-wide in
-      rw ip (headed-left x at₀ free₀ out₀ (part 4 pos s) _ 4 free (free + (4 + n * w)) mid left b (length-part 4 pos s list-inside) l)
+      rw (ip, ii, ie) (headed-left x at₀ free₀ out₀ (part 4 pos s) _ 4 free (free + (4 + n * w)) mid left b (length-part 4 pos s list-inside) l)
 
 -- ITEMS AND FIELDS, ONE BY ONE
+
+-- one item by itself
+items-one : (w : ℕ) (W : Writer) (at free : ℕ) (r : List ℕ) → itemsW w W 1 at free r ≡ W at free r
+unfolding itemsW noneW
+items-one w W at free r = next-none (W at free r)
+
+pub one-left : (x : Writing) (at₀ free₀ : ℕ) (out₀ : List ℕ) (w : ℕ) (W : Writer) (at free pos : ℕ) (s out : List ℕ) → Left x at₀ free₀ out₀ (W at free (drop pos s)) at free out
+    → (left : List ℕ) (n p items end : ℕ) → left ≡ out → n ≡ 1 → p ≡ pos → items ≡ at → end ≡ free → Left x at₀ free₀ out₀ (itemsW w W n items end (drop p s)) items end left
+one-left x at₀ free₀ out₀ w W at free pos s out L left n p items end il in′ ip ii ie = rw (il, in′, ip, ii, ie) (opened x at₀ free₀ out₀ _ at free out L _ (same-opens _ _ (sym (items-one w W at free (drop pos s)))))
 
 module _ (x : Writing) (at₀ free₀ : ℕ) (out₀ : List ℕ) (n i at free pos : ℕ) (s out : List ℕ) where
   module _ (w : ℕ) (W : Writer) (L : Left x at₀ free₀ out₀ (itemsW w W (n - i) at free (drop pos s)) at free out) where
@@ -322,9 +331,6 @@ module _ (I : InnerW) (sw : ℕ → ℕ) (S : ℕ → Writer) (f : Field) (at fr
   unfolding fieldW fieldMark valueW valueWidth
   field-optional e = rw e
 
-  pub field-always : f .optional ≡ false → Opens whole (valueW I sw S f at free (drop (pos + 2) s))
-  field-always o F D r e = marked-opens (fieldMark f) (valueW I sw S f) at free pos s F D r (sym (field-required o) ∙ e)
-
   pub field-absent : f .optional ≡ true → same (part 2 pos s) NO ≡ true → whole ≡ wrote (0 ∷ replicate (valueWidth sw f) 0) [] (drop (pos + 2) s)
   unfolding optionalW
   field-absent o e = field-optional o ∙ rw (e, drop-drop 2 pos s)
@@ -364,19 +370,23 @@ module _ (I : InnerW) (sw : ℕ → ℕ) (S : ℕ → Writer) (f : Field) (at fr
           let q = headed-wrote _ _ _ _ _ (sym (field-present o e) ∙ h .is) in
           omega (arith, h .before, h .room, ap length (q .2))
 
-      pub present-left : same (part 2 pos s) NO ≡ false → (mid : List ℕ) → mid ≡ splice 1 at (1 ∷ []) out → Left whole at free out (valueW I sw S f (at + 1) free (drop (pos + 2) s)) (at + 1) free mid
-      present-left e mid m =
+      pub present-left : same (part 2 pos s) NO ≡ false → (mid : List ℕ) (place : ℕ) → mid ≡ splice 1 at (1 ∷ []) out → place ≡ at + 1 → Left whole at free out (markedW (fieldMark f) (valueW I sw S f) place free (drop pos s)) place free mid
+      present-left e mid place m i =
           let L = opened _ at free out _ at free out (begun _ at free out h) _ (same-opens _ _ (field-present o e)) in
-          opened _ at free out _ (at + 1) free mid (headed-left _ at free out (1 ∷ []) _ 1 at free out mid L refl m) _ (marked-opens (fieldMark f) (valueW I sw S f) (at + 1) free pos s)
+          rw i (headed-left _ at free out (1 ∷ []) _ 1 at free out mid L refl m)
 
-module _ (I : InnerW) (sw : ℕ → ℕ) (S : ℕ → Writer) (f : Field) (at free : ℕ) (r : List ℕ) (k : Kind) (ik : k ≡ f .kind) where
-  pub value-one : f .sequence ≡ false → valueW I sw S f at free r ≡ kindW I S k at free r
-  unfolding valueW
+    pub required-left : f .optional ≡ false → (mid : List ℕ) (place : ℕ) → mid ≡ out → place ≡ at → Left whole at free out (markedW (fieldMark f) (valueW I sw S f) place free (drop pos s)) place free mid
+    required-left o mid place m i = rw (m, i) (opened _ at free out _ at free out (begun _ at free out h) _ (same-opens _ _ (field-required o)))
+
+-- a value with its mark: one item, or a list behind it
+module _ (I : InnerW) (sw : ℕ → ℕ) (S : ℕ → Writer) (f : Field) (at free pos : ℕ) (s : List ℕ) (k : Kind) (ik : k ≡ f .kind) where
+  pub value-one : f .sequence ≡ false → markedW (fieldMark f) (valueW I sw S f) at free (drop pos s) ≡ markedW (kindMark k) (kindW I S k) at free (drop pos s)
+  unfolding valueW fieldMark
   value-one e = rw (e, ik)
 
-  pub value-list : f .sequence ≡ true → (w : ℕ) → w ≡ kindWidth sw k → valueW I sw S f at free r ≡ indirectW (listB 0 w (markedW (kindMark k) (kindW I S k))) at free r
+  pub value-list : f .sequence ≡ true → (w : ℕ) → w ≡ kindWidth sw k → Opens (markedW (fieldMark f) (valueW I sw S f) at free (drop pos s)) (indirectW (listB 0 w (markedW (kindMark k) (kindW I S k))) at free (drop (pos + 2) s))
   unfolding valueW
-  value-list e w i = rw (e, i, ik)
+  value-list e w i F D r q = let v = marked-opens (fieldMark f) (valueW I sw S f) at free pos s F D r q in rw (i, ik) (rw e at v)
 
 -- KINDS, AS THE CODE SEES THEM
 
@@ -416,8 +426,21 @@ pub items-plain : (I : InnerW) (sw : ℕ → ℕ) (S : ℕ → Writer) (es : Lis
 unfolding kindFrom kindWidth kindMark kindW
 items-plain I sw S es kind c w n at free r e i = let q : w ≡ c = i ∙ rw e in rw (q, e)
 
--- a text is a count and so many bytes
+pub items-text : (I : InnerW) (sw : ℕ → ℕ) (S : ℕ → Writer) (es : List (List ℕ)) (kind : FieldKind) (u : Bool) (w n at free : ℕ) (r : List ℕ) → kind ≡ Indirect u → w ≡ kindWidth sw (kindFrom es kind)
+    → itemsW w (markedW (kindMark (kindFrom es kind)) (kindW I S (kindFrom es kind))) n at free r ≡ itemsW 4 (markedW ST (indirectW (textB u))) n at free r
+unfolding kindFrom kindWidth kindMark kindW
+items-text I sw S es kind u w n at free r e i = let q : w ≡ 4 = i ∙ rw e in rw (q, e)
+
+-- a text is a count and so many bytes, behind its mark or with it
+text-counted : (u : Bool) (at free pos : ℕ) (s : List ℕ)
+    → (k : List ℕ → List ℕ → List ℕ → Writing) × ((c v t : List ℕ) → Opens (k c v t) (wrote (c ++ v) [] t)) × (indirectW (textB u) at free (drop pos s) ≡ placed (free - at) (counted (drop pos s) k))
+unfolding indirectW textB
+text-counted u at free pos s = (_, (λ c v t F D r e. need-wrote F D r _ _ _ _ e .1), refl)
+
 pub text-opens : (I : InnerW) (S : ℕ → Writer) (es : List (List ℕ)) (kind : FieldKind) (at free pos : ℕ) (s : List ℕ) (u : Bool) → kind ≡ Indirect u
     → (k : List ℕ → List ℕ → List ℕ → Writing) × ((c v t : List ℕ) → Opens (k c v t) (wrote (c ++ v) [] t)) × Opens (kindW I S (kindFrom es kind) at free (drop pos s)) (placed (free - at) (counted (drop pos s) k))
-unfolding indirectW textB
-text-opens I S es kind at free pos s u i = (_, (λ c v t F D r e. need-wrote F D r _ _ _ _ e .1), same-opens _ _ (kind-text I S es kind at free (drop pos s) u i))
+text-opens I S es kind at free pos s u i = let x = text-counted u at free pos s in (x .0, x .1, same-opens _ _ (kind-text I S es kind at free (drop pos s) u i ∙ x .2))
+
+pub record-text : (u : Bool) (at free pos : ℕ) (s : List ℕ)
+    → (k : List ℕ → List ℕ → List ℕ → Writing) × ((c v t : List ℕ) → Opens (k c v t) (wrote (c ++ v) [] t)) × Opens (markedW ST (indirectW (textB u)) at free (drop pos s)) (placed (free - at) (counted (drop (pos + 2) s) k))
+record-text u at free pos s = let x = text-counted u at free (pos + 2) s in (x .0, x .1, λ F D r e. sym (x .2) ∙ marked-opens ST (indirectW (textB u)) at free pos s F D r e)

@@ -1,6 +1,7 @@
 -- What the code that writes a message asks of its callers and what it leaves. The sheet was checked before, so nothing is tested:
 -- every bound comes from the writing that there is.
 use mathlib.Core.Path.{_≡_}
+use mathlib.Core.Bool.{Bool}
 use mathlib.Core.List.{List, [], _++_}
 use Prim.Native.Nat.{ℕ, _+_, _≤_}
 use lib.ListN.{length, drop}
@@ -9,9 +10,9 @@ use Rattle.schema.specs.Schema.{any}
 use Rattle.schema.specs.Table.{fieldAt, enums, schema}
 use Rattle.schema.specs.FieldKinds.{kindFrom}
 use Rattle.schema.specs.declared.FieldKind.{FieldKind}
-use Rattle.message.specs.Sheet.{VA, kindMark}
+use Rattle.message.specs.Sheet.{VA, ST, kindMark, fieldMark}
 use Rattle.message.specs.Check.{widthOf}
-use Rattle.sheet.specs.Written.{Writing, stopped, wrote, Writer, InnerW, markedW, plainW, indirectW, innerB, kindW, valueW, fieldW, staticW, extendingB, extensionW, groupW}
+use Rattle.sheet.specs.Written.{Writing, stopped, wrote, Writer, InnerW, markedW, plainW, indirectW, textB, innerB, kindW, valueW, fieldW, staticW, extendingB, extensionW, bodyW, groupW}
 
 -- WRITERS, AS THE CODE CALLS THEM
 -- by the table t, the levels left below the group, the static depth below which it lies, and where the field's record stands
@@ -19,11 +20,17 @@ use Rattle.sheet.specs.Written.{Writing, stopped, wrote, Writer, InnerW, marked
 abbrev pub innerOf : List ℕ → ℕ → InnerW
 innerOf t levels = groupW (schema t) levels
 
+abbrev pub bodyOf : List ℕ → ℕ → ℕ → List ℕ → List ℕ → Writing
+bodyOf t levels = bodyW (schema t) (innerOf t levels)
+
 abbrev pub staticOf : List ℕ → ℕ → ℕ → ℕ → Writer
 staticOf t levels d = staticW (schema t) (innerOf t levels) d
 
 abbrev pub plainOf : ℕ → Writer
 plainOf w = markedW VA (plainW w any)
+
+abbrev pub textOf : Bool → Writer
+textOf u = markedW ST (indirectW (textB u))
 
 -- a value behind its mark, and an item with its mark
 abbrev pub kindOf : List ℕ → ℕ → ℕ → FieldKind → Writer
@@ -32,9 +39,11 @@ kindOf t levels depth kind = kindW (innerOf t levels) (staticOf t levels depth) 
 abbrev pub itemOf : List ℕ → ℕ → ℕ → FieldKind → Writer
 itemOf t levels depth kind = markedW (kindMark (kindFrom (enums t) kind)) (kindOf t levels depth kind)
 
--- a field's value behind its mark, and the field
+-- a field's value with its mark, and the field
 abbrev pub valueOf : List ℕ → ℕ → ℕ → ℕ → Writer
-valueOf t levels depth field = valueW (innerOf t levels) (widthOf t depth) (staticOf t levels depth) (fieldAt (enums t) (drop field t))
+valueOf t levels depth field =
+    let f = fieldAt (enums t) (drop field t) in
+    markedW (fieldMark f) (valueW (innerOf t levels) (widthOf t depth) (staticOf t levels depth) f)
 
 abbrev pub fieldOf : List ℕ → ℕ → ℕ → ℕ → Writer
 fieldOf t levels depth field = fieldW (innerOf t levels) (widthOf t depth) (staticOf t levels depth) (fieldAt (enums t) (drop field t))

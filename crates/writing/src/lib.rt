@@ -5,7 +5,7 @@
 // places count from its first byte: `at` is where bytes in place go, `free` is the first free place of
 // the data area, and `pos` is where the sheet goes on.
 ghost use mathlib.Core.Path.{_≡_};
-ghost use mathlib.Core.Bool.{true};
+ghost use mathlib.Core.Bool.{Bool, true};
 ghost use mathlib.Core.List.{List, [], _∷_, _++_};
 ghost use Prim.Native.Nat.{ℕ, _+_, _-_, _*_, _<_, _≤_};
 ghost use lib.ListN.{length, drop, replicate};
@@ -16,7 +16,7 @@ ghost use Rattle.schema.specs.Layout.{Layout};
 ghost use Rattle.schema.specs.FieldKinds.{kindFrom};
 ghost use Rattle.message.specs.Check.{widthOf};
 ghost use Rattle.sheet.specs.Written.{wrote, itemsW, sheetW};
-ghost use Rattle.writing.specs.Write.{innerOf, staticOf, plainOf, kindOf, itemOf, valueOf, fieldOf, nestedOf, extensionOf, extendingOf, behind, Fits, Stands};
+ghost use Rattle.writing.specs.Write.{innerOf, bodyOf, staticOf, plainOf, textOf, kindOf, itemOf, valueOf, fieldOf, nestedOf, extensionOf, extendingOf, behind, Fits, Stands};
 
 const XT: [u8; 2] = *b"XT";
 
@@ -42,9 +42,26 @@ fn write_words(sheet: &[u8], pos: usize, n: usize, at: usize, out: &mut [u8])
         wire::write_u64(out, at + i, wire::read_u64(sheet, pos + i));
         i += 8;
     }
-    let from = pos + i;
-    let end = pos + n;
-    wire::copy(out, at + i, &sheet[from..end]);
+    write_rest(sheet, pos + i, n - i, at + i, out);
+}
+
+// Fewer than eight bytes.
+fn write_rest(sheet: &[u8], pos: usize, n: usize, at: usize, out: &mut [u8])
+    requires { ⌜ (n < 8) × (pos + n ≤ length (now sheet)) × (at + n ≤ length (now out)) ⌝ }
+    ensures { λ _. ⌜ now (out .exit) ≡ splice n at (part n pos (now (sheet .entry))) (now (out .entry)) ⌝ }
+{
+    let mut i = 0;
+    if 4 <= n {
+        wire::write_u32(out, at, wire::read_u32(sheet, pos));
+        i = 4;
+    }
+    if 2 <= n - i {
+        wire::write_u16(out, at + i, wire::read_u16(sheet, pos + i));
+        i += 2;
+    }
+    if i < n {
+        out[at + i] = sheet[pos + i];
+    }
 }
 
 // n bytes of the sheet; most numbers have four or eight.
@@ -92,6 +109,35 @@ fn write_text(sheet: &[u8], pos: usize, at: usize, free: usize, out: &mut [u8]) 
     }
 }
 
+// So many texts in a row, each behind its mark.
+fn write_texts(
+    sheet: &[u8],
+    pos: usize,
+    total: usize,
+    at: usize,
+    free: usize,
+    out: &mut [u8],
+) -> Ends
+    requires { ⌜ ((utf8 : Bool) × Fits (itemsW 4 (textOf utf8) total at free (drop pos (now sheet))) at free (now out)) ⌝ }
+    ensures { λ r. ⌜ ((utf8 : Bool) → Fits (itemsW 4 (textOf utf8) total at free (drop pos (now (sheet .entry)))) at free (now (out .entry)) → Stands (itemsW 4 (textOf utf8) total at free (drop pos (now (sheet .entry)))) at free (now (sheet .entry)) (now (out .entry)) (now (out .exit)) (r .pos) (r .free)) ⌝ }
+{
+    let mut i = 0;
+    let mut place = at;
+    let mut next = pos;
+    let mut end = free;
+    while i < total {
+        let text = write_text(sheet, next + 2, place, end, out);
+        next = text.pos;
+        end = text.free;
+        place += 4;
+        i += 1;
+    }
+    Ends {
+        pos: next,
+        free: end,
+    }
+}
+
 // So many plain values in a row, each behind its mark.
 fn write_plain(
     sheet: &[u8],
@@ -99,11 +145,10 @@ fn write_plain(
     width: usize,
     total: usize,
     at: usize,
-    free: usize,
     out: &mut [u8],
 ) -> usize
-    requires { ⌜ Fits (itemsW width (plainOf width) total at free (drop pos (now sheet))) at free (now out) ⌝ }
-    ensures { λ r. ⌜ Stands (itemsW width (plainOf width) total at free (drop pos (now (sheet .entry)))) at free (now (sheet .entry)) (now (out .entry)) (now (out .exit)) r free ⌝ }
+    requires { ⌜ ((free : ℕ) × Fits (itemsW width (plainOf width) total at free (drop pos (now sheet))) at free (now out)) ⌝ }
+    ensures { λ r. ⌜ ((free : ℕ) → Fits (itemsW width (plainOf width) total at free (drop pos (now (sheet .entry)))) at free (now (out .entry)) → Stands (itemsW width (plainOf width) total at free (drop pos (now (sheet .entry)))) at free (now (sheet .entry)) (now (out .entry)) (now (out .exit)) r free) ⌝ }
 {
     let mut i = 0;
     let mut place = at;
@@ -132,11 +177,26 @@ fn write_group(
 {
     let total = schema::group_total(index);
     let group = schema::find(table, index, total, wire::read_u64(sheet, pos));
-    let deeper = levels - 1;
+    write_body(table, index, sheet, levels - 1, group, pos, out)
+}
+
+// Its head, its fields and its extension, with so many levels left below it.
+fn write_body(
+    table: &[u8],
+    index: &[u16],
+    sheet: &[u8],
+    levels: usize,
+    group: usize,
+    pos: usize,
+    out: &mut [u8],
+) -> Ends
+    requires { ⌜ (Layout (now table) (now index)) × (group < length (schema (now table))) × (pos + 8 ≤ length (now sheet)) × (Fits (behind (bodyOf (now table) levels group (part 8 pos (now sheet)) (drop (pos + 8) (now sheet)))) 0 0 (now out)) ⌝ }
+    ensures { λ r. ⌜ Stands (behind (bodyOf (now (table .entry)) levels group (part 8 pos (now (sheet .entry))) (drop (pos + 8) (now (sheet .entry))))) 0 0 (now (sheet .entry)) (now (out .entry)) (now (out .exit)) (r .pos) (r .free) ⌝ }
+{
     let area = 16 + schema::group_width(index, group);
     let next = write_bytes(sheet, pos, 8, 4, out);
-    let fields = write_fields(table, index, sheet, deeper, 5, group, next, 16, area, out);
-    let ends = write_extension(table, index, sheet, deeper, fields.pos, fields.free, out);
+    let fields = write_fields(table, index, sheet, levels, 5, group, next, 16, area, out);
+    let ends = write_extension(table, index, sheet, levels, fields.pos, fields.free, out);
     wire::write_u32(out, 0, ends.free - 4);
     Ends {
         pos: ends.pos + 2,
@@ -219,29 +279,15 @@ fn write_field(
     requires { ⌜ (Layout (now table) (now index)) × (field + 16 ≤ length (now table)) × (shallowKind (shallow (schema (now table)) depth) (widthOf (now table) depth) (fieldAt (enums (now table)) (drop field (now table)) .kind) ≡ true) × (Fits (fieldOf (now table) levels depth field at free (drop pos (now sheet))) at free (now out)) ⌝ }
     ensures { λ r. ⌜ Stands (fieldOf (now (table .entry)) levels depth field at free (drop pos (now (sheet .entry)))) at free (now (sheet .entry)) (now (out .entry)) (now (out .exit)) (r .pos) (r .free) ⌝ }
 {
-    let next = pos + 2;
+    let mut place = at;
     if schema::is_optional(table, field) {
         if wire::has_mark(sheet, pos, NO) {
             let width = schema::field_width(table, index, field);
             wire::fill(out, at, width, 0);
-            return Ends {
-                pos: next,
-                free: free,
-            };
+            return Ends { pos: pos + 2, free };
         }
         wire::fill(out, at, 1, 1);
-        return write_value(
-            table,
-            index,
-            sheet,
-            levels,
-            depth,
-            field,
-            next,
-            at + 1,
-            free,
-            out,
-        );
+        place += 1;
     }
     write_value(
         table,
@@ -250,14 +296,14 @@ fn write_field(
         levels,
         depth,
         field,
-        next,
-        at,
+        pos,
+        place,
         free,
         out,
     )
 }
 
-// Its value, behind the mark.
+// Its value, with the mark: the items of a sequence, or one.
 fn write_value(
     table: &[u8],
     index: &[u16],
@@ -270,33 +316,36 @@ fn write_value(
     free: usize,
     out: &mut [u8],
 ) -> Ends
-    requires { ⌜ (Layout (now table) (now index)) × (field + 16 ≤ length (now table)) × (shallowKind (shallow (schema (now table)) depth) (widthOf (now table) depth) (fieldAt (enums (now table)) (drop field (now table)) .kind) ≡ true) × (pos ≤ length (now sheet)) × (Fits (valueOf (now table) levels depth field at free (drop pos (now sheet))) at free (now out)) ⌝ }
+    requires { ⌜ (Layout (now table) (now index)) × (field + 16 ≤ length (now table)) × (shallowKind (shallow (schema (now table)) depth) (widthOf (now table) depth) (fieldAt (enums (now table)) (drop field (now table)) .kind) ≡ true) × (Fits (valueOf (now table) levels depth field at free (drop pos (now sheet))) at free (now out)) ⌝ }
     ensures { λ r. ⌜ Stands (valueOf (now (table .entry)) levels depth field at free (drop pos (now (sheet .entry)))) at free (now (sheet .entry)) (now (out .entry)) (now (out .exit)) (r .pos) (r .free) ⌝ }
 {
     let kind = schema::kind_at(table, field);
+    let width = schema::kind_width(index, kind);
+    let mut total = 1;
+    let mut next = pos;
+    let mut items = at;
+    let mut end = free;
     if schema::is_sequence(table, field) {
-        let width = schema::kind_width(index, kind);
-        let total = wire::read_u32(sheet, pos);
+        total = wire::read_u32(sheet, pos + 2);
         wire::write_u32(out, at, free - at);
-        let next = write_bytes(sheet, pos, 4, free, out);
-        let items = free + 4;
-        let end = free + (4 + total * width);
-        return write_items(
-            table,
-            index,
-            sheet,
-            levels,
-            depth,
-            kind,
-            width,
-            total,
-            next,
-            items,
-            end,
-            out,
-        );
+        next = write_bytes(sheet, pos + 2, 4, free, out);
+        items = free + 4;
+        end = free + (4 + total * width);
     }
-    write_item(table, index, sheet, levels, depth, kind, pos, at, free, out)
+    write_items(
+        table,
+        index,
+        sheet,
+        levels,
+        depth,
+        kind,
+        width,
+        total,
+        next,
+        items,
+        end,
+        out,
+    )
 }
 
 // So many items, each of `width` bytes and behind its mark. What hangs on them follows in item order.
@@ -318,11 +367,11 @@ fn write_items(
     ensures { λ r. ⌜ Stands (itemsW width (itemOf (now (table .entry)) levels depth kind) total at free (drop pos (now (sheet .entry)))) at free (now (sheet .entry)) (now (out .entry)) (now (out .exit)) (r .pos) (r .free) ⌝ }
 {
     if let schema::FieldKind::Plain { width: plain } = kind {
-        let last = write_plain(sheet, pos, wire::wide(plain), total, at, free, out);
-        return Ends {
-            pos: last,
-            free: free,
-        };
+        let last = write_plain(sheet, pos, wire::wide(plain), total, at, out);
+        return Ends { pos: last, free };
+    }
+    if let schema::FieldKind::Indirect { utf8 } = kind {
+        return write_texts(sheet, pos, total, at, free, out);
     }
     let mut i = 0;
     let mut place = at;
@@ -372,25 +421,16 @@ fn write_item(
     match kind {
         schema::FieldKind::Plain { width } => {
             let next = write_bytes(sheet, pos, wire::wide(width), at, out);
-            Ends {
-                pos: next,
-                free: free,
-            }
+            Ends { pos: next, free }
         }
         schema::FieldKind::Number { tested } => {
             let width = wire::wide(schema::tested_width(tested));
             let next = write_bytes(sheet, pos, width, at, out);
-            Ends {
-                pos: next,
-                free: free,
-            }
+            Ends { pos: next, free }
         }
         schema::FieldKind::Inline { utf8, capacity } => {
             let next = write_inline(sheet, pos, wire::wide(capacity), at, out);
-            Ends {
-                pos: next,
-                free: free,
-            }
+            Ends { pos: next, free }
         }
         schema::FieldKind::Indirect { utf8 } => write_text(sheet, pos, at, free, out),
         schema::FieldKind::Static { group } => write_fields(
@@ -463,10 +503,7 @@ fn write_extension(
         return write_groups(table, index, sheet, levels, total, next, items, end, out);
     }
     wire::write_u32(out, 12, 0);
-    Ends {
-        pos: pos,
-        free: free,
-    }
+    Ends { pos, free }
 }
 
 fn write_groups(

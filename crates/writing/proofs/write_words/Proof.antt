@@ -1,10 +1,10 @@
 use borrow.Author.Needs.{needs}
 use Prim.Native.Nat.{_+_, _-_, _≤_}
-use mathlib.Core.Path.{_≡_, sym, _∙_}
+use mathlib.Core.Path.{_≡_, refl, sym, _∙_}
 use native.Mathlib.Omega.{arith}
 use lib.ListN.{length}
 use Rattle.wire.specs.Bytes.{part, splice}
-use Rattle.writing.proofs.Laws.{words-start, words-next, words-end}
+use Rattle.writing.proofs.Laws.{words-start, words-next}
 use Rattle.writing.proofs.write_words.Statement.{statement}
 use Rattle.writing.proofs.write_words.Tie as tie
 
@@ -18,12 +18,11 @@ loop-holds : tie.Need-loop-holds Inv-loop μ-loop
 loop-holds c = let a = c .before .before .args in (search needs, search needs, words-start (a .n) (a .pos) (a .at) (a .sheet .now) (a .out .now))
 
 loop-again : tie.Need-loop-again Inv-loop μ-loop
-loop-again c = let a = c .before .before .before .before .before .before .before .before .before .args in let l = c .before .before .before .before .before .before .loop in
-    (search needs, search needs, l .inv .2 ∙ words-next (a .n) (l .i) (a .pos) (a .at) (a .sheet .now) _ (c .before .before .before .before .before .before .before .before .before .pre .0) (omega (arith, c .before .before .before .before .before .before .before .before .before .pre .1, l .inv .1)) (c .before .before .before .before .before .loop-test .taken) _ _ (c .before .before .before .read-u64 .ensures) (c .before .before .write-u64 .ensures) (λ k. omega (arith, c .before .before .before .before .before .before .before .before .shared-slice-known .given k)))
+loop-again c = let a = c .before .before .before .before .before .before .before .before .before .args in let R = c .before .before .before .before .before .before .before .before .before .pre in let l = c .before .before .before .before .before .before .loop in
+    (search needs, search needs, l .inv .2 ∙ words-next (a .n) (l .i) 8 _ (a .pos) (a .at) _ (a .sheet .now) _ _ refl (omega (arith, c .before .before .before .before .before .loop-test .taken)) (R .0) (omega (arith, R .1, l .inv .1)) (c .before .before .before .read-u64 .ensures) (c .before .before .write-u64 .ensures) (λ k. omega (arith, c .before .before .before .before .before .before .before .before .shared-slice-known .given k)))
 
 returns : tie.Need-returns Inv-loop μ-loop
-returns c = let a = c .before .before .before .before .before .before .before .before .before .args in let l = c .before .before .before .before .before .before .loop in
-    words-end (a .n) (l .i) (a .pos) (a .at) (a .sheet .now) _ (c .before .before .before .before .before .before .before .before .before .pre .0) (omega (arith, c .before .before .before .before .before .before .before .before .before .pre .1, l .inv .1)) (l .inv .0) _ (c .before .before .copy .ensures) ∙ sym (l .inv .2)
+returns c = c .before .before .write-rest .ensures ∙ sym (c .before .before .before .before .before .loop .inv .2)
 
 pub write-words-spec : {M : Type 1} → statement M
 write-words-spec =
@@ -40,9 +39,6 @@ write-words-spec =
     (λ c. search needs)
     (λ c. search needs)
     loop-again
-    (λ c. search needs)
-    (λ c. search needs)
-    (λ c. search needs)
     (λ c. search needs)
     (λ c. search needs)
     (λ c. search needs)

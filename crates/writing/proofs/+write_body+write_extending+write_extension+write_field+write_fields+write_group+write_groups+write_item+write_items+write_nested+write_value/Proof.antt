@@ -4,12 +4,13 @@ use native.Mathlib.Omega.{arith}
 use native.Mathlib.Nat.{sub-zero}
 use mathlib.Core.Path.{_≡_, sym, _∙_, refl, ap}
 use mathlib.Core.Bool.{true}
+use mathlib.Core.Logic.{⊎-elim}
 use mathlib.Core.List.{[]}
 use lib.ListN.{length, drop}
 use lib.Dec.{leb}
 use Rattle.wire.specs.Bytes.{part, le, bytesOf, same}
 use Rattle.wire.proofs.Laws.{length-bytes, length-splice}
-use Rattle.schema.specs.Schema.{shallowFields, shallow, find, any}
+use Rattle.schema.specs.Schema.{shallowKind, shallowFields, shallow, kindWidth, find, any}
 use Rattle.schema.specs.Table.{fieldAt, fieldsAt, enums, schema}
 use Rattle.schema.specs.FieldKinds.{kindFrom}
 use Rattle.schema.specs.declared.FieldKind.the-variants.{Plain}
@@ -19,46 +20,49 @@ use Rattle.schema.proofs.Depth.{and-both, shallow-some, shallow-cons, wide-kind
 use Rattle.message.specs.Sheet.{VA, kindMark}
 use Rattle.message.specs.Check.{widthOf}
 use Rattle.message.proofs.CheckFields.{plain-wide, kind-static, start-inside, start-shallow}
-use Rattle.sheet.specs.Written.{itemsW, fieldsW, markedW, kindW}
+use Rattle.sheet.specs.Written.{indirectW, listB, itemsW, fieldsW}
 use Rattle.sheet.proofs.ShowReaders.{is-XT, is-XU}
-use Rattle.writing.specs.Write.{innerOf, staticOf, kindOf, itemOf, extendingOf}
+use Rattle.writing.specs.Write.{innerOf, staticOf, kindOf, itemOf, valueOf, fieldOf, extendingOf, Fits}
 use Rattle.writing.proofs.Left.{wide-is, Left, begun, opened, left-fits, finished, fits-opens, stands-opens}
 use Rattle.writing.proofs.Widths.{Wides, wides-indirect, wides-marked, wides-kind, wides-field, wides-static, wides-extension}
-use Rattle.writing.proofs.Writers.{same-opens, marked-opens, marked-inside, in-place, plain-room, plain-stands, record-room, record-stands, inline-room, inline-stands, text-room, text-stands, list-room, list-left, item-fits, items-next, items-done, field-fits, fields-next, fields-done, field-always, field-plain, field-inside, absent-room, absent-stands, present-room, present-left, value-one, value-list, kind-plain, kind-number, kind-inline, kind-fields, kind-dynamic, items-plain, text-opens}
-use Rattle.writing.proofs.Groups.{extension-none, extension-some, extending-kept, extending-inner, extending-inside, group-levels, group-inside, group-known, group-start, fields-fits, extension-fits, extension-mark, contents-stand, group-closes, group-room, group-stands, nested-room, nested-fits, nested-end, nested-stands, static-start}
+use Rattle.writing.proofs.Writers.{same-opens, marked-opens, marked-inside, in-place, plain-room, plain-stands, record-room, record-stands, inline-room, inline-stands, text-room, text-stands, list-room, list-left, one-left, item-fits, items-next, items-done, field-fits, fields-next, fields-done, field-plain, field-inside, absent-room, absent-stands, present-room, present-left, required-left, value-one, value-list, kind-plain, kind-number, kind-inline, kind-fields, kind-dynamic, items-plain, items-text, text-opens}
+use Rattle.writing.proofs.Groups.{extension-none, extension-some, extending-kept, extending-inner, extending-inside, group-begins, group-opens, body-start, fields-fits, extension-fits, extension-mark, contents-stand, body-closes, body-room, body-stands, nested-room, nested-fits, nested-end, nested-stands, static-start}
 use Prim.Native.Nat.{ℕ, _<_}
 use borrow.Fn.Kinds.{In}
 use borrow.Fn.PlainCycle.{Measures, is, falls, and}
+use Rattle.writing.proofs.write_body.Reads as write-body
+use Rattle.writing.proofs.write_body.Kinds as write-body-kinds
+use Rattle.writing.proofs.+write_body+write_extending+write_extension+write_field+write_fields+write_group+write_groups+write_item+write_items+write_nested+write_value.Lts-write_body as write-body-lts
 use Rattle.writing.proofs.write_extending.Reads as write-extending
 use Rattle.writing.proofs.write_extending.Kinds as write-extending-kinds
-use Rattle.writing.proofs.+write_extending+write_extension+write_field+write_fields+write_group+write_groups+write_item+write_items+write_nested+write_value.Lts-write_extending as write-extending-lts
+use Rattle.writing.proofs.+write_body+write_extending+write_extension+write_field+write_fields+write_group+write_groups+write_item+write_items+write_nested+write_value.Lts-write_extending as write-extending-lts
 use Rattle.writing.proofs.write_extension.Reads as write-extension
 use Rattle.writing.proofs.write_extension.Kinds as write-extension-kinds
-use Rattle.writing.proofs.+write_extending+write_extension+write_field+write_fields+write_group+write_groups+write_item+write_items+write_nested+write_value.Lts-write_extension as write-extension-lts
+use Rattle.writing.proofs.+write_body+write_extending+write_extension+write_field+write_fields+write_group+write_groups+write_item+write_items+write_nested+write_value.Lts-write_extension as write-extension-lts
 use Rattle.writing.proofs.write_field.Reads as write-field
 use Rattle.writing.proofs.write_field.Kinds as write-field-kinds
-use Rattle.writing.proofs.+write_extending+write_extension+write_field+write_fields+write_group+write_groups+write_item+write_items+write_nested+write_value.Lts-write_field as write-field-lts
+use Rattle.writing.proofs.+write_body+write_extending+write_extension+write_field+write_fields+write_group+write_groups+write_item+write_items+write_nested+write_value.Lts-write_field as write-field-lts
 use Rattle.writing.proofs.write_fields.Reads as write-fields
 use Rattle.writing.proofs.write_fields.Kinds as write-fields-kinds
-use Rattle.writing.proofs.+write_extending+write_extension+write_field+write_fields+write_group+write_groups+write_item+write_items+write_nested+write_value.Lts-write_fields as write-fields-lts
+use Rattle.writing.proofs.+write_body+write_extending+write_extension+write_field+write_fields+write_group+write_groups+write_item+write_items+write_nested+write_value.Lts-write_fields as write-fields-lts
 use Rattle.writing.proofs.write_group.Reads as write-group
 use Rattle.writing.proofs.write_group.Kinds as write-group-kinds
-use Rattle.writing.proofs.+write_extending+write_extension+write_field+write_fields+write_group+write_groups+write_item+write_items+write_nested+write_value.Lts-write_group as write-group-lts
+use Rattle.writing.proofs.+write_body+write_extending+write_extension+write_field+write_fields+write_group+write_groups+write_item+write_items+write_nested+write_value.Lts-write_group as write-group-lts
 use Rattle.writing.proofs.write_groups.Reads as write-groups
 use Rattle.writing.proofs.write_groups.Kinds as write-groups-kinds
-use Rattle.writing.proofs.+write_extending+write_extension+write_field+write_fields+write_group+write_groups+write_item+write_items+write_nested+write_value.Lts-write_groups as write-groups-lts
+use Rattle.writing.proofs.+write_body+write_extending+write_extension+write_field+write_fields+write_group+write_groups+write_item+write_items+write_nested+write_value.Lts-write_groups as write-groups-lts
 use Rattle.writing.proofs.write_item.Reads as write-item
 use Rattle.writing.proofs.write_item.Kinds as write-item-kinds
-use Rattle.writing.proofs.+write_extending+write_extension+write_field+write_fields+write_group+write_groups+write_item+write_items+write_nested+write_value.Lts-write_item as write-item-lts
+use Rattle.writing.proofs.+write_body+write_extending+write_extension+write_field+write_fields+write_group+write_groups+write_item+write_items+write_nested+write_value.Lts-write_item as write-item-lts
 use Rattle.writing.proofs.write_items.Reads as write-items
 use Rattle.writing.proofs.write_items.Kinds as write-items-kinds
-use Rattle.writing.proofs.+write_extending+write_extension+write_field+write_fields+write_group+write_groups+write_item+write_items+write_nested+write_value.Lts-write_items as write-items-lts
+use Rattle.writing.proofs.+write_body+write_extending+write_extension+write_field+write_fields+write_group+write_groups+write_item+write_items+write_nested+write_value.Lts-write_items as write-items-lts
 use Rattle.writing.proofs.write_nested.Reads as write-nested
 use Rattle.writing.proofs.write_nested.Kinds as write-nested-kinds
-use Rattle.writing.proofs.+write_extending+write_extension+write_field+write_fields+write_group+write_groups+write_item+write_items+write_nested+write_value.Lts-write_nested as write-nested-lts
+use Rattle.writing.proofs.+write_body+write_extending+write_extension+write_field+write_fields+write_group+write_groups+write_item+write_items+write_nested+write_value.Lts-write_nested as write-nested-lts
 use Rattle.writing.proofs.write_value.Reads as write-value
 use Rattle.writing.proofs.write_value.Kinds as write-value-kinds
-use Rattle.writing.proofs.+write_extending+write_extension+write_field+write_fields+write_group+write_groups+write_item+write_items+write_nested+write_value.Lts-write_value as write-value-lts
+use Rattle.writing.proofs.+write_body+write_extending+write_extension+write_field+write_fields+write_group+write_groups+write_item+write_items+write_nested+write_value.Lts-write_value as write-value-lts
 use Rattle.schema.proofs.field_count.Reads as field-count-reads
 use Rattle.schema.proofs.field_width.Reads as field-width-reads
 use Rattle.schema.proofs.find.Reads as find-reads
@@ -81,12 +85,16 @@ use Rattle.writing.proofs.write_bytes.Reads as write-bytes-reads
 use Rattle.writing.proofs.write_inline.Reads as write-inline-reads
 use Rattle.writing.proofs.write_plain.Reads as write-plain-reads
 use Rattle.writing.proofs.write_text.Reads as write-text-reads
-use Rattle.writing.proofs.+write_extending+write_extension+write_field+write_fields+write_group+write_groups+write_item+write_items+write_nested+write_value.{
+use Rattle.writing.proofs.write_texts.Reads as write-texts-reads
+use Rattle.writing.proofs.+write_body+write_extending+write_extension+write_field+write_fields+write_group+write_groups+write_item+write_items+write_nested+write_value.{
   statement,
 }
-use Rattle.writing.proofs.+write_extending+write_extension+write_field+write_fields+write_group+write_groups+write_item+write_items+write_nested+write_value.Tie.{
+use Rattle.writing.proofs.+write_body+write_extending+write_extension+write_field+write_fields+write_group+write_groups+write_item+write_items+write_nested+write_value.Tie.{
   close,
 }
+
+abbrev μ-write-body : Measures 4 write-body-kinds.ps ℕ
+μ-write-body κs a = 64 * a .1 .1 .1 .0 + 51
 
 abbrev μ-write-extending : Measures 4 write-extending-kinds.ps ℕ
 μ-write-extending κs a = 64 * a .1 .1 .1 .0 + 6
@@ -117,6 +125,14 @@ abbrev μ-write-nested : Measures 4 write-nested-kinds.ps ℕ
 
 abbrev μ-write-value : Measures 4 write-value-kinds.ps ℕ
 μ-write-value κs a = 64 * a .1 .1 .1 .0 + 10 * a .1 .1 .1 .1 .0 + 8
+
+abbrev write-body-at : ℕ → In 4 write-body-kinds.ps
+write-body-at t =
+    and 4 write-body-kinds.ps (is 4 write-body-kinds.ps μ-write-body t) write-body.Pre
+
+abbrev write-body-below : ℕ → In 4 write-body-kinds.ps
+write-body-below t =
+    and 4 write-body-kinds.ps (falls 4 write-body-kinds.ps _<_ μ-write-body t) write-body.Pre
 
 abbrev write-extending-at : ℕ → In 4 write-extending-kinds.ps
 write-extending-at t =
@@ -226,6 +242,41 @@ abbrev write-value-below : ℕ → In 4 write-value-kinds.ps
 write-value-below t =
     and 4 write-value-kinds.ps (falls 4 write-value-kinds.ps _<_ μ-write-value t) write-value.Pre
 
+abbrev write-body-claims : ℕ → write-body-lts.Claims
+write-body-claims t = (group-width-reads.Asked, group-width-reads.Learnt, write-bytes-reads.Asked, write-bytes-reads.Learnt, write-fields-below t, write-fields.Post, write-extension-below t, write-extension.Post, write-u32-reads.Asked, write-u32-reads.Learnt)
+
+write-body-write-bytes-requires : (t : ℕ) → write-body-lts.Need-write-bytes-requires (write-body-claims t) (write-body-at t) write-body.Post
+write-body-write-bytes-requires t c κs = let a = c .before .before .before .before .before .before .args in let R = c .before .before .before .before .before .before .pre .1 in
+    (R .2, omega (arith, body-start (a .table .now) (a .levels) (a .group) (a .pos) (a .sheet .now) (a .out .now) (R .2) (R .3) _ _ refl refl))
+
+write-body-write-fields-requires : (t : ℕ) → write-body-lts.Need-write-fields-requires (write-body-claims t) (write-body-at t) write-body.Post
+write-body-write-fields-requires t c κs = let a = c .before .before .before .before .before .before .before .before .before .before .args in let R = c .before .before .before .before .before .before .before .before .before .before .pre .1 in let P = R .0 in
+    let w = ap (λ (n : ℕ). 16 + n) (c .before .before .before .before .before .group-width .ensures .0 ∙ layout-width (a .table .now) (a .index .now) P _) in
+    (search needs, (P, R .1, P .shallows _, fields-fits (a .table .now) (a .levels) (a .group) (a .pos) (a .sheet .now) (a .out .now) (R .2) (R .3) _ _ w (c .before .before .before .write-bytes .ensures .1) _ (c .before .before .before .write-bytes .ensures .0)))
+
+write-body-write-extension-requires : (t : ℕ) → write-body-lts.Need-write-extension-requires (write-body-claims t) (write-body-at t) write-body.Post
+write-body-write-extension-requires t c κs = let a = c .before .before .before .before .before .before .before .before .before .before .before .before .before .before .args in let R = c .before .before .before .before .before .before .before .before .before .before .before .before .before .before .pre .1 in let P = R .0 in
+    let w = ap (λ (n : ℕ). 16 + n) (c .before .before .before .before .before .before .before .before .before .group-width .ensures .0 ∙ layout-width (a .table .now) (a .index .now) P _) in
+    (search needs, (P, extension-mark (a .table .now) (a .levels) (a .group) (a .pos) (a .sheet .now) (a .out .now) (R .2) (R .3) _ _ w (c .before .before .before .before .before .before .before .write-bytes .ensures .1) _ (c .before .before .before .before .before .before .before .write-bytes .ensures .0) _ _ _ (c .before .before .before .write-fields .ensures), extension-fits (a .table .now) (a .levels) (a .group) (a .pos) (a .sheet .now) (a .out .now) (R .2) (R .3) _ _ w (c .before .before .before .before .before .before .before .write-bytes .ensures .1) _ (c .before .before .before .before .before .before .before .write-bytes .ensures .0) _ _ _ (c .before .before .before .write-fields .ensures)))
+
+write-body-write-u32-requires : (t : ℕ) → write-body-lts.Need-write-u32-requires (write-body-claims t) (write-body-at t) write-body.Post
+write-body-write-u32-requires t c κs = let a = c .before .before .before .before .before .before .before .before .before .before .before .before .before .before .before .before .before .before .before .args in let R = c .before .before .before .before .before .before .before .before .before .before .before .before .before .before .before .before .before .before .before .pre .1 in let P = R .0 in
+    let w = ap (λ (n : ℕ). 16 + n) (c .before .before .before .before .before .before .before .before .before .before .before .before .before .before .group-width .ensures .0 ∙ layout-width (a .table .now) (a .index .now) P _) in
+    let v = contents-stand (a .table .now) (a .levels) (a .group) (a .pos) (a .sheet .now) (a .out .now) (R .2) (R .3) _ _ w (c .before .before .before .before .before .before .before .before .before .before .before .before .write-bytes .ensures .1) _ (c .before .before .before .before .before .before .before .before .before .before .before .before .write-bytes .ensures .0) _ _ _ (c .before .before .before .before .before .before .before .before .write-fields .ensures) _ _ _ (c .before .before .before .before .write-extension .ensures) in
+    omega (arith, body-room (a .table .now) (a .levels) (a .group) (a .pos) (a .sheet .now) (a .out .now) (R .2) (R .3) _ _ w (c .before .before .before .before .before .before .before .before .before .before .before .before .write-bytes .ensures .1) _ (c .before .before .before .before .before .before .before .before .before .before .before .before .write-bytes .ensures .0) _ _ _ v .1)
+
+write-body-add-t12 : (t : ℕ) → write-body-lts.Need-add-t12 (write-body-claims t) (write-body-at t) write-body.Post
+write-body-add-t12 t c = let a = c .before .before .before .before .before .before .before .before .before .before .before .before .before .before .before .before .before .before .before .before .before .before .before .args in let R = c .before .before .before .before .before .before .before .before .before .before .before .before .before .before .before .before .before .before .before .before .before .before .before .pre .1 in let P = R .0 in
+    let w = ap (λ (n : ℕ). 16 + n) (c .before .before .before .before .before .before .before .before .before .before .before .before .before .before .before .before .before .before .group-width .ensures .0 ∙ layout-width (a .table .now) (a .index .now) P _) in
+    let v = contents-stand (a .table .now) (a .levels) (a .group) (a .pos) (a .sheet .now) (a .out .now) (R .2) (R .3) _ _ w (c .before .before .before .before .before .before .before .before .before .before .before .before .before .before .before .before .write-bytes .ensures .1) _ (c .before .before .before .before .before .before .before .before .before .before .before .before .before .before .before .before .write-bytes .ensures .0) _ _ _ (c .before .before .before .before .before .before .before .before .before .before .before .before .write-fields .ensures) _ _ _ (c .before .before .before .before .before .before .before .before .write-extension .ensures) in
+    omega (arith, body-closes (a .table .now) (a .levels) (a .group) (a .pos) (a .sheet .now) (a .out .now) (R .2) (R .3) _ _ w (c .before .before .before .before .before .before .before .before .before .before .before .before .before .before .before .before .write-bytes .ensures .1) _ (c .before .before .before .before .before .before .before .before .before .before .before .before .before .before .before .before .write-bytes .ensures .0) _ _ _ v, c .before .before .before .before .before .before .before .before .before .before .before .before .before .before .before .before .before .before .before .before .before .before .before .good .1 .1 .0 .0)
+
+write-body-returns : (t : ℕ) → write-body-lts.Need-returns (write-body-claims t) (write-body-at t) write-body.Post
+write-body-returns t c = let a = c .before .before .before .before .before .before .before .before .before .before .before .before .before .before .before .before .before .before .before .before .before .before .before .args in let R = c .before .before .before .before .before .before .before .before .before .before .before .before .before .before .before .before .before .before .before .before .before .before .before .pre .1 in let P = R .0 in
+    let w = ap (λ (n : ℕ). 16 + n) (c .before .before .before .before .before .before .before .before .before .before .before .before .before .before .before .before .before .before .group-width .ensures .0 ∙ layout-width (a .table .now) (a .index .now) P _) in
+    let v = contents-stand (a .table .now) (a .levels) (a .group) (a .pos) (a .sheet .now) (a .out .now) (R .2) (R .3) _ _ w (c .before .before .before .before .before .before .before .before .before .before .before .before .before .before .before .before .write-bytes .ensures .1) _ (c .before .before .before .before .before .before .before .before .before .before .before .before .before .before .before .before .write-bytes .ensures .0) _ _ _ (c .before .before .before .before .before .before .before .before .before .before .before .before .write-fields .ensures) _ _ _ (c .before .before .before .before .before .before .before .before .write-extension .ensures) in
+    body-stands (a .table .now) (a .levels) (a .group) (a .pos) (a .sheet .now) (a .out .now) (R .2) (R .3) _ _ w (c .before .before .before .before .before .before .before .before .before .before .before .before .before .before .before .before .write-bytes .ensures .1) _ (c .before .before .before .before .before .before .before .before .before .before .before .before .before .before .before .before .write-bytes .ensures .0) _ _ _ v _ (c .before .before .before .write-u32 .ensures)
+
 abbrev write-extending-claims : ℕ → write-extending-lts.Claims
 write-extending-claims t = (has-mark-reads.Asked, has-mark-reads.Learnt, write-text-reads.Asked, write-text-reads.Learnt, write-nested-below t, write-nested.Post)
 
@@ -268,11 +319,11 @@ write-extension-write-bytes-requires t c κs = let a = c .before .before .before
 
 write-extension-write-groups-requires : (t : ℕ) → write-extension-lts.Need-write-groups-requires (write-extension-claims t) (write-extension-at t) write-extension.Post
 write-extension-write-groups-requires t c κs = let a = c .before .before .before .before .before .before .before .before .before .before .before .before .before .before .before .before .args in let R = c .before .before .before .before .before .before .before .before .before .before .before .before .before .before .before .before .pre .1 in let t = a .table .now in let s = a .sheet .now in let o = a .out .now in let I = innerOf t (a .levels) in let k = ap (same (part 2 (a .pos) s)) (sym is-XT) ∙ sym (c .before .before .before .before .before .before .before .before .before .before .before .has-mark .ensures) ∙ c .before .before .before .before .before .before .before .before .before .before .if1 .taken in let L = opened _ _ _ _ _ _ _ _ (begun _ _ _ _ (R .2)) _ (extension-some (schema t) I 12 (a .free) (a .pos) s k) in
-    (search needs, (R .0, left-fits _ _ _ _ _ _ _ _ (list-left _ _ _ _ 1 4 (extendingOf t (a .levels)) (wides-indirect _) 12 (a .free) (a .pos + 2) (c .before .before .before .before .before .before .before .before .before .read-u32 .result) s o (c .before .before .before .before .before .before .before .before .before .read-u32 .ensures .0) L _ _ _ (c .before .before .before .before .before .before .before .write-u32 .ensures) (c .before .before .before .write-bytes .ensures .0) (c .before .before .before .write-bytes .ensures .1))))
+    (search needs, (R .0, left-fits _ _ _ _ _ _ _ _ (list-left _ _ _ _ 1 4 (extendingOf t (a .levels)) (wides-indirect _) 12 (a .free) (a .pos + 2) (c .before .before .before .before .before .before .before .before .before .read-u32 .result) s o (c .before .before .before .before .before .before .before .before .before .read-u32 .ensures .0) L _ _ _ _ _ (c .before .before .before .before .before .before .before .write-u32 .ensures) (c .before .before .before .write-bytes .ensures .0) (c .before .before .before .write-bytes .ensures .1) refl refl)))
 
 write-extension-returns : (t : ℕ) → write-extension-lts.Need-returns (write-extension-claims t) (write-extension-at t) write-extension.Post
 write-extension-returns t c = let a = c .before .before .before .before .before .before .before .before .before .before .before .before .before .before .before .before .before .before .before .args in let R = c .before .before .before .before .before .before .before .before .before .before .before .before .before .before .before .before .before .before .before .pre .1 in let t = a .table .now in let s = a .sheet .now in let o = a .out .now in let I = innerOf t (a .levels) in let k = ap (same (part 2 (a .pos) s)) (sym is-XT) ∙ sym (c .before .before .before .before .before .before .before .before .before .before .before .before .before .before .has-mark .ensures) ∙ c .before .before .before .before .before .before .before .before .before .before .before .before .before .if1 .taken in let L = opened _ _ _ _ _ _ _ _ (begun _ _ _ _ (R .2)) _ (extension-some (schema t) I 12 (a .free) (a .pos) s k) in
-    finished _ _ _ _ _ _ _ _ (list-left _ _ _ _ 1 4 (extendingOf t (a .levels)) (wides-indirect _) 12 (a .free) (a .pos + 2) (c .before .before .before .before .before .before .before .before .before .before .before .before .read-u32 .result) s o (c .before .before .before .before .before .before .before .before .before .before .before .before .read-u32 .ensures .0) L _ _ _ (c .before .before .before .before .before .before .before .before .before .before .write-u32 .ensures) (c .before .before .before .before .before .before .write-bytes .ensures .0) (c .before .before .before .before .before .before .write-bytes .ensures .1)) _ _ _ _ (c .before .before .write-groups .ensures)
+    finished _ _ _ _ _ _ _ _ (list-left _ _ _ _ 1 4 (extendingOf t (a .levels)) (wides-indirect _) 12 (a .free) (a .pos + 2) (c .before .before .before .before .before .before .before .before .before .before .before .before .read-u32 .result) s o (c .before .before .before .before .before .before .before .before .before .before .before .before .read-u32 .ensures .0) L _ _ _ _ _ (c .before .before .before .before .before .before .before .before .before .before .write-u32 .ensures) (c .before .before .before .before .before .before .write-bytes .ensures .0) (c .before .before .before .before .before .before .write-bytes .ensures .1) refl refl) _ _ _ _ (c .before .before .write-groups .ensures)
 
 write-extension-write-u32-requires-2 : (t : ℕ) → write-extension-lts.Need-write-u32-requires-2 (write-extension-claims t) (write-extension-at t) write-extension.Post
 write-extension-write-u32-requires-2 t c κs = let a = c .before .before .before .before .before .before .before .args in let R = c .before .before .before .before .before .before .before .pre .1 in let t = a .table .now in let s = a .sheet .now in let o = a .out .now in let I = innerOf t (a .levels) in let w = wide-is 4 _ _ _ _ (wides-extension (schema t) I 12 (a .free) (drop (a .pos) s)) (R .2 .is) in omega (arith, w, R .2 .before, R .2 .room)
@@ -284,15 +335,15 @@ write-extension-returns-2 t c = let a = c .before .before .before .before .befor
 abbrev write-field-claims : ℕ → write-field-lts.Claims
 write-field-claims t = (is-optional-reads.Asked, is-optional-reads.Learnt, has-mark-reads.Asked, has-mark-reads.Learnt, field-width-reads.Asked, field-width-reads.Learnt, fill-reads.Asked, fill-reads.Learnt, write-value-below t, write-value.Post)
 
-write-field-add-next : (t : ℕ) → write-field-lts.Need-add-next (write-field-claims t) (write-field-at t) write-field.Post
-write-field-add-next t c = let a = c .before .before .before .before .args in let R = c .before .before .before .before .pre .1 in let t = a .table .now in let s = a .sheet .now in let o = a .out .now in let I = innerOf t (a .levels) in let es = enums t in let sw = widthOf t (a .depth) in let S = staticOf t (a .levels) (a .depth) in let f = fieldAt es (drop (a .field) t) in omega (arith, field-inside I sw S f (a .at) (a .free) (a .pos) s o (R .3))
-
 write-field-has-mark-requires : (t : ℕ) → write-field-lts.Need-has-mark-requires (write-field-claims t) (write-field-at t) write-field.Post
 write-field-has-mark-requires t c κs = let a = c .before .before .before .before .before .before .args in let R = c .before .before .before .before .before .before .pre .1 in let t = a .table .now in let s = a .sheet .now in let o = a .out .now in let I = innerOf t (a .levels) in let es = enums t in let sw = widthOf t (a .depth) in let S = staticOf t (a .levels) (a .depth) in let f = fieldAt es (drop (a .field) t) in field-inside I sw S f (a .at) (a .free) (a .pos) s o (R .3)
 
 write-field-fill-requires : (t : ℕ) → write-field-lts.Need-fill-requires (write-field-claims t) (write-field-at t) write-field.Post
 write-field-fill-requires t c κs = let a = c .before .before .before .before .before .before .before .before .before .before .args in let R = c .before .before .before .before .before .before .before .before .before .before .pre .1 in let t = a .table .now in let s = a .sheet .now in let o = a .out .now in let I = innerOf t (a .levels) in let es = enums t in let sw = widthOf t (a .depth) in let S = staticOf t (a .levels) (a .depth) in let f = fieldAt es (drop (a .field) t) in let e = sym (c .before .before .before .before .before .is-optional .ensures es) ∙ c .before .before .before .before .if1 .taken in let k = sym (c .before .before .before .has-mark .ensures) ∙ c .before .before .if2 .taken in let w = c .before .field-width .ensures .0 es ∙ wide-field t (a .index .now) (R .0) (a .depth) _ (R .2) in
     absent-room I sw S f (a .at) (a .free) (a .pos) s o (R .3) e k _ w
+
+write-field-add-t19 : (t : ℕ) → write-field-lts.Need-add-t19 (write-field-claims t) (write-field-at t) write-field.Post
+write-field-add-t19 t c = let a = c .before .before .before .before .before .before .before .before .before .before .before .before .before .args in let R = c .before .before .before .before .before .before .before .before .before .before .before .before .before .pre .1 in let t = a .table .now in let s = a .sheet .now in let o = a .out .now in let I = innerOf t (a .levels) in let es = enums t in let sw = widthOf t (a .depth) in let S = staticOf t (a .levels) (a .depth) in let f = fieldAt es (drop (a .field) t) in omega (arith, field-inside I sw S f (a .at) (a .free) (a .pos) s o (R .3), c .before .before .before .before .before .before .before .before .before .before .before .before .before .good .1 .1 .0 .0)
 
 write-field-returns : (t : ℕ) → write-field-lts.Need-returns (write-field-claims t) (write-field-at t) write-field.Post
 write-field-returns t c = let a = c .before .before .before .before .before .before .before .before .before .before .before .before .before .args in let R = c .before .before .before .before .before .before .before .before .before .before .before .before .before .pre .1 in let t = a .table .now in let s = a .sheet .now in let o = a .out .now in let I = innerOf t (a .levels) in let es = enums t in let sw = widthOf t (a .depth) in let S = staticOf t (a .levels) (a .depth) in let f = fieldAt es (drop (a .field) t) in let e = sym (c .before .before .before .before .before .before .before .before .is-optional .ensures es) ∙ c .before .before .before .before .before .before .before .if1 .taken in let k = sym (c .before .before .before .before .before .before .has-mark .ensures) ∙ c .before .before .before .before .before .if2 .taken in let w = c .before .before .before .before .field-width .ensures .0 es ∙ wide-field t (a .index .now) (R .0) (a .depth) _ (R .2) in
@@ -302,21 +353,29 @@ write-field-fill-requires-2 : (t : ℕ) → write-field-lts.Need-fill-requires-2
 write-field-fill-requires-2 t c κs = let a = c .before .before .before .before .before .before .before .before .before .args in let R = c .before .before .before .before .before .before .before .before .before .pre .1 in let t = a .table .now in let s = a .sheet .now in let o = a .out .now in let I = innerOf t (a .levels) in let es = enums t in let sw = widthOf t (a .depth) in let S = staticOf t (a .levels) (a .depth) in let f = fieldAt es (drop (a .field) t) in let e = sym (c .before .before .before .before .is-optional .ensures es) ∙ c .before .before .before .if1 .taken in let k = sym (c .before .before .has-mark .ensures) ∙ c .before .if2 .left in
     present-room I sw S f (a .at) (a .free) (a .pos) s o (R .3) e k
 
+write-field-add-place : (t : ℕ) → write-field-lts.Need-add-place (write-field-claims t) (write-field-at t) write-field.Post
+write-field-add-place t c = let a = c .before .before .before .before .before .before .before .before .before .before .before .before .args in let R = c .before .before .before .before .before .before .before .before .before .before .before .before .pre .1 in omega (arith, R .3 .before, R .3 .room, c .before .before .before .before .before .before .before .before .before .before .before .before .good .1)
+
+-- what is left of the field where the two ways to its value meet
+write-field-left : (t : ℕ) (c : write-field-lts.Joined1 (write-field-claims t) (write-field-at t) write-field.Post)
+    → let a = c .before .before .before .before .before .before .args in (length (c .if1 .out) ≡ length (a .out .now))
+    × Left (fieldOf (a .table .now) (a .levels) (a .depth) (a .field) (a .at) (a .free) (drop (a .pos) (a .sheet .now))) (a .at) (a .free) (a .out .now)
+    (valueOf (a .table .now) (a .levels) (a .depth) (a .field) (c .if1 .place) (a .free) (drop (a .pos) (a .sheet .now))) (c .if1 .place) (a .free) (c .if1 .out)
+write-field-left t c = let a = c .before .before .before .before .before .before .args in let R = c .before .before .before .before .before .before .pre .1 in let t = a .table .now in let s = a .sheet .now in let o = a .out .now in let I = innerOf t (a .levels) in let es = enums t in let sw = widthOf t (a .depth) in let S = staticOf t (a .levels) (a .depth) in let f = fieldAt es (drop (a .field) t) in
+    ⊎-elim
+    (λ w. let e = sym (c .before .is-optional .ensures es) ∙ w .0 .taken in let k = sym (w .1 .ensures) ∙ w .2 .left in
+    (ap length (w .7) ∙ w .4 .kept .0, present-left I sw S f (a .at) (a .free) (a .pos) s o (R .3) e k _ _ (w .7 ∙ w .4 .ensures) (w .8)))
+    (λ w. (ap length (w .1), required-left I sw S f (a .at) (a .free) (a .pos) s o (R .3) (sym (c .before .is-optional .ensures es) ∙ w .0 .left) _ _ (w .1) (w .2)))
+    (c .if1 .came)
+
 write-field-write-value-requires : (t : ℕ) → write-field-lts.Need-write-value-requires (write-field-claims t) (write-field-at t) write-field.Post
-write-field-write-value-requires t c κs = let a = c .before .before .before .before .before .before .before .before .before .before .before .before .before .args in let R = c .before .before .before .before .before .before .before .before .before .before .before .before .before .pre .1 in let t = a .table .now in let s = a .sheet .now in let o = a .out .now in let I = innerOf t (a .levels) in let es = enums t in let sw = widthOf t (a .depth) in let S = staticOf t (a .levels) (a .depth) in let f = fieldAt es (drop (a .field) t) in let e = sym (c .before .before .before .before .before .before .before .before .is-optional .ensures es) ∙ c .before .before .before .before .before .before .before .if1 .taken in let k = sym (c .before .before .before .before .before .before .has-mark .ensures) ∙ c .before .before .before .before .before .if2 .left in
-    (search needs, (R .0, R .1, R .2, field-inside I sw S f (a .at) (a .free) (a .pos) s o (R .3), left-fits _ _ _ _ _ _ _ _ (present-left I sw S f (a .at) (a .free) (a .pos) s o (R .3) e k _ (c .before .before .before .fill2 .ensures))))
+write-field-write-value-requires t c κs = let R = c .before .before .before .before .before .before .before .pre .1 in (search needs, (R .0, R .1, R .2, left-fits _ _ _ _ _ _ _ _ (write-field-left t (c .before) .1)))
+
+write-field-same-length-2 : (t : ℕ) → write-field-lts.Need-same-length-2 (write-field-claims t) (write-field-at t) write-field.Post
+write-field-same-length-2 t c = let e = write-field-left t (c .before .before .before .before) .0 in search needs
 
 write-field-returns-2 : (t : ℕ) → write-field-lts.Need-returns-2 (write-field-claims t) (write-field-at t) write-field.Post
-write-field-returns-2 t c = let a = c .before .before .before .before .before .before .before .before .before .before .before .before .before .before .before .before .args in let R = c .before .before .before .before .before .before .before .before .before .before .before .before .before .before .before .before .pre .1 in let t = a .table .now in let s = a .sheet .now in let o = a .out .now in let I = innerOf t (a .levels) in let es = enums t in let sw = widthOf t (a .depth) in let S = staticOf t (a .levels) (a .depth) in let f = fieldAt es (drop (a .field) t) in let e = sym (c .before .before .before .before .before .before .before .before .before .before .before .is-optional .ensures es) ∙ c .before .before .before .before .before .before .before .before .before .before .if1 .taken in let k = sym (c .before .before .before .before .before .before .before .before .before .has-mark .ensures) ∙ c .before .before .before .before .before .before .before .before .if2 .left in
-    finished _ _ _ _ _ _ _ _ (present-left I sw S f (a .at) (a .free) (a .pos) s o (R .3) e k _ (c .before .before .before .before .before .before .fill2 .ensures)) _ _ _ _ (c .before .before .write-value .ensures)
-
-write-field-write-value-requires-2 : (t : ℕ) → write-field-lts.Need-write-value-requires-2 (write-field-claims t) (write-field-at t) write-field.Post
-write-field-write-value-requires-2 t c κs = let a = c .before .before .before .before .before .before .before .args in let R = c .before .before .before .before .before .before .before .pre .1 in let t = a .table .now in let s = a .sheet .now in let o = a .out .now in let I = innerOf t (a .levels) in let es = enums t in let sw = widthOf t (a .depth) in let S = staticOf t (a .levels) (a .depth) in let f = fieldAt es (drop (a .field) t) in let e = sym (c .before .before .is-optional .ensures es) ∙ c .before .if1 .left in
-    (search needs, (R .0, R .1, R .2, field-inside I sw S f (a .at) (a .free) (a .pos) s o (R .3), fits-opens _ _ _ _ _ (R .3) (field-always I sw S f (a .at) (a .free) (a .pos) s e)))
-
-write-field-returns-3 : (t : ℕ) → write-field-lts.Need-returns-3 (write-field-claims t) (write-field-at t) write-field.Post
-write-field-returns-3 t c = let a = c .before .before .before .before .before .before .before .before .before .before .args in let R = c .before .before .before .before .before .before .before .before .before .before .pre .1 in let t = a .table .now in let s = a .sheet .now in let o = a .out .now in let I = innerOf t (a .levels) in let es = enums t in let sw = widthOf t (a .depth) in let S = staticOf t (a .levels) (a .depth) in let f = fieldAt es (drop (a .field) t) in let e = sym (c .before .before .before .before .before .is-optional .ensures es) ∙ c .before .before .before .before .if1 .left in
-    stands-opens _ _ _ _ _ (R .3) (field-always I sw S f (a .at) (a .free) (a .pos) s e) _ _ _ _ (c .before .before .write-value2 .ensures)
+write-field-returns-2 t c = finished _ _ _ _ _ _ _ _ (write-field-left t (c .before .before .before .before) .1) _ _ _ _ (c .before .before .write-value .ensures)
 
 abbrev write-fields-Inv-loop : write-fields-lts.InvT-loop
 write-fields-Inv-loop table index sheet levels depth group pos at free out₀ start total deeper i₀ field₀ place₀ next₀ end₀ out i field place next end =
@@ -388,41 +447,29 @@ write-fields-returns : (t : ℕ) → write-fields-lts.Need-returns (write-fields
 write-fields-returns t c = let a = c .before .before .before .before .before .before .before .before .args in let R = c .before .before .before .before .before .before .before .before .pre .1 in let t = a .table .now in let s = a .sheet .now in let o = a .out .now in let I = innerOf t (a .levels) in let es = enums t in let n = c .before .before .field-count .result in let sw = widthOf t (a .depth - 1) in let S = staticOf t (a .levels) (a .depth - 1) in let l = c .before .loop in let i = l .inv in fields-done _ _ _ _ n (l .i) (l .place) (l .end) (l .next) s _ I sw S es t (l .field) (i .4) (c .loop-test .left)
 
 abbrev write-group-claims : ℕ → write-group-lts.Claims
-write-group-claims t = (group-total-reads.Asked, group-total-reads.Learnt, read-u64-reads.Asked, read-u64-reads.Learnt, find-reads.Asked, find-reads.Learnt, group-width-reads.Asked, group-width-reads.Learnt, write-bytes-reads.Asked, write-bytes-reads.Learnt, write-fields-below t, write-fields.Post, write-extension-below t, write-extension.Post, write-u32-reads.Asked, write-u32-reads.Learnt)
+write-group-claims t = (group-total-reads.Asked, group-total-reads.Learnt, read-u64-reads.Asked, read-u64-reads.Learnt, find-reads.Asked, find-reads.Learnt, write-body-below t, write-body.Post)
 
 write-group-read-u64-requires : (t : ℕ) → write-group-lts.Need-read-u64-requires (write-group-claims t) (write-group-at t) write-group.Post
-write-group-read-u64-requires t c κs = let a = c .before .before .before .before .before .args in let R = c .before .before .before .before .before .pre .1 in let t = a .table .now in let s = a .sheet .now in let o = a .out .now in let I = innerOf t (a .levels) in let P = R .0 in let X = R .1 .1 in group-inside t (a .levels) (R .1 .0) (a .pos) s o X _ _ _ refl refl refl
+write-group-read-u64-requires t c κs = let a = c .before .before .before .before .before .args in let R = c .before .before .before .before .before .pre .1 in group-begins (a .table .now) (a .levels) (R .1 .0) (a .pos) (a .sheet .now) _ refl (a .out .now) (R .1 .1) .1
 
 write-group-find-requires : (t : ℕ) → write-group-lts.Need-find-requires (write-group-claims t) (write-group-at t) write-group.Post
-write-group-find-requires t c κs = let a = c .before .before .before .before .before .before .args in let R = c .before .before .before .before .before .before .pre .1 in let t = a .table .now in let s = a .sheet .now in let o = a .out .now in let I = innerOf t (a .levels) in let P = R .0 in
+write-group-find-requires t c κs = let P = c .before .before .before .before .before .before .pre .1 .0 in
     (rw (sym (c .before .group-total .ensures .0 ∙ P .total)) at (P .placed), P .long, omega (arith, c .before .group-total .ensures .0, P .total, P .few), P .small)
 
-write-group-sub-deeper : (t : ℕ) → write-group-lts.Need-sub-deeper (write-group-claims t) (write-group-at t) write-group.Post
-write-group-sub-deeper t c = let a = c .before .before .before .before .before .before .before .args in let R = c .before .before .before .before .before .before .before .pre .1 in let t = a .table .now in let s = a .sheet .now in let o = a .out .now in let I = innerOf t (a .levels) in let P = R .0 in let X = R .1 .1 in omega (arith, group-levels t (a .levels) (R .1 .0) (a .pos) s o X _ _ _ refl refl refl)
+write-group-sub-write-body : (t : ℕ) → write-group-lts.Need-sub-write-body (write-group-claims t) (write-group-at t) write-group.Post
+write-group-sub-write-body t c = let a = c .before .before .before .before .before .before .before .args in let R = c .before .before .before .before .before .before .before .pre .1 in omega (arith, group-begins (a .table .now) (a .levels) (R .1 .0) (a .pos) (a .sheet .now) _ refl (a .out .now) (R .1 .1) .0)
 
-write-group-write-bytes-requires : (t : ℕ) → write-group-lts.Need-write-bytes-requires (write-group-claims t) (write-group-at t) write-group.Post
-write-group-write-bytes-requires t c κs = let a = c .before .before .before .before .before .before .before .before .before .args in let R = c .before .before .before .before .before .before .before .before .before .pre .1 in let t = a .table .now in let s = a .sheet .now in let o = a .out .now in let I = innerOf t (a .levels) in let P = R .0 in let X = R .1 .1 in (group-inside t (a .levels) (R .1 .0) (a .pos) s o X _ _ _ refl refl refl, omega (arith, group-start t (a .levels) (R .1 .0) (a .pos) s o X _ _ _ refl refl refl))
+write-group-found : (t : ℕ) (c : write-group-lts.After-find (write-group-claims t) (write-group-at t) write-group.Post) → let a = c .before .before .before .before .before .before .before .args in c .find .result ≡ find (schema (a .table .now)) (le (part 8 (a .pos) (a .sheet .now)))
+write-group-found t c = let t = c .before .before .before .before .before .before .before .args .table .now in c .find .ensures .0 ∙ find-whole (schema t) _ _ (c .before .before .group-total .ensures .0 ∙ c .before .before .before .before .before .before .before .pre .1 .0 .total) ∙ ap (find (schema t)) (c .before .read-u64 .ensures)
 
-write-group-write-fields-requires : (t : ℕ) → write-group-lts.Need-write-fields-requires (write-group-claims t) (write-group-at t) write-group.Post
-write-group-write-fields-requires t c κs = let a = c .before .before .before .before .before .before .before .before .before .before .before .before .before .args in let R = c .before .before .before .before .before .before .before .before .before .before .before .before .before .pre .1 in let t = a .table .now in let s = a .sheet .now in let o = a .out .now in let I = innerOf t (a .levels) in let P = R .0 in let X = R .1 .1 in let n = c .before .before .before .before .before .before .before .before .group-total .ensures .0 ∙ P .total in let g = c .before .before .before .before .before .before .find .ensures .0 ∙ find-whole (schema t) _ _ n ∙ ap (find (schema t)) (c .before .before .before .before .before .before .before .read-u64 .ensures) in let w = ap (λ (n : ℕ). 16 + n) (c .before .before .before .before .before .group-width .ensures .0 ∙ layout-width t (a .index .now) P _) in let x = c .before .before .before .write-bytes .ensures .1 in let m = c .before .before .before .write-bytes .ensures .0 in
-    (omega (arith, group-levels t (a .levels) (R .1 .0) (a .pos) s o X _ _ _ g w x), (P, group-known t (a .levels) (R .1 .0) (a .pos) s o X _ _ _ g w x, P .shallows _, fields-fits t (a .levels) (R .1 .0) (a .pos) s o X _ _ _ g w x _ m))
-
-write-group-write-extension-requires : (t : ℕ) → write-group-lts.Need-write-extension-requires (write-group-claims t) (write-group-at t) write-group.Post
-write-group-write-extension-requires t c κs = let a = c .before .before .before .before .before .before .before .before .before .before .before .before .before .before .before .before .before .args in let R = c .before .before .before .before .before .before .before .before .before .before .before .before .before .before .before .before .before .pre .1 in let t = a .table .now in let s = a .sheet .now in let o = a .out .now in let I = innerOf t (a .levels) in let P = R .0 in let X = R .1 .1 in let n = c .before .before .before .before .before .before .before .before .before .before .before .before .group-total .ensures .0 ∙ P .total in let g = c .before .before .before .before .before .before .before .before .before .before .find .ensures .0 ∙ find-whole (schema t) _ _ n ∙ ap (find (schema t)) (c .before .before .before .before .before .before .before .before .before .before .before .read-u64 .ensures) in let w = ap (λ (n : ℕ). 16 + n) (c .before .before .before .before .before .before .before .before .before .group-width .ensures .0 ∙ layout-width t (a .index .now) P _) in let x = c .before .before .before .before .before .before .before .write-bytes .ensures .1 in let m = c .before .before .before .before .before .before .before .write-bytes .ensures .0 in
-    let v = c .before .before .before .write-fields .ensures in (omega (arith, group-levels t (a .levels) (R .1 .0) (a .pos) s o X _ _ _ g w x, c .before .before .before .before .before .before .before .before .before .before .before .before .before .before .before .before .before .pre .0), (P, extension-mark t (a .levels) (R .1 .0) (a .pos) s o X _ _ _ g w x _ m _ _ _ v, extension-fits t (a .levels) (R .1 .0) (a .pos) s o X _ _ _ g w x _ m _ _ _ v))
-
-write-group-write-u32-requires : (t : ℕ) → write-group-lts.Need-write-u32-requires (write-group-claims t) (write-group-at t) write-group.Post
-write-group-write-u32-requires t c κs = let a = c .before .before .before .before .before .before .before .before .before .before .before .before .before .before .before .before .before .before .before .before .before .before .args in let R = c .before .before .before .before .before .before .before .before .before .before .before .before .before .before .before .before .before .before .before .before .before .before .pre .1 in let t = a .table .now in let s = a .sheet .now in let o = a .out .now in let I = innerOf t (a .levels) in let P = R .0 in let X = R .1 .1 in let n = c .before .before .before .before .before .before .before .before .before .before .before .before .before .before .before .before .before .group-total .ensures .0 ∙ P .total in let g = c .before .before .before .before .before .before .before .before .before .before .before .before .before .before .before .find .ensures .0 ∙ find-whole (schema t) _ _ n ∙ ap (find (schema t)) (c .before .before .before .before .before .before .before .before .before .before .before .before .before .before .before .before .read-u64 .ensures) in let w = ap (λ (n : ℕ). 16 + n) (c .before .before .before .before .before .before .before .before .before .before .before .before .before .before .group-width .ensures .0 ∙ layout-width t (a .index .now) P _) in let x = c .before .before .before .before .before .before .before .before .before .before .before .before .write-bytes .ensures .1 in let m = c .before .before .before .before .before .before .before .before .before .before .before .before .write-bytes .ensures .0 in
-    let v = contents-stand t (a .levels) (R .1 .0) (a .pos) s o X _ _ _ g w x _ m _ _ _ (c .before .before .before .before .before .before .before .before .write-fields .ensures) _ _ _ (c .before .before .before .before .write-extension .ensures) in omega (arith, group-room t (a .levels) (R .1 .0) (a .pos) s o X _ _ _ g w x _ m _ _ _ v .1)
-
-write-group-add-t15 : (t : ℕ) → write-group-lts.Need-add-t15 (write-group-claims t) (write-group-at t) write-group.Post
-write-group-add-t15 t c = let a = c .before .before .before .before .before .before .before .before .before .before .before .before .before .before .before .before .before .before .before .before .before .before .before .before .before .before .args in let R = c .before .before .before .before .before .before .before .before .before .before .before .before .before .before .before .before .before .before .before .before .before .before .before .before .before .before .pre .1 in let t = a .table .now in let s = a .sheet .now in let o = a .out .now in let I = innerOf t (a .levels) in let P = R .0 in let X = R .1 .1 in let n = c .before .before .before .before .before .before .before .before .before .before .before .before .before .before .before .before .before .before .before .before .before .group-total .ensures .0 ∙ P .total in let g = c .before .before .before .before .before .before .before .before .before .before .before .before .before .before .before .before .before .before .before .find .ensures .0 ∙ find-whole (schema t) _ _ n ∙ ap (find (schema t)) (c .before .before .before .before .before .before .before .before .before .before .before .before .before .before .before .before .before .before .before .before .read-u64 .ensures) in let w = ap (λ (n : ℕ). 16 + n) (c .before .before .before .before .before .before .before .before .before .before .before .before .before .before .before .before .before .before .group-width .ensures .0 ∙ layout-width t (a .index .now) P _) in let x = c .before .before .before .before .before .before .before .before .before .before .before .before .before .before .before .before .write-bytes .ensures .1 in let m = c .before .before .before .before .before .before .before .before .before .before .before .before .before .before .before .before .write-bytes .ensures .0 in
-    let v = contents-stand t (a .levels) (R .1 .0) (a .pos) s o X _ _ _ g w x _ m _ _ _ (c .before .before .before .before .before .before .before .before .before .before .before .before .write-fields .ensures) _ _ _ (c .before .before .before .before .before .before .before .before .write-extension .ensures) in omega (arith, group-closes t (a .levels) (R .1 .0) (a .pos) s o X _ _ _ g w x _ m _ _ _ v, c .before .before .before .before .before .before .before .before .before .before .before .before .before .before .before .before .before .before .before .before .before .before .before .before .before .before .good .1 .1 .0 .0)
+write-group-write-body-requires : (t : ℕ) → write-group-lts.Need-write-body-requires (write-group-claims t) (write-group-at t) write-group.Post
+write-group-write-body-requires t c κs = let a = c .before .before .before .before .before .before .before .before .args in let R = c .before .before .before .before .before .before .before .before .pre .1 in let g = write-group-found t (c .before) in
+    let b = group-begins (a .table .now) (a .levels) (R .1 .0) (a .pos) (a .sheet .now) _ g (a .out .now) (R .1 .1) in
+    (omega (arith, b .0, c .before .before .before .before .before .before .before .before .pre .0), (R .0, b .2, b .1, fits-opens _ _ _ _ _ (R .1 .1) (group-opens (a .table .now) (a .levels) (R .1 .0) (a .pos) (a .sheet .now) _ g)))
 
 write-group-returns : (t : ℕ) → write-group-lts.Need-returns (write-group-claims t) (write-group-at t) write-group.Post
-write-group-returns t c = let a = c .before .before .before .before .before .before .before .before .before .before .before .before .before .before .before .before .before .before .before .before .before .before .before .before .before .before .args in let R = c .before .before .before .before .before .before .before .before .before .before .before .before .before .before .before .before .before .before .before .before .before .before .before .before .before .before .pre .1 in let t = a .table .now in let s = a .sheet .now in let o = a .out .now in let I = innerOf t (a .levels) in let P = R .0 in let n = c .before .before .before .before .before .before .before .before .before .before .before .before .before .before .before .before .before .before .before .before .before .group-total .ensures .0 ∙ P .total in let g = c .before .before .before .before .before .before .before .before .before .before .before .before .before .before .before .before .before .before .before .find .ensures .0 ∙ find-whole (schema t) _ _ n ∙ ap (find (schema t)) (c .before .before .before .before .before .before .before .before .before .before .before .before .before .before .before .before .before .before .before .before .read-u64 .ensures) in let w = ap (λ (n : ℕ). 16 + n) (c .before .before .before .before .before .before .before .before .before .before .before .before .before .before .before .before .before .before .group-width .ensures .0 ∙ layout-width t (a .index .now) P _) in let x = c .before .before .before .before .before .before .before .before .before .before .before .before .before .before .before .before .write-bytes .ensures .1 in let m = c .before .before .before .before .before .before .before .before .before .before .before .before .before .before .before .before .write-bytes .ensures .0 in
-    λ b f. let v = contents-stand t (a .levels) b (a .pos) s o f _ _ _ g w x _ m _ _ _ (c .before .before .before .before .before .before .before .before .before .before .before .before .write-fields .ensures) _ _ _ (c .before .before .before .before .before .before .before .before .write-extension .ensures) in
-    group-stands t (a .levels) b (a .pos) s o f _ _ _ g w x _ m _ _ _ v _ (c .before .before .before .write-u32 .ensures)
+write-group-returns t c = let a = c .before .before .before .before .before .before .before .before .before .before .before .args in
+    λ b f. stands-opens _ _ _ _ _ f (group-opens (a .table .now) (a .levels) b (a .pos) (a .sheet .now) _ (write-group-found t (c .before .before .before .before))) _ _ _ _ (c .before .before .write-body .ensures)
 
 abbrev write-groups-Inv-loop : write-groups-lts.InvT-loop
 write-groups-Inv-loop table index sheet levels total pos at free out₀ i₀ place₀ next₀ end₀ out i place next end =
@@ -509,37 +556,55 @@ abbrev write-items-μ-loop : write-items-lts.MeasureT-loop
 write-items-μ-loop table index sheet levels depth kind width total pos at free out₀ i₀ place₀ next₀ end₀ out i place next end = total - i
 
 abbrev write-items-claims : ℕ → write-items-lts.Claims
-write-items-claims t = (wide-reads.Asked, wide-reads.Learnt, write-plain-reads.Asked, write-plain-reads.Learnt, write-item-below t, write-item.Post)
+write-items-claims t = (wide-reads.Asked, wide-reads.Learnt, write-plain-reads.Asked, write-plain-reads.Learnt, write-texts-reads.Asked, write-texts-reads.Learnt, write-item-below t, write-item.Post)
 
 write-items-write-plain-requires : (t : ℕ) → write-items-lts.Need-write-plain-requires (write-items-claims t) (write-items-at t) write-items.Post write-items-Inv-loop write-items-μ-loop
-write-items-write-plain-requires t c κs = let a = c .before .before .before .before .before .before .before .before .before .args in let R = c .before .before .before .before .before .before .before .before .before .pre .1 in let t = a .table .now in let s = a .sheet .now in let o = a .out .now in let I = innerOf t (a .levels) in let es = enums t in let sw = widthOf t (a .depth) in let S = staticOf t (a .levels) (a .depth) in let e = c .before .before .before .kind .given .1 ∙ ap Plain (sym (c .before .wide .ensures .0)) in let q = same-opens _ _ (items-plain I sw S es (a .kind) _ (a .width) (a .total) (a .at) (a .free) (drop (a .pos) s) e (R .1)) in
-    fits-opens _ _ _ _ _ (R .3) q
+write-items-write-plain-requires t c κs = let a = c .before .before .before .before .before .before .before .before .before .args in let R = c .before .before .before .before .before .before .before .before .before .pre .1 in let t = a .table .now in let e = c .before .before .before .kind .given .1 ∙ ap Plain (sym (c .before .wide .ensures .0)) in
+    (_, fits-opens _ _ _ _ _ (R .3) (same-opens _ _ (items-plain (innerOf t (a .levels)) (widthOf t (a .depth)) (staticOf t (a .levels) (a .depth)) (enums t) (a .kind) _ (a .width) (a .total) (a .at) (a .free) (drop (a .pos) (a .sheet .now)) e (R .1))))
 
 write-items-returns : (t : ℕ) → write-items-lts.Need-returns (write-items-claims t) (write-items-at t) write-items.Post write-items-Inv-loop write-items-μ-loop
-write-items-returns t c = let a = c .before .before .before .before .before .before .before .before .before .before .before .before .args in let R = c .before .before .before .before .before .before .before .before .before .before .before .before .pre .1 in let t = a .table .now in let s = a .sheet .now in let o = a .out .now in let I = innerOf t (a .levels) in let es = enums t in let sw = widthOf t (a .depth) in let S = staticOf t (a .levels) (a .depth) in let e = c .before .before .before .before .before .before .kind .given .1 ∙ ap Plain (sym (c .before .before .before .before .wide .ensures .0)) in let q = same-opens _ _ (items-plain I sw S es (a .kind) _ (a .width) (a .total) (a .at) (a .free) (drop (a .pos) s) e (R .1)) in
-    stands-opens _ _ _ _ _ (R .3) q _ _ _ _ (c .before .before .write-plain .ensures)
+write-items-returns t c = let a = c .before .before .before .before .before .before .before .before .before .before .before .before .args in let R = c .before .before .before .before .before .before .before .before .before .before .before .before .pre .1 in let t = a .table .now in let e = c .before .before .before .before .before .before .kind .given .1 ∙ ap Plain (sym (c .before .before .before .before .wide .ensures .0)) in
+    let q = same-opens _ _ (items-plain (innerOf t (a .levels)) (widthOf t (a .depth)) (staticOf t (a .levels) (a .depth)) (enums t) (a .kind) _ (a .width) (a .total) (a .at) (a .free) (drop (a .pos) (a .sheet .now)) e (R .1)) in stands-opens _ _ _ _ _ (R .3) q _ _ _ _ (c .before .before .write-plain .ensures _ (fits-opens _ _ _ _ _ (R .3) q))
 
-write-items-loop-holds : (t : ℕ) → write-items-lts.Need-loop-holds (write-items-claims t) (write-items-at t) write-items.Post write-items-Inv-loop write-items-μ-loop
-write-items-loop-holds t c = let a = c .before .before .before .before .before .args in let R = c .before .before .before .before .before .pre .1 in let t = a .table .now in let s = a .sheet .now in let o = a .out .now in let I = innerOf t (a .levels) in (search needs, search needs, rw (sub-zero (a .total)) (begun _ (a .at) (a .free) o (R .3)))
-
-write-items-add-behind : (t : ℕ) → write-items-lts.Need-add-behind (write-items-claims t) (write-items-at t) write-items.Post write-items-Inv-loop write-items-μ-loop
-write-items-add-behind t c = let a = c .before .before .before .before .before .before .before .args in let R = c .before .before .before .before .before .before .before .pre .1 in let t = a .table .now in let s = a .sheet .now in let o = a .out .now in let I = innerOf t (a .levels) in let es = enums t in let sw = widthOf t (a .depth) in let S = staticOf t (a .levels) (a .depth) in let l = c .before .loop in let i = l .inv in let W = itemOf t (a .levels) (a .depth) (a .kind) in let k = kindMark (kindFrom es (a .kind)) in let K = kindOf t (a .levels) (a .depth) (a .kind) in let f = item-fits _ _ _ _ (a .total) (l .i) (l .place) (l .end) (l .next) s _ (a .width) W (i .2) (c .loop-test .taken) in
-    omega (arith, marked-inside k K (l .place) (l .end) (l .next) s _ f)
-
-write-items-write-item-requires : (t : ℕ) → write-items-lts.Need-write-item-requires (write-items-claims t) (write-items-at t) write-items.Post write-items-Inv-loop write-items-μ-loop
-write-items-write-item-requires t c κs = let a = c .before .before .before .before .before .before .before .before .args in let R = c .before .before .before .before .before .before .before .before .pre .1 in let t = a .table .now in let s = a .sheet .now in let o = a .out .now in let I = innerOf t (a .levels) in let es = enums t in let sw = widthOf t (a .depth) in let S = staticOf t (a .levels) (a .depth) in let l = c .before .before .loop in let i = l .inv in let W = itemOf t (a .levels) (a .depth) (a .kind) in let k = kindMark (kindFrom es (a .kind)) in let K = kindOf t (a .levels) (a .depth) (a .kind) in let f = item-fits _ _ _ _ (a .total) (l .i) (l .place) (l .end) (l .next) s _ (a .width) W (i .2) (c .before .loop-test .taken) in
-    (search needs, (R .0, R .2, marked-inside k K (l .place) (l .end) (l .next) s _ f, fits-opens _ _ _ _ _ f (marked-opens k K (l .place) (l .end) (l .next) s)))
-
-write-items-add-place : (t : ℕ) → write-items-lts.Need-add-place (write-items-claims t) (write-items-at t) write-items.Post write-items-Inv-loop write-items-μ-loop
-write-items-add-place t c = let a = c .before .before .before .before .before .before .before .before .before .before .before .args in let R = c .before .before .before .before .before .before .before .before .before .before .before .pre .1 in let t = a .table .now in let s = a .sheet .now in let o = a .out .now in let I = innerOf t (a .levels) in let es = enums t in let sw = widthOf t (a .depth) in let S = staticOf t (a .levels) (a .depth) in let l = c .before .before .before .before .before .loop in let i = l .inv in let W = itemOf t (a .levels) (a .depth) (a .kind) in let k = kindMark (kindFrom es (a .kind)) in let K = kindOf t (a .levels) (a .depth) (a .kind) in let f = item-fits _ _ _ _ (a .total) (l .i) (l .place) (l .end) (l .next) s _ (a .width) W (i .2) (c .before .before .before .before .loop-test .taken) in let u : Wides (a .width) W = rw (R .1) (wides-marked k _ K (wides-kind I sw S (λ g. wides-static (schema t) I (a .depth) g) (kindFrom es (a .kind)))) in
-    let w = wide-is _ _ _ _ _ (u (l .place) (l .end) (drop (l .next) s)) (f .is) in omega (arith, w, f .before, f .room, i .1)
-
-write-items-loop-again : (t : ℕ) → write-items-lts.Need-loop-again (write-items-claims t) (write-items-at t) write-items.Post write-items-Inv-loop write-items-μ-loop
-write-items-loop-again t c = let a = c .before .before .before .before .before .before .before .before .before .before .before .args in let R = c .before .before .before .before .before .before .before .before .before .before .before .pre .1 in let t = a .table .now in let s = a .sheet .now in let o = a .out .now in let I = innerOf t (a .levels) in let es = enums t in let sw = widthOf t (a .depth) in let S = staticOf t (a .levels) (a .depth) in let l = c .before .before .before .before .before .loop in let i = l .inv in let W = itemOf t (a .levels) (a .depth) (a .kind) in let k = kindMark (kindFrom es (a .kind)) in let K = kindOf t (a .levels) (a .depth) (a .kind) in let f = item-fits _ _ _ _ (a .total) (l .i) (l .place) (l .end) (l .next) s _ (a .width) W (i .2) (c .before .before .before .before .loop-test .taken) in let u : Wides (a .width) W = rw (R .1) (wides-marked k _ K (wides-kind I sw S (λ g. wides-static (schema t) I (a .depth) g) (kindFrom es (a .kind)))) in
-    (search needs, search needs, items-next _ _ _ _ (a .total) (l .i) (l .place) (l .end) (l .next) s _ (a .width) W (i .2) (c .before .before .before .before .loop-test .taken) u _ _ _ (stands-opens _ _ _ _ _ f (marked-opens k K (l .place) (l .end) (l .next) s) _ _ _ _ (c .before .before .write-item .ensures)))
+write-items-write-texts-requires : (t : ℕ) → write-items-lts.Need-write-texts-requires (write-items-claims t) (write-items-at t) write-items.Post write-items-Inv-loop write-items-μ-loop
+write-items-write-texts-requires t c κs = let a = c .before .before .before .before .before .before .before .before .before .args in let R = c .before .before .before .before .before .before .before .before .before .pre .1 in let t = a .table .now in
+    (_, fits-opens _ _ _ _ _ (R .3) (same-opens _ _ (items-text (innerOf t (a .levels)) (widthOf t (a .depth)) (staticOf t (a .levels) (a .depth)) (enums t) (a .kind) _ (a .width) (a .total) (a .at) (a .free) (drop (a .pos) (a .sheet .now)) (c .before .before .kind2 .given .1) (R .1))))
 
 write-items-returns-2 : (t : ℕ) → write-items-lts.Need-returns-2 (write-items-claims t) (write-items-at t) write-items.Post write-items-Inv-loop write-items-μ-loop
-write-items-returns-2 t c = let a = c .before .before .before .before .before .before .before .args in let R = c .before .before .before .before .before .before .before .pre .1 in let t = a .table .now in let s = a .sheet .now in let o = a .out .now in let I = innerOf t (a .levels) in let es = enums t in let sw = widthOf t (a .depth) in let S = staticOf t (a .levels) (a .depth) in let l = c .before .loop in let i = l .inv in let W = itemOf t (a .levels) (a .depth) (a .kind) in let k = kindMark (kindFrom es (a .kind)) in let K = kindOf t (a .levels) (a .depth) (a .kind) in items-done _ _ _ _ (a .total) (l .i) (l .place) (l .end) (l .next) s _ (a .width) W (i .2) (c .loop-test .left)
+write-items-returns-2 t c = let a = c .before .before .before .before .before .before .before .before .before .before .before .before .args in let R = c .before .before .before .before .before .before .before .before .before .before .before .before .pre .1 in let t = a .table .now in let q = same-opens _ _ (items-text (innerOf t (a .levels)) (widthOf t (a .depth)) (staticOf t (a .levels) (a .depth)) (enums t) (a .kind) _ (a .width) (a .total) (a .at) (a .free) (drop (a .pos) (a .sheet .now)) (c .before .before .before .before .before .kind2 .given .1) (R .1)) in
+    stands-opens _ _ _ _ _ (R .3) q _ _ _ _ (c .before .before .write-texts .ensures _ (fits-opens _ _ _ _ _ (R .3) q))
+
+write-items-loop-holds : (t : ℕ) → write-items-lts.Need-loop-holds (write-items-claims t) (write-items-at t) write-items.Post write-items-Inv-loop write-items-μ-loop
+write-items-loop-holds t c = let a = c .before .before .before .before .before .before .args in (search needs, search needs, rw (sub-zero (a .total)) (begun _ (a .at) (a .free) (a .out .now) (c .before .before .before .before .before .before .pre .1 .3)))
+
+-- the next item, and its width
+write-items-fits : (t : ℕ) (c : write-items-lts.In-loop (write-items-claims t) (write-items-at t) write-items.Post write-items-Inv-loop write-items-μ-loop)
+    → let a = c .before .before .before .before .before .before .before .before .args in let l = c .before .loop in Fits (itemOf (a .table .now) (a .levels) (a .depth) (a .kind) (l .place) (l .end) (drop (l .next) (a .sheet .now))) (l .place) (l .end) (l .out)
+write-items-fits t c = let a = c .before .before .before .before .before .before .before .before .args in let l = c .before .loop in item-fits _ _ _ _ (a .total) (l .i) (l .place) (l .end) (l .next) (a .sheet .now) _ (a .width) (itemOf (a .table .now) (a .levels) (a .depth) (a .kind)) (l .inv .2) (c .loop-test .taken)
+
+write-items-wides : (t : ℕ) (c : write-items-lts.In-loop (write-items-claims t) (write-items-at t) write-items.Post write-items-Inv-loop write-items-μ-loop) → let a = c .before .before .before .before .before .before .before .before .args in Wides (a .width) (itemOf (a .table .now) (a .levels) (a .depth) (a .kind))
+write-items-wides t c = let a = c .before .before .before .before .before .before .before .before .args in let t = a .table .now in let I = innerOf t (a .levels) in let k = kindFrom (enums t) (a .kind) in
+    rw (c .before .before .before .before .before .before .before .before .pre .1 .1) (wides-marked (kindMark k) _ (kindOf t (a .levels) (a .depth) (a .kind)) (wides-kind I (widthOf t (a .depth)) (staticOf t (a .levels) (a .depth)) (λ g. wides-static (schema t) I (a .depth) g) k))
+
+write-items-add-behind : (t : ℕ) → write-items-lts.Need-add-behind (write-items-claims t) (write-items-at t) write-items.Post write-items-Inv-loop write-items-μ-loop
+write-items-add-behind t c = let a = c .before .before .before .before .before .before .before .before .args in let l = c .before .loop in let t′ = a .table .now in
+    omega (arith, marked-inside (kindMark (kindFrom (enums t′) (a .kind))) (kindOf t′ (a .levels) (a .depth) (a .kind)) (l .place) (l .end) (l .next) (a .sheet .now) _ (write-items-fits t c))
+
+write-items-write-item-requires : (t : ℕ) → write-items-lts.Need-write-item-requires (write-items-claims t) (write-items-at t) write-items.Post write-items-Inv-loop write-items-μ-loop
+write-items-write-item-requires t c κs = let a = c .before .before .before .before .before .before .before .before .before .args in let R = c .before .before .before .before .before .before .before .before .before .pre .1 in let l = c .before .before .loop in let t′ = a .table .now in let k = kindMark (kindFrom (enums t′) (a .kind)) in let K = kindOf t′ (a .levels) (a .depth) (a .kind) in let f = write-items-fits t (c .before) in
+    (search needs, (R .0, R .2, marked-inside k K (l .place) (l .end) (l .next) (a .sheet .now) _ f, fits-opens _ _ _ _ _ f (marked-opens k K (l .place) (l .end) (l .next) (a .sheet .now))))
+
+write-items-add-place : (t : ℕ) → write-items-lts.Need-add-place (write-items-claims t) (write-items-at t) write-items.Post write-items-Inv-loop write-items-μ-loop
+write-items-add-place t c = let a = c .before .before .before .before .before .before .before .before .before .before .before .before .args in let l = c .before .before .before .before .before .loop in let f = write-items-fits t (c .before .before .before .before) in
+    let w = wide-is _ _ _ _ _ (write-items-wides t (c .before .before .before .before) (l .place) (l .end) (drop (l .next) (a .sheet .now))) (f .is) in omega (arith, w, f .before, f .room, l .inv .1)
+
+write-items-loop-again : (t : ℕ) → write-items-lts.Need-loop-again (write-items-claims t) (write-items-at t) write-items.Post write-items-Inv-loop write-items-μ-loop
+write-items-loop-again t c = let a = c .before .before .before .before .before .before .before .before .before .before .before .before .args in let l = c .before .before .before .before .before .loop in let t′ = a .table .now in let s = a .sheet .now in
+    let v = stands-opens _ _ _ _ _ (write-items-fits t (c .before .before .before .before)) (marked-opens (kindMark (kindFrom (enums t′) (a .kind))) (kindOf t′ (a .levels) (a .depth) (a .kind)) (l .place) (l .end) (l .next) s) _ _ _ _ (c .before .before .write-item .ensures) in
+    (search needs, search needs, items-next _ _ _ _ (a .total) (l .i) (l .place) (l .end) (l .next) s _ (a .width) (itemOf t′ (a .levels) (a .depth) (a .kind)) (l .inv .2) (c .before .before .before .before .loop-test .taken) (write-items-wides t (c .before .before .before .before)) _ _ _ v)
+
+write-items-returns-3 : (t : ℕ) → write-items-lts.Need-returns-3 (write-items-claims t) (write-items-at t) write-items.Post write-items-Inv-loop write-items-μ-loop
+write-items-returns-3 t c = let a = c .before .before .before .before .before .before .before .before .args in let l = c .before .loop in items-done _ _ _ _ (a .total) (l .i) (l .place) (l .end) (l .next) (a .sheet .now) _ (a .width) (itemOf (a .table .now) (a .levels) (a .depth) (a .kind)) (l .inv .2) (c .loop-test .left)
 
 abbrev write-nested-claims : ℕ → write-nested-lts.Claims
 write-nested-claims t = (write-u32-reads.Asked, write-u32-reads.Learnt, write-group-below t, write-group.Post)
@@ -558,49 +623,93 @@ write-nested-returns t c = let a = c .before .before .before .before .before .be
     nested-stands t (a .levels) b (a .at) (a .free) (a .pos) s o f _ (c .before .before .before .before .before .before .before .write-u32 .ensures) _ refl _ _ _ _ (c .before .before .before .write-group .ensures b N) refl
 
 abbrev write-value-claims : ℕ → write-value-lts.Claims
-write-value-claims t = (kind-at-reads.Asked, kind-at-reads.Learnt, is-sequence-reads.Asked, is-sequence-reads.Learnt, kind-width-reads.Asked, kind-width-reads.Learnt, read-u32-reads.Asked, read-u32-reads.Learnt, write-u32-reads.Asked, write-u32-reads.Learnt, write-bytes-reads.Asked, write-bytes-reads.Learnt, write-items-below t, write-items.Post, write-item-below t, write-item.Post)
+write-value-claims t = (kind-at-reads.Asked, kind-at-reads.Learnt, kind-width-reads.Asked, kind-width-reads.Learnt, is-sequence-reads.Asked, is-sequence-reads.Learnt, read-u32-reads.Asked, read-u32-reads.Learnt, write-u32-reads.Asked, write-u32-reads.Learnt, write-bytes-reads.Asked, write-bytes-reads.Learnt, write-items-below t, write-items.Post)
+
+-- the item's width, and that it is shallow
+write-value-wide : (t : ℕ) (c : write-value-lts.After-kind-width (write-value-claims t) (write-value-at t) write-value.Post)
+    → let a = c .before .before .before .before .before .before .args in let t = a .table .now in let K = kindFrom (enums t) (c .before .kind-at .result) in
+    (c .kind-width .result ≡ kindWidth (widthOf t (a .depth)) K) × (shallowKind (shallow (schema t) (a .depth)) (widthOf t (a .depth)) K ≡ true)
+write-value-wide t c = let a = c .before .before .before .before .before .before .args in let R = c .before .before .before .before .before .before .pre .1 in let t = a .table .now in
+    let d = rw (sym (c .before .kind-at .ensures (enums t))) at (R .2) in
+    (c .kind-width .ensures .0 (enums t) ∙ wide-kind t (a .index .now) (R .0) (a .depth) _ d, d)
+
+write-value-wides : (t : ℕ) (c : write-value-lts.After-kind-width (write-value-claims t) (write-value-at t) write-value.Post)
+    → let a = c .before .before .before .before .before .before .args in Wides (c .kind-width .result) (itemOf (a .table .now) (a .levels) (a .depth) (c .before .kind-at .result))
+write-value-wides t c = let a = c .before .before .before .before .before .before .args in let t′ = a .table .now in let I = innerOf t′ (a .levels) in let K = kindFrom (enums t′) (c .before .kind-at .result) in
+    rw (write-value-wide t c .0) (wides-marked (kindMark K) _ (kindOf t′ (a .levels) (a .depth) (c .before .kind-at .result)) (wides-kind I (widthOf t′ (a .depth)) (staticOf t′ (a .levels) (a .depth)) (λ g. wides-static (schema t′) I (a .depth) g) K))
+
+-- a sequence behind its mark
+write-value-list : (t : ℕ) (c : write-value-lts.Then1 (write-value-claims t) (write-value-at t) write-value.Post)
+    → let a = c .before .before .before .before .before .before .before .before .args in let t = a .table .now in let s = a .sheet .now in
+    Left (valueOf t (a .levels) (a .depth) (a .field) (a .at) (a .free) (drop (a .pos) s)) (a .at) (a .free) (a .out .now)
+    (indirectW (listB 0 (c .before .before .kind-width .result) (itemOf t (a .levels) (a .depth) (c .before .before .before .kind-at .result))) (a .at) (a .free) (drop (a .pos + 2) s)) (a .at) (a .free) (a .out .now)
+write-value-list t c = let a = c .before .before .before .before .before .before .before .before .args in let R = c .before .before .before .before .before .before .before .before .pre .1 in let t′ = a .table .now in let es = enums t′ in
+    opened _ _ _ _ _ _ _ _ (begun _ _ _ _ (R .3)) _ (value-list (innerOf t′ (a .levels)) (widthOf t′ (a .depth)) (staticOf t′ (a .levels) (a .depth)) (fieldAt es (drop (a .field) t′)) (a .at) (a .free) (a .pos) (a .sheet .now) _ (c .before .before .before .kind-at .ensures es) (sym (c .before .is-sequence .ensures es) ∙ c .if1 .taken) _ (write-value-wide t (c .before .before) .0))
+
+write-value-room : (t : ℕ) (c : write-value-lts.Then1 (write-value-claims t) (write-value-at t) write-value.Post)
+    → let a = c .before .before .before .before .before .before .before .before .args in let n = le (part 4 (a .pos + 2) (a .sheet .now)) in
+    (a .pos + 2 + 4 ≤ length (a .sheet .now)) × (a .at + 4 ≤ a .free) × (a .free + (4 + n * c .before .before .kind-width .result) ≤ length (a .out .now))
+write-value-room t c = let a = c .before .before .before .before .before .before .before .before .args in list-room _ _ _ _ 0 _ _ (write-value-wides t (c .before .before)) (a .at) (a .free) (a .pos + 2) _ (a .sheet .now) (a .out .now) refl (write-value-list t c)
+
+write-value-add-read-u32 : (t : ℕ) → write-value-lts.Need-add-read-u32 (write-value-claims t) (write-value-at t) write-value.Post
+write-value-add-read-u32 t c = omega (arith, write-value-room t c .0, c .before .before .before .before .before .before .before .before .good .1 .1 .0 .0)
 
 write-value-read-u32-requires : (t : ℕ) → write-value-lts.Need-read-u32-requires (write-value-claims t) (write-value-at t) write-value.Post
-write-value-read-u32-requires t c κs = let a = c .before .before .before .before .before .before .before .before .args in let R = c .before .before .before .before .before .before .before .before .pre .1 in let t = a .table .now in let s = a .sheet .now in let o = a .out .now in let I = innerOf t (a .levels) in let es = enums t in let sw = widthOf t (a .depth) in let S = staticOf t (a .levels) (a .depth) in let f = fieldAt es (drop (a .field) t) in let k = c .before .before .before .kind-at .ensures es in let d = rw (sym k) at (R .2) in let e = sym (c .before .before .is-sequence .ensures es) ∙ c .before .if1 .taken in let w = c .kind-width .ensures .0 es ∙ wide-kind t (a .index .now) (R .0) (a .depth) _ d in let K = kindFrom es (c .before .before .before .kind-at .result) in let W = markedW (kindMark K) (kindW I S K) in let u : Wides (c .kind-width .result) W = rw w (wides-marked (kindMark K) _ (kindW I S K) (wides-kind I sw S (λ g. wides-static (schema t) I (a .depth) g) K)) in let L = opened _ _ _ _ _ _ _ _ (begun _ _ _ _ (R .4)) _ (same-opens _ _ (value-list I sw S f (a .at) (a .free) (drop (a .pos) s) K k e _ w)) in
-    list-room _ _ _ _ 0 (c .kind-width .result) W u (a .at) (a .free) (a .pos) (le (part 4 (a .pos) s)) s o refl L .0
+write-value-read-u32-requires t c κs = write-value-room t c .0
+
+write-value-sub-write-u32 : (t : ℕ) → write-value-lts.Need-sub-write-u32 (write-value-claims t) (write-value-at t) write-value.Post
+write-value-sub-write-u32 t c = omega (arith, write-value-room t (c .before .before) .1)
 
 write-value-write-u32-requires : (t : ℕ) → write-value-lts.Need-write-u32-requires (write-value-claims t) (write-value-at t) write-value.Post
-write-value-write-u32-requires t c κs = let a = c .before .before .before .before .before .before .before .before .before .before .args in let R = c .before .before .before .before .before .before .before .before .before .before .pre .1 in let t = a .table .now in let s = a .sheet .now in let o = a .out .now in let I = innerOf t (a .levels) in let es = enums t in let sw = widthOf t (a .depth) in let S = staticOf t (a .levels) (a .depth) in let f = fieldAt es (drop (a .field) t) in let k = c .before .before .before .before .before .kind-at .ensures es in let d = rw (sym k) at (R .2) in let e = sym (c .before .before .before .before .is-sequence .ensures es) ∙ c .before .before .before .if1 .taken in let w = c .before .before .kind-width .ensures .0 es ∙ wide-kind t (a .index .now) (R .0) (a .depth) _ d in let K = kindFrom es (c .before .before .before .before .before .kind-at .result) in let W = markedW (kindMark K) (kindW I S K) in let u : Wides (c .before .before .kind-width .result) W = rw w (wides-marked (kindMark K) _ (kindW I S K) (wides-kind I sw S (λ g. wides-static (schema t) I (a .depth) g) K)) in let L = opened _ _ _ _ _ _ _ _ (begun _ _ _ _ (R .4)) _ (same-opens _ _ (value-list I sw S f (a .at) (a .free) (drop (a .pos) s) K k e _ w)) in let r = list-room _ _ _ _ 0 (c .before .before .kind-width .result) W u (a .at) (a .free) (a .pos) (c .before .read-u32 .result) s o (c .before .read-u32 .ensures .0) L in
-    omega (arith, r .1, r .2)
+write-value-write-u32-requires t c κs = let r = write-value-room t (c .before .before) in omega (arith, r .1, r .2)
+
+write-value-add-write-bytes : (t : ℕ) → write-value-lts.Need-add-write-bytes (write-value-claims t) (write-value-at t) write-value.Post
+write-value-add-write-bytes t c = omega (arith, write-value-room t (c .before .before .before .before .before) .0, c .before .before .before .before .before .before .before .before .before .before .before .before .before .good .1 .1 .0 .0)
 
 write-value-write-bytes-requires : (t : ℕ) → write-value-lts.Need-write-bytes-requires (write-value-claims t) (write-value-at t) write-value.Post
-write-value-write-bytes-requires t c κs = let a = c .before .before .before .before .before .before .before .before .before .before .before .before .before .before .args in let R = c .before .before .before .before .before .before .before .before .before .before .before .before .before .before .pre .1 in let t = a .table .now in let s = a .sheet .now in let o = a .out .now in let I = innerOf t (a .levels) in let es = enums t in let sw = widthOf t (a .depth) in let S = staticOf t (a .levels) (a .depth) in let f = fieldAt es (drop (a .field) t) in let k = c .before .before .before .before .before .before .before .before .before .kind-at .ensures es in let d = rw (sym k) at (R .2) in let e = sym (c .before .before .before .before .before .before .before .before .is-sequence .ensures es) ∙ c .before .before .before .before .before .before .before .if1 .taken in let w = c .before .before .before .before .before .before .kind-width .ensures .0 es ∙ wide-kind t (a .index .now) (R .0) (a .depth) _ d in let K = kindFrom es (c .before .before .before .before .before .before .before .before .before .kind-at .result) in let W = markedW (kindMark K) (kindW I S K) in let u : Wides (c .before .before .before .before .before .before .kind-width .result) W = rw w (wides-marked (kindMark K) _ (kindW I S K) (wides-kind I sw S (λ g. wides-static (schema t) I (a .depth) g) K)) in let L = opened _ _ _ _ _ _ _ _ (begun _ _ _ _ (R .4)) _ (same-opens _ _ (value-list I sw S f (a .at) (a .free) (drop (a .pos) s) K k e _ w)) in let r = list-room _ _ _ _ 0 (c .before .before .before .before .before .before .kind-width .result) W u (a .at) (a .free) (a .pos) (c .before .before .before .before .before .read-u32 .result) s o (c .before .before .before .before .before .read-u32 .ensures .0) L in
-    (r .0, omega (arith, r .2, ap length (c .before .before .before .write-u32 .ensures) ∙ length-splice 4 (a .at) (bytesOf 4 (a .free - a .at)) o (omega (arith, r .1, r .2)) (length-bytes 4 _)))
+write-value-write-bytes-requires t c κs = let r = write-value-room t (c .before .before .before .before .before .before) in (r .0, omega (arith, r .2, c .before .before .before .write-u32 .kept .0))
 
 write-value-mul-end : (t : ℕ) → write-value-lts.Need-mul-end (write-value-claims t) (write-value-at t) write-value.Post
-write-value-mul-end t c = let a = c .before .before .before .before .before .before .before .before .before .before .before .before .before .before .before .before .before .args in let R = c .before .before .before .before .before .before .before .before .before .before .before .before .before .before .before .before .before .pre .1 in let t = a .table .now in let s = a .sheet .now in let o = a .out .now in let I = innerOf t (a .levels) in let es = enums t in let sw = widthOf t (a .depth) in let S = staticOf t (a .levels) (a .depth) in let f = fieldAt es (drop (a .field) t) in let k = c .before .before .before .before .before .before .before .before .before .before .before .before .kind-at .ensures es in let d = rw (sym k) at (R .2) in let e = sym (c .before .before .before .before .before .before .before .before .before .before .before .is-sequence .ensures es) ∙ c .before .before .before .before .before .before .before .before .before .before .if1 .taken in let w = c .before .before .before .before .before .before .before .before .before .kind-width .ensures .0 es ∙ wide-kind t (a .index .now) (R .0) (a .depth) _ d in let K = kindFrom es (c .before .before .before .before .before .before .before .before .before .before .before .before .kind-at .result) in let W = markedW (kindMark K) (kindW I S K) in let u : Wides (c .before .before .before .before .before .before .before .before .before .kind-width .result) W = rw w (wides-marked (kindMark K) _ (kindW I S K) (wides-kind I sw S (λ g. wides-static (schema t) I (a .depth) g) K)) in let L = opened _ _ _ _ _ _ _ _ (begun _ _ _ _ (R .4)) _ (same-opens _ _ (value-list I sw S f (a .at) (a .free) (drop (a .pos) s) K k e _ w)) in let r = list-room _ _ _ _ 0 (c .before .before .before .before .before .before .before .before .before .kind-width .result) W u (a .at) (a .free) (a .pos) (c .before .before .before .before .before .before .before .before .read-u32 .result) s o (c .before .before .before .before .before .before .before .before .read-u32 .ensures .0) L in omega (arith, r .2, c .before .before .before .before .before .before .before .before .before .before .before .before .before .before .before .before .before .good .1 .1 .1 .1 .1 .1 .1 .1 .1 .0 .0)
+write-value-mul-end t c = rw (c .before .before .before .before .before .before .before .before .read-u32 .ensures .0) (omega (arith, write-value-room t (c .before .before .before .before .before .before .before .before .before) .2, c .before .before .before .before .before .before .before .before .before .before .before .before .before .before .before .before .before .good .1 .1 .1 .1 .1 .1 .1 .1 .1 .0 .0))
 
 write-value-add-end : (t : ℕ) → write-value-lts.Need-add-end (write-value-claims t) (write-value-at t) write-value.Post
-write-value-add-end t c = let a = c .before .before .before .before .before .before .before .before .before .before .before .before .before .before .before .before .before .args in let R = c .before .before .before .before .before .before .before .before .before .before .before .before .before .before .before .before .before .pre .1 in let t = a .table .now in let s = a .sheet .now in let o = a .out .now in let I = innerOf t (a .levels) in let es = enums t in let sw = widthOf t (a .depth) in let S = staticOf t (a .levels) (a .depth) in let f = fieldAt es (drop (a .field) t) in let k = c .before .before .before .before .before .before .before .before .before .before .before .before .kind-at .ensures es in let d = rw (sym k) at (R .2) in let e = sym (c .before .before .before .before .before .before .before .before .before .before .before .is-sequence .ensures es) ∙ c .before .before .before .before .before .before .before .before .before .before .if1 .taken in let w = c .before .before .before .before .before .before .before .before .before .kind-width .ensures .0 es ∙ wide-kind t (a .index .now) (R .0) (a .depth) _ d in let K = kindFrom es (c .before .before .before .before .before .before .before .before .before .before .before .before .kind-at .result) in let W = markedW (kindMark K) (kindW I S K) in let u : Wides (c .before .before .before .before .before .before .before .before .before .kind-width .result) W = rw w (wides-marked (kindMark K) _ (kindW I S K) (wides-kind I sw S (λ g. wides-static (schema t) I (a .depth) g) K)) in let L = opened _ _ _ _ _ _ _ _ (begun _ _ _ _ (R .4)) _ (same-opens _ _ (value-list I sw S f (a .at) (a .free) (drop (a .pos) s) K k e _ w)) in let r = list-room _ _ _ _ 0 (c .before .before .before .before .before .before .before .before .before .kind-width .result) W u (a .at) (a .free) (a .pos) (c .before .before .before .before .before .before .before .before .read-u32 .result) s o (c .before .before .before .before .before .before .before .before .read-u32 .ensures .0) L in omega (arith, r .2, c .before .before .before .before .before .before .before .before .before .before .before .before .before .before .before .before .before .good .1 .1 .1 .1 .1 .1 .1 .1 .1 .0 .0)
+write-value-add-end t c = rw (c .before .before .before .before .before .before .before .before .read-u32 .ensures .0) (omega (arith, write-value-room t (c .before .before .before .before .before .before .before .before .before) .2, c .before .before .before .before .before .before .before .before .before .before .before .before .before .before .before .before .before .good .1 .1 .1 .1 .1 .1 .1 .1 .1 .0 .0))
 
 write-value-add-end-2 : (t : ℕ) → write-value-lts.Need-add-end-2 (write-value-claims t) (write-value-at t) write-value.Post
-write-value-add-end-2 t c = let a = c .before .before .before .before .before .before .before .before .before .before .before .before .before .before .before .before .before .args in let R = c .before .before .before .before .before .before .before .before .before .before .before .before .before .before .before .before .before .pre .1 in let t = a .table .now in let s = a .sheet .now in let o = a .out .now in let I = innerOf t (a .levels) in let es = enums t in let sw = widthOf t (a .depth) in let S = staticOf t (a .levels) (a .depth) in let f = fieldAt es (drop (a .field) t) in let k = c .before .before .before .before .before .before .before .before .before .before .before .before .kind-at .ensures es in let d = rw (sym k) at (R .2) in let e = sym (c .before .before .before .before .before .before .before .before .before .before .before .is-sequence .ensures es) ∙ c .before .before .before .before .before .before .before .before .before .before .if1 .taken in let w = c .before .before .before .before .before .before .before .before .before .kind-width .ensures .0 es ∙ wide-kind t (a .index .now) (R .0) (a .depth) _ d in let K = kindFrom es (c .before .before .before .before .before .before .before .before .before .before .before .before .kind-at .result) in let W = markedW (kindMark K) (kindW I S K) in let u : Wides (c .before .before .before .before .before .before .before .before .before .kind-width .result) W = rw w (wides-marked (kindMark K) _ (kindW I S K) (wides-kind I sw S (λ g. wides-static (schema t) I (a .depth) g) K)) in let L = opened _ _ _ _ _ _ _ _ (begun _ _ _ _ (R .4)) _ (same-opens _ _ (value-list I sw S f (a .at) (a .free) (drop (a .pos) s) K k e _ w)) in let r = list-room _ _ _ _ 0 (c .before .before .before .before .before .before .before .before .before .kind-width .result) W u (a .at) (a .free) (a .pos) (c .before .before .before .before .before .before .before .before .read-u32 .result) s o (c .before .before .before .before .before .before .before .before .read-u32 .ensures .0) L in omega (arith, r .2, c .before .before .before .before .before .before .before .before .before .before .before .before .before .before .before .before .before .good .1 .1 .1 .1 .1 .1 .1 .1 .1 .0 .0)
+write-value-add-end-2 t c = rw (c .before .before .before .before .before .before .before .before .read-u32 .ensures .0) (omega (arith, write-value-room t (c .before .before .before .before .before .before .before .before .before) .2, c .before .before .before .before .before .before .before .before .before .before .before .before .before .before .before .before .before .good .1 .1 .1 .1 .1 .1 .1 .1 .1 .0 .0))
+
+-- the items that are left where the two ways meet
+write-value-left : (t : ℕ) (c : write-value-lts.Joined1 (write-value-claims t) (write-value-at t) write-value.Post)
+    → let a = c .before .before .before .before .before .before .before .before .args in let t = a .table .now in let s = a .sheet .now in let j = c .if1 in (length (j .out) ≡ length (a .out .now))
+    × Left (valueOf t (a .levels) (a .depth) (a .field) (a .at) (a .free) (drop (a .pos) s)) (a .at) (a .free) (a .out .now)
+    (itemsW (c .before .before .kind-width .result) (itemOf t (a .levels) (a .depth) (c .before .before .before .kind-at .result)) (j .total) (j .items) (j .end) (drop (j .next) s)) (j .items) (j .end) (j .out)
+write-value-left t c = let a = c .before .before .before .before .before .before .before .before .args in let R = c .before .before .before .before .before .before .before .before .pre .1 in let t′ = a .table .now in let s = a .sheet .now in let o = a .out .now in let es = enums t′ in let b = c .before in
+    ⊎-elim
+    (λ w. (
+      ap length (w .10) ∙ w .7 .kept .1 .1 .1 .1 .0 ∙ w .3 .kept .0,
+      list-left _ _ _ _ 0 _ _ (write-value-wides t (c .before .before)) (a .at) (a .free) (a .pos + 2) _ s o (w .11 ∙ w .1 .ensures .0) (write-value-list t (record { before = b; if1 = w .0 })) _ _ _ _ _ (w .3 .ensures) (w .10 ∙ w .7 .ensures .0) (w .12 ∙ w .7 .ensures .1) (w .13) (w .14 ∙ ap (λ (n : ℕ). a .free + (4 + n * c .before .before .kind-width .result)) (sym (w .11))),
+    ))
+    (λ w. (
+      ap length (w .1),
+      one-left _ _ _ _ _ (itemOf t′ (a .levels) (a .depth) (c .before .before .before .kind-at .result)) (a .at) (a .free) (a .pos) s o (opened _ _ _ _ _ _ _ _ (begun _ _ _ _ (R .3)) _ (same-opens _ _ (value-one (innerOf t′ (a .levels)) (widthOf t′ (a .depth)) (staticOf t′ (a .levels) (a .depth)) (fieldAt es (drop (a .field) t′)) (a .at) (a .free) (a .pos) s _ (c .before .before .before .kind-at .ensures es) (sym (c .before .is-sequence .ensures es) ∙ w .0 .left)))) _ _ _ _ _ (w .1) (w .2) (w .3) (w .4) (w .5),
+    ))
+    (c .if1 .came)
 
 write-value-write-items-requires : (t : ℕ) → write-value-lts.Need-write-items-requires (write-value-claims t) (write-value-at t) write-value.Post
-write-value-write-items-requires t c κs = let a = c .before .before .before .before .before .before .before .before .before .before .before .before .before .before .before .before .before .before .args in let R = c .before .before .before .before .before .before .before .before .before .before .before .before .before .before .before .before .before .before .pre .1 in let t = a .table .now in let s = a .sheet .now in let o = a .out .now in let I = innerOf t (a .levels) in let es = enums t in let sw = widthOf t (a .depth) in let S = staticOf t (a .levels) (a .depth) in let f = fieldAt es (drop (a .field) t) in let k = c .before .before .before .before .before .before .before .before .before .before .before .before .before .kind-at .ensures es in let d = rw (sym k) at (R .2) in let e = sym (c .before .before .before .before .before .before .before .before .before .before .before .before .is-sequence .ensures es) ∙ c .before .before .before .before .before .before .before .before .before .before .before .if1 .taken in let w = c .before .before .before .before .before .before .before .before .before .before .kind-width .ensures .0 es ∙ wide-kind t (a .index .now) (R .0) (a .depth) _ d in let K = kindFrom es (c .before .before .before .before .before .before .before .before .before .before .before .before .before .kind-at .result) in let W = markedW (kindMark K) (kindW I S K) in let u : Wides (c .before .before .before .before .before .before .before .before .before .before .kind-width .result) W = rw w (wides-marked (kindMark K) _ (kindW I S K) (wides-kind I sw S (λ g. wides-static (schema t) I (a .depth) g) K)) in let L = opened _ _ _ _ _ _ _ _ (begun _ _ _ _ (R .4)) _ (same-opens _ _ (value-list I sw S f (a .at) (a .free) (drop (a .pos) s) K k e _ w)) in
-    (search needs, (R .0, w, d, left-fits _ _ _ _ _ _ _ _ (list-left _ _ _ _ 0 (c .before .before .before .before .before .before .before .before .before .before .kind-width .result) W u (a .at) (a .free) (a .pos) (c .before .before .before .before .before .before .before .before .before .read-u32 .result) s o (c .before .before .before .before .before .before .before .before .before .read-u32 .ensures .0) L _ _ _ (c .before .before .before .before .before .before .before .write-u32 .ensures) (c .before .before .before .write-bytes .ensures .0) (c .before .before .before .write-bytes .ensures .1))))
+write-value-write-items-requires t c κs = let w = write-value-wide t (c .before .before .before) in
+    (search needs, (c .before .before .before .before .before .before .before .before .before .pre .1 .0, w .0, w .1, left-fits _ _ _ _ _ _ _ _ (write-value-left t (c .before) .1)))
+
+write-value-same-length : (t : ℕ) → write-value-lts.Need-same-length (write-value-claims t) (write-value-at t) write-value.Post
+write-value-same-length t c = let e = write-value-left t (c .before .before .before .before) .0 in search needs
 
 write-value-returns : (t : ℕ) → write-value-lts.Need-returns (write-value-claims t) (write-value-at t) write-value.Post
-write-value-returns t c = let a = c .before .before .before .before .before .before .before .before .before .before .before .before .before .before .before .before .before .before .before .before .before .args in let R = c .before .before .before .before .before .before .before .before .before .before .before .before .before .before .before .before .before .before .before .before .before .pre .1 in let t = a .table .now in let s = a .sheet .now in let o = a .out .now in let I = innerOf t (a .levels) in let es = enums t in let sw = widthOf t (a .depth) in let S = staticOf t (a .levels) (a .depth) in let f = fieldAt es (drop (a .field) t) in let k = c .before .before .before .before .before .before .before .before .before .before .before .before .before .before .before .before .kind-at .ensures es in let d = rw (sym k) at (R .2) in let e = sym (c .before .before .before .before .before .before .before .before .before .before .before .before .before .before .before .is-sequence .ensures es) ∙ c .before .before .before .before .before .before .before .before .before .before .before .before .before .before .if1 .taken in let w = c .before .before .before .before .before .before .before .before .before .before .before .before .before .kind-width .ensures .0 es ∙ wide-kind t (a .index .now) (R .0) (a .depth) _ d in let K = kindFrom es (c .before .before .before .before .before .before .before .before .before .before .before .before .before .before .before .before .kind-at .result) in let W = markedW (kindMark K) (kindW I S K) in let u : Wides (c .before .before .before .before .before .before .before .before .before .before .before .before .before .kind-width .result) W = rw w (wides-marked (kindMark K) _ (kindW I S K) (wides-kind I sw S (λ g. wides-static (schema t) I (a .depth) g) K)) in let L = opened _ _ _ _ _ _ _ _ (begun _ _ _ _ (R .4)) _ (same-opens _ _ (value-list I sw S f (a .at) (a .free) (drop (a .pos) s) K k e _ w)) in
-    finished _ _ _ _ _ _ _ _ (list-left _ _ _ _ 0 (c .before .before .before .before .before .before .before .before .before .before .before .before .before .kind-width .result) W u (a .at) (a .free) (a .pos) (c .before .before .before .before .before .before .before .before .before .before .before .before .read-u32 .result) s o (c .before .before .before .before .before .before .before .before .before .before .before .before .read-u32 .ensures .0) L _ _ _ (c .before .before .before .before .before .before .before .before .before .before .write-u32 .ensures) (c .before .before .before .before .before .before .write-bytes .ensures .0) (c .before .before .before .before .before .before .write-bytes .ensures .1)) _ _ _ _ (c .before .before .write-items .ensures)
+write-value-returns t c = finished _ _ _ _ _ _ _ _ (write-value-left t (c .before .before .before .before) .1) _ _ _ _ (c .before .before .write-items .ensures)
 
-write-value-write-item-requires : (t : ℕ) → write-value-lts.Need-write-item-requires (write-value-claims t) (write-value-at t) write-value.Post
-write-value-write-item-requires t c κs = let a = c .before .before .before .before .before .before .before .before .args in let R = c .before .before .before .before .before .before .before .before .pre .1 in let t = a .table .now in let s = a .sheet .now in let o = a .out .now in let I = innerOf t (a .levels) in let es = enums t in let sw = widthOf t (a .depth) in let S = staticOf t (a .levels) (a .depth) in let f = fieldAt es (drop (a .field) t) in let k = c .before .before .before .kind-at .ensures es in let d = rw (sym k) at (R .2) in let e = sym (c .before .before .is-sequence .ensures es) ∙ c .before .if1 .left in let q = same-opens _ _ (value-one I sw S f (a .at) (a .free) (drop (a .pos) s) _ k e) in
-    (search needs, (R .0, d, R .3, fits-opens _ _ _ _ _ (R .4) q))
-
-write-value-returns-2 : (t : ℕ) → write-value-lts.Need-returns-2 (write-value-claims t) (write-value-at t) write-value.Post
-write-value-returns-2 t c = let a = c .before .before .before .before .before .before .before .before .before .before .before .args in let R = c .before .before .before .before .before .before .before .before .before .before .before .pre .1 in let t = a .table .now in let s = a .sheet .now in let o = a .out .now in let I = innerOf t (a .levels) in let es = enums t in let sw = widthOf t (a .depth) in let S = staticOf t (a .levels) (a .depth) in let f = fieldAt es (drop (a .field) t) in let k = c .before .before .before .before .before .before .kind-at .ensures es in let d = rw (sym k) at (R .2) in let e = sym (c .before .before .before .before .before .is-sequence .ensures es) ∙ c .before .before .before .before .if1 .left in let q = same-opens _ _ (value-one I sw S f (a .at) (a .free) (drop (a .pos) s) _ k e) in
-    stands-opens _ _ _ _ _ (R .4) q _ _ _ _ (c .before .before .write-item .ensures)
-
-pub +write-extending+write-extension+write-field+write-fields+write-group+write-groups+write-item+write-items+write-nested+write-value-spec :
+pub +write-body+write-extending+write-extension+write-field+write-fields+write-group+write-groups+write-item+write-items+write-nested+write-value-spec :
     {M : Type 1} → statement M
-+write-extending+write-extension+write-field+write-fields+write-group+write-groups+write-item+write-items+write-nested+write-value-spec =
++write-body+write-extending+write-extension+write-field+write-fields+write-group+write-groups+write-item+write-items+write-nested+write-value-spec =
     close
+    μ-write-body
     μ-write-extending
     μ-write-extension
     μ-write-field
@@ -610,21 +719,22 @@ pub +write-extending+write-extension+write-field+write-fields+write-group+write-
     μ-write-item
     μ-write-items
     μ-write-nested
-    μ-write-value (λ t. write-extending-lts.spec (write-extending-claims t) (write-extending-at t)
+    μ-write-value (λ t. write-body-lts.spec (write-body-claims t) (write-body-at t)
+    write-body.Post (λ c κs. search needs) (λ c. search needs) (write-body-write-bytes-requires t) (write-body-write-fields-requires t) (write-body-write-extension-requires t) (λ c. search needs) (write-body-write-u32-requires t) (write-body-add-t12 t) (λ c. search needs) (write-body-returns t)) (λ t. write-extending-lts.spec (write-extending-claims t) (write-extending-at t)
     write-extending.Post (write-extending-add-next t) (write-extending-has-mark-requires t) (write-extending-write-text-requires t) (λ c. search needs) (write-extending-returns t) (write-extending-write-nested-requires t) (λ c. search needs) (write-extending-returns-2 t)) (λ t. write-extension-lts.spec (write-extension-claims t) (write-extension-at t)
     write-extension.Post (λ c κs. search needs) (λ c. search needs) (write-extension-read-u32-requires t) (λ c. search needs) (write-extension-write-u32-requires t) (λ c. search needs) (write-extension-write-bytes-requires t) (λ c. search needs) (λ c. search needs) (λ c. search needs) (λ c. search needs) (write-extension-write-groups-requires t) (λ c. search needs) (write-extension-returns t) (write-extension-write-u32-requires-2 t) (λ c. search needs) (write-extension-returns-2 t)) (λ t. write-field-lts.spec (write-field-claims t) (write-field-at t)
-    write-field.Post (write-field-add-next t) (λ c κs. search needs) (write-field-has-mark-requires t) (λ c κs. search needs) (write-field-fill-requires t) (λ c. search needs) (write-field-returns t) (write-field-fill-requires-2 t) (λ c. search needs) (write-field-write-value-requires t) (λ c. search needs) (write-field-returns-2 t) (write-field-write-value-requires-2 t) (λ c. search needs) (write-field-returns-3 t)) (λ t. write-fields-lts.spec (write-fields-claims t) (write-fields-at t)
+    write-field.Post (λ c κs. search needs) (write-field-has-mark-requires t) (λ c κs. search needs) (write-field-fill-requires t) (write-field-add-t19 t) (λ c. search needs) (write-field-returns t) (write-field-fill-requires-2 t) (write-field-add-place t) (write-field-write-value-requires t) (write-field-same-length-2 t) (write-field-returns-2 t)) (λ t. write-fields-lts.spec (write-fields-claims t) (write-fields-at t)
     write-fields.Post
     write-fields-Inv-loop
     write-fields-μ-loop (λ c κs. search needs) (write-fields-field-count-requires t) (write-fields-sub-deeper t) (λ c. search needs) (write-fields-loop-holds t) (λ c κs. search needs) (write-fields-add-write-bytes t) (write-fields-write-bytes-requires t) (λ c. search needs) (λ c. search needs) (λ c. search needs) (λ c. search needs) (write-fields-loop-again t) (λ c κs. search needs) (write-fields-write-field-requires t) (write-fields-add-place-2 t) (λ c. search needs) (λ c. search needs) (λ c. search needs) (write-fields-loop-again-2 t) (λ c. search needs) (write-fields-returns t)) (λ t. write-group-lts.spec (write-group-claims t) (write-group-at t)
-    write-group.Post (λ c κs. search needs) (write-group-read-u64-requires t) (write-group-find-requires t) (write-group-sub-deeper t) (λ c κs. search needs) (λ c. search needs) (write-group-write-bytes-requires t) (write-group-write-fields-requires t) (write-group-write-extension-requires t) (λ c. search needs) (write-group-write-u32-requires t) (write-group-add-t15 t) (λ c. search needs) (write-group-returns t)) (λ t. write-groups-lts.spec (write-extending-below t, write-extending.Post) (write-groups-at t)
+    write-group.Post (λ c κs. search needs) (write-group-read-u64-requires t) (write-group-find-requires t) (write-group-sub-write-body t) (write-group-write-body-requires t) (λ c. search needs) (write-group-returns t)) (λ t. write-groups-lts.spec (write-groups-claims t) (write-groups-at t)
     write-groups.Post
     write-groups-Inv-loop
     write-groups-μ-loop (write-groups-loop-holds t) (write-groups-write-extending-requires t) (λ c. search needs) (λ c. search needs) (λ c. search needs) (write-groups-loop-again t) (λ c. search needs) (write-groups-returns t)) (λ t. write-item-lts.spec (write-item-claims t) (write-item-at t)
     write-item.Post (λ c. search needs) (λ c κs. search needs) (write-item-write-bytes-requires t) (λ c. search needs) (λ c κs. search needs) (λ c κs. search needs) (write-item-write-bytes-requires-2 t) (λ c. search needs) (λ c κs. search needs) (write-item-write-inline-requires t) (λ c. search needs) (write-item-write-text-requires t) (λ c. search needs) (write-item-write-fields-requires t) (λ c. search needs) (write-item-write-nested-requires t) (λ c. search needs) (write-item-returns t) (λ c. search needs) (write-item-returns-2 t) (λ c. search needs) (write-item-returns-3 t) (λ c. search needs) (write-item-returns-4 t) (λ c. search needs) (write-item-returns-5 t) (λ c. search needs) (write-item-returns-6 t)) (λ t. write-items-lts.spec (write-items-claims t) (write-items-at t)
     write-items.Post
     write-items-Inv-loop
-    write-items-μ-loop (λ c. search needs) (λ c κs. search needs) (write-items-write-plain-requires t) (λ c. search needs) (write-items-returns t) (write-items-loop-holds t) (write-items-add-behind t) (write-items-write-item-requires t) (write-items-add-place t) (λ c. search needs) (λ c. search needs) (write-items-loop-again t) (λ c. search needs) (write-items-returns-2 t)) (λ t. write-nested-lts.spec (write-nested-claims t) (write-nested-at t)
+    write-items-μ-loop (λ c. search needs) (λ c κs. search needs) (write-items-write-plain-requires t) (λ c. search needs) (write-items-returns t) (λ c. search needs) (write-items-write-texts-requires t) (λ c. search needs) (write-items-returns-2 t) (write-items-loop-holds t) (write-items-add-behind t) (write-items-write-item-requires t) (write-items-add-place t) (λ c. search needs) (λ c. search needs) (write-items-loop-again t) (λ c. search needs) (write-items-returns-3 t)) (λ t. write-nested-lts.spec (write-nested-claims t) (write-nested-at t)
     write-nested.Post (λ c. search needs) (write-nested-write-u32-requires t) (λ c. search needs) (λ c. search needs) (λ c. search needs) (write-nested-write-group-requires t) (write-nested-add-t14 t) (λ c. search needs) (write-nested-returns t))
     λ t. write-value-lts.spec (write-value-claims t) (write-value-at t)
-    write-value.Post (λ c κs. search needs) (λ c κs. search needs) (λ c κs. search needs) (write-value-read-u32-requires t) (λ c. search needs) (write-value-write-u32-requires t) (write-value-write-bytes-requires t) (λ c. search needs) (write-value-mul-end t) (write-value-add-end t) (write-value-add-end-2 t) (write-value-write-items-requires t) (λ c. search needs) (write-value-returns t) (write-value-write-item-requires t) (λ c. search needs) (write-value-returns-2 t)
+    write-value.Post (λ c κs. search needs) (λ c κs. search needs) (λ c κs. search needs) (write-value-add-read-u32 t) (write-value-read-u32-requires t) (write-value-sub-write-u32 t) (write-value-write-u32-requires t) (write-value-add-write-bytes t) (write-value-write-bytes-requires t) (λ c. search needs) (write-value-mul-end t) (write-value-add-end t) (write-value-add-end-2 t) (write-value-write-items-requires t) (write-value-same-length t) (write-value-returns t)

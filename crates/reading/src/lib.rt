@@ -103,13 +103,14 @@ fn locate_item(
     requires { ⌜ (Widths (now index)) × (row + 16 ≤ length (now table)) × (FieldLaid (widthIn (now index)) (now group) (fieldIn (now table) row) at) ⌝ }
     ensures { λ r. ⌜ Finds (now (table .entry)) r (fieldItem (widthIn (now (index .entry))) (fieldIn (now (table .entry)) row) (now (group .entry)) at item) ⌝ }
 {
+    let mut place = at;
     if schema::is_optional(table, row) {
         if group[at] == 0 {
             return Located::Missing { number: 29 };
         }
-        return locate_value(table, index, row, group, at + 1, item);
+        place += 1;
     }
-    locate_value(table, index, row, group, at, item)
+    locate_value(table, index, row, group, place, item)
 }
 
 // How wide the first `count` fields are.

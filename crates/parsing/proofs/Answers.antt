@@ -99,6 +99,10 @@ module _ (s : List ℕ) (d : ℕ) where
 pub ready-at : {s : List ℕ} {pos d : ℕ} → Ready s pos d → (next : ℕ) → next ≤ length s → Ready s next d
 ready-at R next h = record { small = R .small; inside = h; low = R .low }
 
+-- what another writing counts, if it is the same
+pub count-as : (n d : ℕ) {c : Count} {x y : Writing} → x ≡ y → c ≡ after d (count n y) → c ≡ after d (count n x)
+count-as n d e g = g ∙ ap (λ (z : Writing). after d (count n z)) (sym e)
+
 -- ONE WRITING AND THEN ANOTHER
 
 module _ (n d : ℕ) where

@@ -9,21 +9,22 @@ use lib.ListN.{length, take, drop, length-append, length-drop}
 use lib.Dec.{leb}
 use borrow.Author.Tests.{le-leb, lt-leb, lt-ltb, le-ltb, eq-eqb, ne-eqb}
 use Rattle.wire.specs.Bytes.{part, le, bytesOf, same}
-use Rattle.wire.proofs.Laws.{length-bytes}
 use Rattle.schema.specs.Faults.{need}
 use Rattle.schema.specs.Schema.{Group, width, find, known, allows}
 use Rattle.message.specs.Sheet.{GB, XT, XU, GE, markBytes}
-use Rattle.sheet.specs.Written.{Writing, stopped, wrote, Writer, InnerW, joined, nextW, placed, grab, due, thenW, markedW, indirectW, innerB, itemsW, listB, staticW, extendingB, extensionW, swapped, backW, behindW, closed, bodyW, headW, groupW, ended, sheetW}
-use Rattle.sheet.proofs.Match.{SatW, saidW, unsaidW, satw-need}
+use Rattle.sheet.specs.Written.{Writing, stopped, wrote, Writer, InnerW, joined, nextW, placed, grab, due, thenW, markedW, indirectW, innerB, itemsW, listB, staticW, extendingB, extensionW, swapped, backW, behindW, framed, closed, bodyW, headW, groupW, ended, sheetW}
+use Rattle.sheet.proofs.Match.{SatW, saidW, unsaidW, satw-is, satw-need, satw-all}
 use Rattle.sheet.proofs.Layers.{satw-grab, satw-due}
+use Rattle.sheet.proofs.Writers.{placed-wrote}
+use Rattle.sheet.proofs.Groups.{framed-length, satw-closed}
+use Rattle.sheet.proofs.Widths.{Wide, wide-is, wides-indirect, wides-static, wides-extension}
 use Rattle.parsing.specs.Count.{Count, count, capped, after}
 use Rattle.parsing.specs.Parse.{passed, refused, parsedOf, Counts, Finds, recordFault, endW, Ready}
 use Rattle.parsing.specs.declared.Parsed.the-variants.{Counted, Refused}
 use Rattle.parsing.specs.declared.Step.{Step}
-use Rattle.parsing.proofs.Answers.{refuses, stays, went, halted, fails, capped-more}
+use Rattle.parsing.proofs.Answers.{refuses, stays, went, halted, fails, capped-more, count-as}
 use Rattle.parsing.proofs.Records.{record-small, record-inside, record-good, record-bad, at-mark, behind-mark}
 use Rattle.parsing.proofs.Values.{marked-indirect}
-use Rattle.parsing.proofs.Long.{long-is, long-indirect, long-static, long-extension}
 use Rattle.parsing.proofs.Fields.{list-bad, list-empty, list-good}
 
 -- THE EXTENSION
@@ -46,13 +47,13 @@ module _ (s : List ℕ) (pos d : ℕ) (R : Ready s pos d) (gs : List Group) (I :
       extension-empty o = extension-is _ (list-empty s pos d R XT 1 4 (indirectW (extendingB gs I)) y is z n ic (omega arith))
 
       pub extension-some : (n ≡ 0 → ⊥) → (e : ℕ) → e ≡ capped (d + (4 + n * 4)) → (c : Count) → Counts s e (itemsW 4 (indirectW (extendingB gs I)) n) (pos + 6) c → Counts s d (extensionW gs I) pos c
-      extension-some o e q c g = extension-is c (list-good s pos d R XT 1 4 (indirectW (extendingB gs I)) y is z n ic (omega arith) (long-indirect (extendingB gs I)) e q c g)
+      extension-some o e q c g = extension-is c (list-good s pos d R XT 1 4 (indirectW (extendingB gs I)) y is z n ic (omega arith) (wides-indirect (extendingB gs I)) e q c g)
 
 -- one of its groups
 pub extending-group : (s : List ℕ) (pos d : ℕ) (gs : List Group) (I : InnerW) → same (part 2 pos s) (markBytes XU) ≡ false → (c : Count)
     → Counts s d (markedW GB (indirectW (innerB I 0))) pos c → Counts s d (indirectW (extendingB gs I)) pos c
 unfolding indirectW extendingB innerB
-extending-group s pos d gs I m c g at fr = g at fr ∙ ap (λ (x : Writing). after d (count (length s) x)) (marked-indirect GB (innerB I 0) at fr (drop pos s) ∙ sym (kept at fr))
+extending-group s pos d gs I m c g at fr = count-as _ _ (kept at fr ∙ sym (marked-indirect GB (innerB I 0) at fr (drop pos s))) (g at fr)
   where
     kept : (at fr : ℕ) → indirectW (extendingB gs I) at fr (drop pos s) ≡ placed (fr - at) (due (markBytes GB) (drop pos s) (λ r. innerB I 0 fr r))
     kept at fr = rw m
@@ -74,21 +75,18 @@ due-counts N d e o k r F D f g h = go (leb 2 (length r)) (same (take 2 r) k)
 -- the group's bytes: the head of 12, the extension's offset, the fields, and the data of both
 module _ (N d e t o w : ℕ) (id F D : List ℕ) (l8 : length id ≡ 8) (lw : length F ≡ w) (ie : e ≡ capped (d + (16 + w))) (it : t ≡ capped (e + length D)) where
   group-length : (F′ D′ : List ℕ) → length F′ ≡ 4
-      → capped (t + length (D′ ++ [])) ≡ capped (d + length ((bytesOf 4 (8 + length (F′ ++ F) + length (D ++ D′)) ++ (id ++ ((F′ ++ F) ++ (D ++ D′)))) ++ []))
+      → capped (t + length (D′ ++ [])) ≡ capped (d + length (framed id (F′ ++ F) (D ++ D′) ++ []))
   group-length F′ D′ l4 =
-      let b = length-bytes 4 (8 + length (F′ ++ F) + length (D ++ D′)) in
-      let q : length (bytesOf 4 (8 + length (F′ ++ F) + length (D ++ D′)) ++ (id ++ ((F′ ++ F) ++ (D ++ D′)))) ≡ 16 + w + length D + length D′ =
-      rw (length-append (bytesOf 4 (8 + length (F′ ++ F) + length (D ++ D′))) (id ++ ((F′ ++ F) ++ (D ++ D′))), b, length-append id ((F′ ++ F) ++ (D ++ D′)), length-append (F′ ++ F) (D ++ D′), length-append F′ F, length-append D D′)
-      (omega (arith, l8, lw, l4)) in
+      let q : length (framed id (F′ ++ F) (D ++ D′)) ≡ 16 + w + length D + length D′ = framed-length id (F′ ++ F) (D ++ D′) l8 ∙ rw (length-append F′ F, length-append D D′) (omega (arith, lw, l4)) in
       let sum : capped (e + length D + length D′) ≡ capped (d + (16 + w + length D + length D′)) =
       ap capped (add-assoc e (length D) (length D′)) ∙ ap (λ (n : ℕ). capped (n + (length D + length D′))) ie ∙ capped-more (d + (16 + w)) (length D + length D′) ∙ ap capped (omega arith) in
       rw (append-nil, append-nil, q, it, capped-more) sum
 
-  closing : (y : Writing) (a f : ℕ) → SatW (λ F′ D′ r. length F′ ≡ 4) y
+  closing : (y : Writing) (a f : ℕ) → Wide 4 y
       → after t (count N (nextW y (λ D′ r. endW a (f + length D′) r))) ≡ after d (count N (placed o (closed id (swapped F D y))))
   unfolding nextW swapped closed endW after count placed joined
   closing y a f unsaidW = refl
-  closing y a f (saidW {F = F′} {D = D′} {r = r} l4) = due-counts N d t o GE r F′ D′ (λ r′. wrote [] [] r′) (λ r′. wrote (bytesOf 4 (8 + length (F′ ++ F) + length (D ++ D′)) ++ (id ++ ((F′ ++ F) ++ (D ++ D′)))) [] r′)
+  closing y a f (saidW {F = F′} {D = D′} {r = r} l4) = due-counts N d t o GE r F′ D′ (λ r′. wrote [] [] r′) (λ r′. wrote (framed id (F′ ++ F) (D ++ D′)) [] r′)
       (λ r′. rw (group-length F′ D′ l4))
 
 module _ (s : List ℕ) (pos d : ℕ) (gs : List Group) (I : InnerW) (g : ℕ) (id : List ℕ) (l8 : length id ≡ 8) (w : ℕ) (iw : w ≡ width gs 5 g) (e : ℕ) (ie : e ≡ capped (d + (16 + w)))
@@ -117,10 +115,9 @@ module _ (s : List ℕ) (pos d : ℕ) (gs : List Group) (I : InnerW) (g : ℕ) (
   body-passed z c h at fr =
       let x = went s e fields v (f 16 area) z in
       let D = x .values in
-      let lw = long-is (width gs 5 g) (staticW gs I 5 g) (long-static gs I 5 g) 16 area (drop pos s) (x .fixed) D (drop (v .place) s) (x .is) ∙ sym iw in
-      h 12 (area + length D)
-      ∙ closing (length s) d e (v .length) (fr - at) w id (x .fixed) D l8 lw ie (x .sum) (extensionW gs I 12 (area + length D) (drop (v .place) s)) (12 + 4) (area + length D) (long-extension gs I 12 (area + length D) (drop (v .place) s))
-      ∙ ap (λ (y : Writing). after d (count (length s) y)) (sym (body-is at fr ∙ ap (λ (x : Writing). placed (fr - at) (closed id (backW x (λ D r. extensionW gs I 12 (area + length D) r)))) (x .is)))
+      let lw = wide-is (wides-static gs I 5 g 16 area (drop pos s)) (x .is) ∙ sym iw in
+      count-as _ _ (body-is at fr ∙ ap (λ (x : Writing). placed (fr - at) (closed id (backW x (λ D r. extensionW gs I 12 (area + length D) r)))) (x .is)) (h 12 (area + length D)
+      ∙ closing (length s) d e (v .length) (fr - at) w id (x .fixed) D l8 lw ie (x .sum) (extensionW gs I 12 (area + length D) (drop (v .place) s)) (12 + 4) (area + length D) (wides-extension gs I 12 (area + length D) (drop (v .place) s)))
 
 -- THE HEAD
 
@@ -189,7 +186,7 @@ module _ (s : List ℕ) (pos d : ℕ) (R : Ready s pos d) (gs : List Group) (a l
 
         pub group-body : (l ≡ 0 → ⊥) → (c : Count) → Counts s d (indirectW (λ p r. bodyW gs (groupW gs (l - 1)) g id r)) (pos + 10) c → Counts s d Opened pos c
         unfolding indirectW
-        group-body o c f at fr = f at fr ∙ ap (λ (x : Writing). after d (count (length s) x)) (sym (opened-body at fr ∙ go l o))
+        group-body o c f at fr = count-as _ _ (opened-body at fr ∙ go l o) (f at fr)
           where
             go : (l : ℕ) → (l ≡ 0 → ⊥) → placed (fr - at) (bodyAt l g id (drop (pos + 10) s)) ≡ indirectW (λ p r. bodyW gs (groupW gs (l - 1)) g id r) at fr (drop (pos + 10) s)
             go zero o = absurd (o refl)
@@ -198,28 +195,15 @@ module _ (s : List ℕ) (pos d : ℕ) (R : Ready s pos d) (gs : List Group) (a l
 -- THE SHEET
 
 -- a group hangs nothing behind itself
-satw-closed : (id : List ℕ) (x : Writing) → SatW (λ X Y r. Y ≡ []) (closed id x)
-unfolding closed
-satw-closed id (stopped k p) = unsaidW
-satw-closed id (wrote F D r) = satw-due GE r _ (λ r′ e. saidW refl)
-
 group-alone : (gs : List Group) (l a : ℕ) (s : List ℕ) → SatW (λ X Y r. Y ≡ []) (groupW gs l a s)
 unfolding groupW headW bodyW
 group-alone gs zero a s = satw-grab _ 8 s _ (λ i r e l. satw-need _ 2 _ (λ _. satw-need _ 25 _ (λ _. unsaidW)))
-group-alone gs (suc l) a s = satw-grab _ 8 s _ (λ i r e l. satw-need _ 2 _ (λ _. satw-need _ 25 _ (λ _. satw-closed i _)))
+group-alone gs (suc l) a s = satw-grab _ 8 s _ (λ i r e l. satw-need _ 2 _ (λ _. satw-need _ 25 _ (λ _. satw-closed i (satw-all (λ F D r r′ q. refl) _))))
 
 placed-stopped : (o : ℕ) (x : Writing) (k p : ℕ) → placed o x ≡ stopped k p → x ≡ stopped k p
 unfolding placed
 placed-stopped o (stopped j q) k p e = e
 placed-stopped o (wrote X Y r) k p e = absurd (let z : _≡_ {A = ℕ} 0 1 = cc in omega arith)
-
-placed-wrote : (o : ℕ) (x : Writing) (F D r : List ℕ) → placed o x ≡ wrote F D r → SatW (λ X Y r. Y ≡ []) x → (X : List ℕ) × (x ≡ wrote X [] r) × (length D ≡ length X)
-unfolding placed
-placed-wrote o x F D r e unsaidW = absurd (let z : _≡_ {A = ℕ} 0 1 = cc in omega arith)
-placed-wrote o x F D r e (saidW {F = X} {D = Y} {r = r′} n) =
-    let p : r′ ≡ r = cc in
-    let q : X ++ Y ≡ D = cc in
-    (X, rw (n, p), rw (← q, n, append-nil))
 
 module _ (gs : List Group) (s : List ℕ) where
   pub sheet-long : 1048576 < length s → Refused 42 0 ≡ parsedOf (sheetW gs s)
@@ -252,8 +236,9 @@ module _ (gs : List Group) (s : List ℕ) where
       its : (X : List ℕ) × (message ≡ wrote X [] (drop (v .place) s)) × (v .length ≡ capped (length X))
       its =
           let x = went s 0 _ v (f 0 0) z in
-          let p = placed-wrote 0 message (x .fixed) (x .values) (drop (v .place) s) (sym message-is ∙ x .is) message-alone in
-          (p .0, p .1, x .sum ∙ ap capped (omega (arith, p .2)))
+          let p = placed-wrote 0 message (x .fixed) (x .values) (drop (v .place) s) (sym message-is ∙ x .is) in
+          let n : p .1 ≡ [] = satw-is (rw (p .2) at message-alone) in
+          (p .0, p .2 ∙ ap (λ (Y : List ℕ). wrote (p .0) Y (drop (v .place) s)) n, x .sum ∙ ap capped (omega (arith, ap length (p .4) ∙ length-append (p .0) (p .1), ap length n)))
 
       pub sheet-more : v .place < length s → Refused 43 (v .place) ≡ parsedOf (sheetW gs s)
       unfolding ended parsedOf need

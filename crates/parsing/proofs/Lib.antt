@@ -2,6 +2,5 @@ pub mod Answers
 pub mod Records
 pub mod Values
 pub mod Loops
-pub mod Long
 pub mod Fields
 pub mod Groups

@@ -1,6 +1,6 @@
 -- One turn of each loop: the answer for what is left is the answer for all.
-use mathlib.Core.Path.{_≡_, refl, ap, _∙_}
-use mathlib.Core.List.{List, [], append-nil}
+use mathlib.Core.Path.{_≡_, refl}
+use mathlib.Core.List.{List, []}
 use Prim.Native.Nat.{ℕ, suc, _+_, _-_, _<_, _≤_}
 use native.Mathlib.Omega.{arith}
 use native.Mathlib.Nat.{sub-zero}
@@ -8,8 +8,8 @@ use lib.ListN.{length, drop}
 use Rattle.schema.specs.Schema.{fieldWidth}
 use Rattle.schema.specs.Table.{fieldAt, fieldsAt}
 use Rattle.schema.proofs.Records.{fields-more, fields-none}
-use Rattle.sheet.specs.Written.{Writing, stopped, wrote, joined, nextW, Writer, InnerW, noneW, thenW, itemsW, fieldW, fieldsW}
-use Rattle.parsing.specs.Count.{Count, count, after}
+use Rattle.sheet.specs.Written.{Writer, InnerW, noneW, thenW, itemsW, fieldW, fieldsW}
+use Rattle.parsing.specs.Count.{Count}
 use Rattle.parsing.specs.Parse.{passed, Counts, Finds, Ready}
 use Rattle.parsing.specs.declared.Step.{Step}
 use Rattle.parsing.proofs.Answers.{stays, next-passed, next-stopped}
@@ -49,16 +49,6 @@ module _ (s : List ℕ) (w : ℕ) (W : Writer) (n i pos d : ℕ) where
 
 pub items-all : (s : List ℕ) (w : ℕ) (W : Writer) (n pos d : ℕ) (c : Count) → Counts s d (itemsW w W (n - 0)) pos c → Counts s d (itemsW w W n) pos c
 items-all s w W n pos d c g = rw sub-zero at g
-
--- what one item writes is what the item itself writes
-next-none : (x : Writing) → nextW x (λ D r. wrote [] [] r) ≡ x
-unfolding nextW joined
-next-none (stopped k l) = refl
-next-none (wrote F D r) = simp append-nil
-
-pub items-one : (s : List ℕ) (w : ℕ) (W : Writer) (pos d : ℕ) (c : Count) → Counts s d (itemsW w W 1) pos c → Counts s d W pos c
-unfolding itemsW noneW
-items-one s w W pos d c g at fr = g at fr ∙ ap (λ (u : Writing). after d (count (length s) u)) (next-none (W at fr (drop pos s)))
 
 -- FIELDS
 

@@ -4,7 +4,7 @@ use mathlib.Core.Bool.{Bool, true, false, not, cond}
 use mathlib.Core.List.{List, [], _∷_, _++_, append-nil}
 use Prim.Native.Nat.{ℕ, _+_, _-_, _<_, _≤_}
 use native.Mathlib.Omega.{arith}
-use lib.ListN.{length, take, drop, getD, replicate, length-append}
+use lib.ListN.{length, take, drop, replicate, length-append}
 use lib.Seq.{take-take}
 use lib.Dec.{leb}
 use borrow.Author.Tests.{le-leb, lt-leb}
@@ -14,10 +14,11 @@ use Rattle.schema.specs.Faults.{need}
 use Rattle.schema.specs.Schema.{Test, any, flag, below, symbol, passes, testFault, textOk, plain, inline, kindWidth, Group, known}
 use Rattle.schema.specs.FieldKinds.{testedKind, kindFault}
 use Rattle.schema.specs.declared.Tested.{Tested}
-use Rattle.schema.specs.declared.Tested.the-variants.{Flag, Millis, Nanos, Symbol}
 use Rattle.message.specs.Sheet.{Mark, VA, ST, XU, markBytes, kindMark, GE}
 use Rattle.sheet.specs.Written.{Writing, stopped, wrote, Writer, InnerW, Body, placed, grab, due, counted, markedW, plainW, inlineW, indirectW, textB, kindW, extendingB}
-use Rattle.parsing.specs.Parse.{passed, refused, Finds, recordFault, countedFault, itemW, endW, Ready}
+use Rattle.sheet.specs.Writers.{itemW, textOf}
+use Rattle.sheet.proofs.Writers.{tested-plain}
+use Rattle.parsing.specs.Parse.{passed, refused, Finds, recordFault, countedFault, endW, Ready}
 use Rattle.parsing.specs.Count.{capped}
 use Rattle.parsing.proofs.Answers.{refuses, adds, stays}
 use Rattle.parsing.proofs.Records.{record-small, counted-small, record-inside, record-good, record-bad, mark-good, mark-bad, at-mark, behind-mark, counted-inside, counted-good, counted-bad}
@@ -95,29 +96,22 @@ module _ (s : List ℕ) (pos d : ℕ) (R : Ready s pos d) (w : ℕ) (t : Test) (
         go false p e = rw e (plain-fails p (λ o. n (e ∙ o)))
 
 -- the tested numbers, as the code sees them
-module _ (s : List ℕ) (pos d : ℕ) (R : Ready s pos d) (es : List (List ℕ)) (sw : ℕ → ℕ) (I : InnerW) (S : ℕ → Writer) where
-  pub tested-bad : (T : Tested) (w x : ℕ) → w ≡ kindWidth sw (testedKind es T) → x ≡ recordFault (markBytes VA) w (drop pos s) → (x ≡ 0 → ⊥) → Finds s d (itemW I S (testedKind es T)) pos (refused x pos)
-  unfolding testedKind kindWidth kindMark kindW
-  tested-bad Flag w x e is z = plain-bad s pos d R 1 flag x (rw e at is) z
-  tested-bad Millis w x e is z = plain-bad s pos d R 4 (below 86400000) x (rw e at is) z
-  tested-bad Nanos w x e is z = plain-bad s pos d R 8 (below 86400000000000) x (rw e at is) z
-  tested-bad (Symbol l) w x e is z = plain-bad s pos d R 4 (symbol (getD es l [])) x (rw e at is) z
+module _ (s : List ℕ) (pos d : ℕ) (R : Ready s pos d) (es : List (List ℕ)) (sw : ℕ → ℕ) (I : InnerW) (S : ℕ → Writer) (T : Tested) (w x : ℕ) (iw : w ≡ kindWidth sw (testedKind es T)) (is : x ≡ recordFault (markBytes VA) w (drop pos s)) where
+  number : (t : Test) × (testedKind es T ≡ plain w t)
+  number = tested-plain sw es T w iw
 
-  pub tested-fails : (T : Tested) (w x y : ℕ) → w ≡ kindWidth sw (testedKind es T) → x ≡ recordFault (markBytes VA) w (drop pos s) → x ≡ 0
-      → y ≡ kindFault (testedKind es T) (drop (pos + 2) s) → (y ≡ 0 → ⊥) → Finds s d (itemW I S (testedKind es T)) pos (refused y pos)
-  unfolding testedKind kindWidth kindMark kindW
-  tested-fails Flag w x y e is z iy n = number-bad s pos d R 1 flag x (rw e at is) z y iy n
-  tested-fails Millis w x y e is z iy n = number-bad s pos d R 4 (below 86400000) x (rw e at is) z y iy n
-  tested-fails Nanos w x y e is z iy n = number-bad s pos d R 8 (below 86400000000000) x (rw e at is) z y iy n
-  tested-fails (Symbol l) w x y e is z iy n = number-bad s pos d R 4 (symbol (getD es l [])) x (rw e at is) z y iy n
+  pub tested-bad : (x ≡ 0 → ⊥) → Finds s d (itemW I S (testedKind es T)) pos (refused x pos)
+  unfolding kindMark kindW
+  tested-bad z = rw (number .1) (plain-bad s pos d R w (number .0) x is z)
 
-  pub tested-good : (T : Tested) (w x : ℕ) → w ≡ kindWidth sw (testedKind es T) → x ≡ recordFault (markBytes VA) w (drop pos s) → x ≡ 0
-      → kindFault (testedKind es T) (drop (pos + 2) s) ≡ 0 → Finds s d (itemW I S (testedKind es T)) pos (passed (pos + (2 + w)) d)
-  unfolding testedKind kindWidth kindMark kindW
-  tested-good Flag w x e is z n = rw e (number-good s pos d R 1 flag x (rw e at is) z n)
-  tested-good Millis w x e is z n = rw e (number-good s pos d R 4 (below 86400000) x (rw e at is) z n)
-  tested-good Nanos w x e is z n = rw e (number-good s pos d R 8 (below 86400000000000) x (rw e at is) z n)
-  tested-good (Symbol l) w x e is z n = rw e (number-good s pos d R 4 (symbol (getD es l [])) x (rw e at is) z n)
+  module _ (z : x ≡ 0) where
+    pub tested-fails : (y : ℕ) → y ≡ kindFault (testedKind es T) (drop (pos + 2) s) → (y ≡ 0 → ⊥) → Finds s d (itemW I S (testedKind es T)) pos (refused y pos)
+    unfolding kindMark kindW
+    tested-fails y iy n = rw (number .1) (number-bad s pos d R w (number .0) x is z y (rw (number .1) at iy) n)
+
+    pub tested-good : kindFault (testedKind es T) (drop (pos + 2) s) ≡ 0 → Finds s d (itemW I S (testedKind es T)) pos (passed (pos + (2 + w)) d)
+    unfolding kindMark kindW
+    tested-good e = rw (number .1) (number-good s pos d R w (number .0) x is z (rw (number .1) at e))
 
 -- TEXT
 
@@ -161,13 +155,13 @@ module _ (s : List ℕ) (pos d : ℕ) (R : Ready s pos d) (u : Bool) (x : ℕ) (
             stays s d _ (pos + (6 + n)) (n ∷ (part n (pos + 6) s ++ replicate (c - n) 0)) (inline-at at fr ∙ rw (← ic, le-leb n c l, e)) (omega (arith, k, ic)) (R .low)
 
   abbrev record-of : ℕ → ℕ → Writing
-  record-of at fr = markedW ST (indirectW (textB u)) at fr (drop pos s)
+  record-of at fr = textOf u at fr (drop pos s)
 
   text-is : (at fr : ℕ) → record-of at fr ≡ placed (fr - at) (due (markBytes ST) (drop pos s) (λ r. counted r (long r)))
   unfolding textB
   text-is at fr = marked-indirect ST (textB u) at fr (drop pos s)
 
-  pub text-bad : (x ≡ 0 → ⊥) → Finds s d (markedW ST (indirectW (textB u))) pos (refused x pos)
+  pub text-bad : (x ≡ 0 → ⊥) → Finds s d (textOf u) pos (refused x pos)
   unfolding placed
   text-bad z at fr = refuses s d _ x pos _ z (rw is (counted-small _ _)) (text-is at fr ∙ ap (placed (fr - at)) (counted-bad s pos (R .inside) _ x is long z)) (at-mark s pos (R .inside))
 
@@ -175,13 +169,13 @@ module _ (s : List ℕ) (pos d : ℕ) (R : Ready s pos d) (u : Bool) (x : ℕ) (
     text-at : (at fr : ℕ) → record-of at fr ≡ placed (fr - at) (long (drop (pos + 2) s) (part 4 (pos + 2) s) (part n (pos + 6) s) (drop (pos + (6 + n)) s))
     text-at at fr = text-is at fr ∙ ap (placed (fr - at)) (counted-good s pos (R .inside) _ x is long z n ic)
 
-    pub text-wrong : textOk u (part n (pos + 6) s) ≡ false → Finds s d (markedW ST (indirectW (textB u))) pos (refused 9 pos)
+    pub text-wrong : textOk u (part n (pos + 6) s) ≡ false → Finds s d (textOf u) pos (refused 9 pos)
     unfolding need placed
     text-wrong e at fr =
         let l = counted-inside s pos (R .inside) _ x is z in
         refuses s d _ 9 pos _ (omega arith) (omega arith) (text-at at fr ∙ rw e) (behind-mark s pos (omega (arith, l)))
 
-    pub text-good : textOk u (part n (pos + 6) s) ≡ true → (k : ℕ) → k ≡ capped (d + (4 + n)) → Finds s d (markedW ST (indirectW (textB u))) pos (passed (pos + (6 + n)) k)
+    pub text-good : textOk u (part n (pos + 6) s) ≡ true → (k : ℕ) → k ≡ capped (d + (4 + n)) → Finds s d (textOf u) pos (passed (pos + (6 + n)) k)
     unfolding need placed
     text-good e k q at fr =
         let l = counted-inside s pos (R .inside) _ x is z in

@@ -7,13 +7,10 @@ use lib.ListN.{length, take, drop}
 use lib.Dec.{leb, eqb}
 use Rattle.wire.specs.Bytes.{part, le, same}
 use Rattle.schema.specs.Faults.{need}
-use Rattle.schema.specs.Schema.{any, Kind, Field}
-use Rattle.schema.specs.Table.{fieldAt, enums, schema}
-use Rattle.schema.specs.FieldKinds.{kindFrom}
-use Rattle.schema.specs.declared.FieldKind.{FieldKind}
-use Rattle.message.specs.Sheet.{VA, GB, GE, kindMark, fieldMark}
-use Rattle.message.specs.Check.{widthOf}
-use Rattle.sheet.specs.Written.{Writing, stopped, wrote, Writer, InnerW, due, markedW, plainW, indirectW, innerB, kindW, valueW, fieldW, staticW, extendingB, bodyW, groupW}
+use Rattle.schema.specs.Table.{schema}
+use Rattle.message.specs.Sheet.{GB, GE}
+use Rattle.sheet.specs.Written.{Writing, stopped, wrote, Writer, due, markedW, indirectW, bodyW}
+use Rattle.sheet.specs.Writers.{innerOf, nestedOf}
 use Rattle.parsing.specs.Count.{Count, failed, counted, count, capped, after}
 use Rattle.parsing.specs.declared.Step.{Step}
 use Rattle.parsing.specs.declared.Parsed.{Parsed}
@@ -60,43 +57,16 @@ countedFault k s = cond (eqb (recordFault k 4 s) 0) (need (leb (6 + le (part 4 2
 
 -- WRITERS, AS THE CODE CALLS THEM
 
--- An item with its mark; a field's value with its mark.
-abbrev pub itemW : InnerW → (ℕ → Writer) → Kind → Writer
-itemW I S k = markedW (kindMark k) (kindW I S k)
-
-abbrev pub markedValueW : InnerW → (ℕ → ℕ) → (ℕ → Writer) → Field → Writer
-markedValueW I sw S f = markedW (fieldMark f) (valueW I sw S f)
-
 -- "`GE` closes it"
 unfoldable pub endW : Writer
 endW at fr s = due GE s (λ r. wrote [] [] r)
 
--- By the table t, the levels left below the group, the static depth below which it lies, and where the field's record stands.
-abbrev pub innerOf : List ℕ → ℕ → InnerW
-innerOf t levels = groupW (schema t) levels
-
-abbrev pub staticOf : List ℕ → ℕ → ℕ → ℕ → Writer
-staticOf t levels depth = staticW (schema t) (innerOf t levels) depth
-
-abbrev pub plainOf : ℕ → Writer
-plainOf w = markedW VA (plainW w any)
-
-abbrev pub itemOf : List ℕ → ℕ → ℕ → FieldKind → Writer
-itemOf t levels depth kind = itemW (innerOf t levels) (staticOf t levels depth) (kindFrom (enums t) kind)
-
-abbrev pub fieldOf : List ℕ → ℕ → ℕ → ℕ → Writer
-fieldOf t levels depth field = fieldW (innerOf t levels) (widthOf t depth) (staticOf t levels depth) (fieldAt (enums t) (drop field t))
-
 -- a dynamic group with its mark, and what follows its head
 abbrev pub openedOf : List ℕ → ℕ → ℕ → Writer
-openedOf t levels allowed = markedW GB (indirectW (innerB (innerOf t levels) allowed))
+openedOf t levels allowed = markedW GB (nestedOf t levels allowed)
 
 abbrev pub bodyOf : List ℕ → ℕ → ℕ → List ℕ → Writer
 bodyOf t levels group id = indirectW (λ p s. bodyW (schema t) (innerOf t levels) group id s)
-
--- one group of an extension
-abbrev pub extendingOf : List ℕ → ℕ → Writer
-extendingOf t levels = indirectW (extendingB (schema t) (innerOf t levels))
 
 -- WHAT CALLERS SHOW
 

@@ -16,8 +16,9 @@ ghost use Rattle.schema.specs.FieldKinds.{kindFrom, testedKind};
 ghost use Rattle.message.specs.Sheet.{ST, XU, NO, markBytes};
 ghost use Rattle.message.specs.Check.{widthOf};
 ghost use Rattle.sheet.specs.Written.{InnerW, Writer, markedW, indirectW, textB, itemsW, extendingB, extensionW, sheetW};
+ghost use Rattle.sheet.specs.Writers.{itemW, innerOf, staticOf, plainOf, itemOf, fieldOf, extendingOf};
 ghost use Rattle.parsing.specs.Count.{capped};
-ghost use Rattle.parsing.specs.Parse.{parsedOf, passed, refused, Finds, recordFault, countedFault, itemW, endW, innerOf, staticOf, plainOf, itemOf, fieldOf, openedOf, bodyOf, extendingOf, Ready};
+ghost use Rattle.parsing.specs.Parse.{parsedOf, passed, refused, Finds, recordFault, countedFault, endW, openedOf, bodyOf, Ready};
 
 const VA: [u8; 2] = *b"VA";
 

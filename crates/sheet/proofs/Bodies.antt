@@ -155,7 +155,7 @@ unfolding itemsR itemsW thenR thenW
 match-items w R W A zero = rw (let z : 0 * w ≡ 0 = omega arith in z) match-none
 match-items w R W A (suc n) = rw (let z : suc n * w ≡ w + n * w = omega arith in z) (match-then w (n * w) R (itemsR w R n) W (itemsW w W n) A (match-items w R W A n))
 
-pub match-long : (w : ℕ) (R : Reader) (W : Writer) → Match w R W → (at fr : ℕ) (s F D r : List ℕ) → W at fr s ≡ wrote F D r → length F ≡ w
+match-long : (w : ℕ) (R : Reader) (W : Writer) → Match w R W → (at fr : ℕ) (s F D r : List ℕ) → W at fr s ≡ wrote F D r → length F ≡ w
 match-long w R W A at fr s F D r e = satw-is (rw e at (A .back at fr s)) .long
 
 module _ (z : ℕ) (w : ℕ) (R : Reader) (W : Writer) (A : Match w R W) where

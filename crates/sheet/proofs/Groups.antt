@@ -16,7 +16,7 @@ use Rattle.message.specs.Walk.{Ignored, Here, here, done, Reader, Inner, prefix
 use Rattle.message.specs.Proper.{SizedKind, SizedFields, Sized}
 use Rattle.message.proofs.Marking.{taken-le}
 use Rattle.message.proofs.Sat.{Sat, unsaid, said, sat-need, sat-prefixed, sat-next, sat-map, sat-padded}
-use Rattle.sheet.specs.Written.{Writing, Writer, InnerW, kindW, valueW, fieldW, fieldsW, staticW, extensionW, behindW, closed, bodyW, headW, groupW}
+use Rattle.sheet.specs.Written.{Writing, Writer, InnerW, kindW, valueW, fieldW, fieldsW, staticW, extensionW, behindW, framed, closed, bodyW, headW, groupW}
 use Rattle.sheet.proofs.Laws.{four, pads-ones}
 use Rattle.sheet.proofs.Match.{SatW, saidW, unsaidW, satw-is, satw-need, satw-map, Again, Match, match-none, match-then}
 use Rattle.sheet.proofs.Layers.{grab-eats, due-eats, satw-grab, satw-due, match-marked, match-optional, match-plain, match-inline}
@@ -69,18 +69,14 @@ ge-ends : (r : List ℕ) → Ends (GE ++ r)
 unfolding same markBytes
 ge-ends r = refl
 
--- a group's bytes: its size word, its type id i, the bytes in place F and the data area D
-abbrev framed : List ℕ → List ℕ → List ℕ → List ℕ
-framed i F D = bytesOf 4 (8 + length F + length D) ++ (i ++ (F ++ D))
-
-framed-length : (i F D : List ℕ) → length i ≡ 8 → length (framed i F D) ≡ 12 + length F + length D
+pub framed-length : (i F D : List ℕ) → length i ≡ 8 → length (framed i F D) ≡ 12 + length F + length D
 framed-length i F D li = simp (length-append, length-bytes 4 (8 + length F + length D)) (omega arith)
 
 framed-id : (i F D : List ℕ) → length i ≡ 8 → part 8 4 (framed i F D) ≡ i
 framed-id i F D li = let n = 8 + length F + length D in rw (drop-at (bytesOf 4 n) (i ++ (F ++ D)) 4 (length-bytes 4 n)) (take-at i (F ++ D) 8 li)
 
-satw-closed : {Q : List ℕ → List ℕ → List ℕ → Type 0} (i : List ℕ) {x : Writing}
-    → SatW (λ F D r. (r′ : List ℕ) → r ≡ GE ++ r′ → Q (bytesOf 4 (8 + length F + length D) ++ (i ++ (F ++ D))) [] r′) x → SatW Q (closed i x)
+pub satw-closed : {Q : List ℕ → List ℕ → List ℕ → Type 0} (i : List ℕ) {x : Writing}
+    → SatW (λ F D r. (r′ : List ℕ) → r ≡ GE ++ r′ → Q (framed i F D) [] r′) x → SatW Q (closed i x)
 unfolding closed
 satw-closed i unsaidW = unsaidW
 satw-closed i (saidW {r = r} q) = satw-due GE r _ (λ r′ e. saidW (q r′ e))
@@ -110,11 +106,10 @@ module _ (gs : List Group) (ok : Sized gs) (y : Ignored) (l : ℕ) (G : GroupMat
       let x = t .puts 12 (A g) (GE ++ r) (ge-ends r) in
       let k = satw-is (rw (x .is) at (M g .back 12 (A g) (s ++ (GE ++ r)))) .long in
       let few = taken-le (A g) m′ in
-      let lb = length-bytes 4 (8 + length (x .fixed) + length (x .values)) in
       record {
-        own = bytesOf 4 (8 + length (x .fixed) + length (x .values)) ++ (i ++ (x .fixed ++ x .values));
+        own = framed i (x .fixed) (x .values);
         is = rw (append-assoc i (s ++ GE) r, append-assoc s GE r) (grab-eats _ 8 i (s ++ (GE ++ r)) _ li ∙ rw (t₂, eg, t₃, x .is) (due-eats GE r _ refl));
-        small = simp (length-append, lb) (omega (arith, x .small, t .same));
+        small = omega (arith, framed-length i (x .fixed) (x .values) li, x .small, t .same);
       }
 
   group-forth : (c base : ℕ) (b : List ℕ) → Sat (λ s m. (r : List ℕ) → GroupFit (groupW gs (suc l) c (s ++ r)) r (length b)) (groupR y gs (suc l) c base b)

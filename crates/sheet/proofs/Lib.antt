@@ -1,6 +1,8 @@
 pub mod Laws
 pub mod Match
 pub mod Layers
+pub mod Widths
+pub mod Writers
 pub mod Bodies
 pub mod Extension
 pub mod Groups

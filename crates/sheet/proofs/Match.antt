@@ -52,6 +52,10 @@ module _ {Q : List ℕ → List ℕ → List ℕ → Type 0} where
   satw-placed o unsaidW = unsaidW
   satw-placed o (saidW q) = saidW q
 
+  pub satw-all : ((F D r : List ℕ) → Q F D r) → (x : Writing) → SatW Q x
+  satw-all f (stopped n p) = unsaidW
+  satw-all f (wrote F D r) = saidW (f F D r)
+
   pub satw-map : {P : List ℕ → List ℕ → List ℕ → Type 0} {x : Writing} → ((F D r : List ℕ) → P F D r → Q F D r) → SatW P x → SatW Q x
   satw-map f unsaidW = unsaidW
   satw-map f (saidW {F = F} {D = D} {r = r} q) = saidW (f F D r q)

@@ -5,26 +5,26 @@ use mathlib.Core.Bool.{Bool, true, false}
 use mathlib.Core.List.{List, [], _∷_, _++_, append-nil, append-assoc}
 use native.Mathlib.Omega.{arith}
 use native.Mathlib.Nat.{mul-one}
-use lib.ListN.{length, drop, getD, replicate, length-append}
+use lib.ListN.{length, drop, replicate, length-append}
 use borrow.Author.Tests.{leb-true, ltb-true, eq-eqb, ne-eqb}
 use Rattle.wire.specs.Bytes.{part, splice, bytesOf, le}
 use Rattle.wire.proofs.Laws.{length-bytes, length-part}
 use Rattle.schema.specs.Faults.{need}
-use Rattle.schema.specs.Schema.{Test, Kind, any, flag, below, symbol, Field, Group, kindWidth, fieldWidth, width, find, known}
+use Rattle.schema.specs.Schema.{Test, Kind, any, Field, Group, kindWidth, fieldWidth, width, find, known}
 use Rattle.schema.specs.Table.{fieldAt, fieldsAt, schema}
 use Rattle.schema.specs.FieldKinds.{kindFrom, testedKind, plainField}
 use Rattle.schema.specs.declared.FieldKind.{FieldKind}
 use Rattle.schema.specs.declared.FieldKind.the-variants.{Plain, Number, Inline, Indirect, Static, Dynamic}
 use Rattle.schema.specs.declared.Tested.{Tested}
-use Rattle.schema.specs.declared.Tested.the-variants.{Flag, Millis, Nanos, Symbol}
 use Rattle.schema.proofs.Records.{fields-more, fields-none}
 use Rattle.message.specs.Marks.{mark}
 use Rattle.message.specs.Sheet.{Mark, VA, ST, SG, SQ, GB, XT, XU, markBytes, NO, GE, kindMark, fieldMark}
 use Rattle.message.specs.Walk.{Reading, refused, done, prefixed, next, Here, here, strict, Reader, Inner, byte, word, Place, lost, locate, onward, noneR, thenR, markedR, optionalR, plainR, inlineR, indirectR, textR, innerR, itemsR, listR, kindR, valueR, fieldR, fieldsR, extendingR, groupsR, extensionR, extensionIn, behindR, padded, bodyR, headR, groupR, walk}
 use Rattle.message.specs.Check.{itemR, markedValueR, innerOf, staticOf}
-use Rattle.message.proofs.Count.{length-mark}
+use Rattle.message.proofs.Count.{length-mark, items-one}
 use Rattle.message.proofs.CheckFields.{field-required, field-optional, field-there, value-one}
 use Rattle.sheet.specs.Show.{Passage, passage, whole, bodyOf, Reads, Fits, Shown}
+use Rattle.sheet.proofs.Writers.{tested-plain}
 use Rattle.sheet.proofs.ShowLaws.{need-done, next-done, just, then, Opens, alike, Left, shown-none, shown-opens, opened, first-fits, called, written}
 
 -- THE MARKS, AS THE CODE HAS THEM
@@ -68,12 +68,6 @@ prefixed-twice : (x y : List ℕ) (r : Reading) → prefixed x (prefixed y r) �
 unfolding prefixed
 prefixed-twice x y (refused n p) = refl
 prefixed-twice x y (done s m) = ap (λ (t : List ℕ). done t m) (sym (append-assoc x y s))
-
--- nothing behind a reading
-next-none : (r : Reading) → next r (λ m. done [] m) ≡ r
-unfolding next prefixed
-next-none (refused n p) = refl
-next-none (done s m) = ap (λ (t : List ℕ). done t m) (append-nil s)
 
 -- a reading of an inner group, whose marks do not matter
 inner-done : (x : List ℕ) (r : Reading) (i s m : List ℕ) → prefixed x (next r (λ _. done [] i)) ≡ done s m → (j : List ℕ) × (prefixed x r ≡ done s j)
@@ -183,11 +177,6 @@ inline-written n pos x out m₁ m₂ m₃ e f g l h =
 
 -- ITEMS AND FIELDS, ONE BY ONE
 
--- one item by itself
-items-one : (w : ℕ) (R : Reader) (h : Here) (at : ℕ) (m : List ℕ) → itemsR w R 1 h at m ≡ R h at m
-unfolding itemsR noneR
-items-one w R h at m = next-none (R h at m)
-
 module _ (w : ℕ) (R : Reader) (b : List ℕ) (n i at : ℕ) where
   pub items-turn : i < n → Opens (passage (itemsR w R (n - i)) b at) (then (passage R b at) (passage (itemsR w R (n - (i + 1))) b (at + w)))
   unfolding itemsR
@@ -261,7 +250,7 @@ module _ (I : Inner) (sw : ℕ → ℕ) (S : ℕ → Reader) (f : Field) (b : Li
 
   module _ (x : Kind) (ix : x ≡ f .kind) where
     pub value-item : f .sequence ≡ false → (w : ℕ) → Opens (passage (markedValueR I sw S f) b at) (passage (itemsR w (itemR I S x) 1) b at)
-    value-item e w = alike _ _ (λ base area m. let h = here strict b base area in value-one I sw S f h at m x ix e ∙ sym (items-one w (itemR I S x) h at m))
+    value-item e w = alike _ _ (λ base area m. let h = here strict b base area in value-one I sw S f h at m x ix e ∙ sym (items-one h at m w (itemR I S x)))
 
     module _ (e : f .sequence ≡ true) (w : ℕ) (iw : w ≡ kindWidth sw x) where
       value-list : Opens (passage (markedValueR I sw S f) b at) (passage (markedR SQ (indirectR 13 w (listR w (itemR I S x)))) b at)
@@ -287,14 +276,8 @@ module _ (I : Inner) (S : ℕ → Reader) (es : List (List ℕ)) (b : List ℕ) 
   item-plain w e = rw e (marked-plain VA b at w any)
 
   pub item-number : (sw : ℕ → ℕ) (x : Tested) (w : ℕ) → kind ≡ Number x → w ≡ kindWidth sw (testedKind es x) → Opens (passage (itemR I S (kindFrom es kind)) b at) (just (markBytes VA ++ part w at b))
-  unfolding kindFrom testedKind kindWidth kindMark kindR
-  item-number sw x w e iw = rw (e, iw) (go x)
-    where
-      go : (x : Tested) → Opens (passage (itemR I S (testedKind es x)) b at) (just (markBytes VA ++ part (kindWidth sw (testedKind es x)) at b))
-      go Flag = marked-plain VA b at 1 flag
-      go Millis = marked-plain VA b at 4 (below 86400000)
-      go Nanos = marked-plain VA b at 8 (below 86400000000000)
-      go (Symbol y) = marked-plain VA b at 4 (symbol (getD es y []))
+  unfolding kindFrom kindMark kindR
+  item-number sw x w e iw = let p = tested-plain sw es x w iw in rw (e, p .1) (marked-plain VA b at w (p .0))
 
   pub item-inline : (u : Bool) (c : ℕ) → kind ≡ Inline u c → Opens (passage (itemR I S (kindFrom es kind)) b at) (passage (markedR ST (inlineR u c)) b at)
   unfolding kindFrom kindMark kindR

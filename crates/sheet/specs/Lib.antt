@@ -1,4 +1,5 @@
 pub mod Written
+pub mod Writers
 pub mod Rewritten
 pub mod Canonical
 pub mod Show

@@ -176,10 +176,14 @@ behindW U W at fr s = backW (U (at + 4) fr s) (λ D r. W at (fr + length D) r)
 
 -- A DYNAMIC GROUP
 
--- "`GE` closes it"; the size word, the type id, the fields with the extension's offset, the data area: "no pad bytes".
+-- The size word, the type id, the fields with the extension's offset, the data area: "no pad bytes".
+abbrev pub framed : List ℕ → List ℕ → List ℕ → List ℕ
+framed id F D = bytesOf 4 (8 + length F + length D) ++ (id ++ (F ++ D))
+
+-- "`GE` closes it"
 unfoldable pub closed : List ℕ → Writing → Writing
 closed id (stopped n p) = stopped n p
-closed id (wrote F D r) = due GE r (λ r′. wrote (bytesOf 4 (8 + length F + length D) ++ (id ++ (F ++ D))) [] r′)
+closed id (wrote F D r) = due GE r (λ r′. wrote (framed id F D) [] r′)
 
 unfoldable pub bodyW : List Group → InnerW → ℕ → List ℕ → List ℕ → Writing
 bodyW gs I g id s = closed id (behindW (staticW gs I 5 g) (extensionW gs I) 12 (16 + width gs 5 g) s)

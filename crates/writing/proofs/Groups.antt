@@ -4,25 +4,25 @@ use mathlib.Core.Path.{_≡_, refl, sym, ap, _∙_}
 use mathlib.Core.Bool.{Bool, true, false}
 use mathlib.Core.List.{List, [], _++_, append-nil}
 use native.Mathlib.Omega.{arith}
-use native.Mathlib.Nat.{sub-zero}
 use lib.ListN.{length, drop, length-append, length-drop}
 use lib.Seq.{drop-drop}
 use borrow.Author.Tests.{ltb-true}
 use Rattle.wire.specs.Bytes.{part, splice, bytesOf, le, same}
 use Rattle.wire.proofs.Laws.{length-bytes, length-part, length-splice, splice-nil}
-use Rattle.schema.specs.Schema.{Group, fieldsOf, width, find, known}
-use Rattle.schema.specs.Table.{fieldsAt, fieldCount, enums, schema}
-use Rattle.schema.specs.Layout.{groupPlace, Layout}
-use Rattle.schema.proofs.Groups.{placed-fields}
+use Rattle.schema.specs.Schema.{Group, find, known}
+use Rattle.schema.specs.Table.{schema}
 use Rattle.message.specs.Sheet.{XT, XU, markBytes, GE}
 use Rattle.message.specs.Check.{widthOf}
 use Rattle.message.proofs.Count.{length-mark}
-use Rattle.sheet.specs.Written.{Writing, stopped, wrote, InnerW, placed, due, counted, indirectW, innerB, listB, fieldsW, staticW, extendingB, extensionW, behindW, closed, bodyW, headW, groupW, ended, sheetW}
-use Rattle.writing.specs.Write.{innerOf, bodyOf, staticOf, nestedOf, extensionOf, behind, put, Fits, Stands}
+use Rattle.sheet.specs.Written.{Writing, stopped, wrote, InnerW, placed, due, counted, indirectW, innerB, listB, extendingB, extensionW, behindW, framed, closed, bodyW, headW, groupW, ended, sheetW}
+use Rattle.sheet.specs.Writers.{innerOf, staticOf, nestedOf, extensionOf}
+use Rattle.sheet.proofs.Widths.{wide-is, wides-static, wides-extension}
+use Rattle.sheet.proofs.Groups.{framed-length}
+use Rattle.sheet.proofs.Writers.{mark-inside, placed-wrote}
+use Rattle.writing.specs.Write.{bodyOf, behind, put, Fits, Stands}
 use Rattle.writing.proofs.Laws.{length-put, put-group}
-use Rattle.writing.proofs.Left.{Opens, need-wrote, behind-wrote, behind-opens, back-wrote, one-writing, wide-is, Left, begun, left-fits, first-back, called-back, finished}
-use Rattle.writing.proofs.Widths.{wides-static, wides-extension}
-use Rattle.writing.proofs.Writers.{grab-wrote, due-wrote, placed-wrote, placed-opens, no-inside, offset-room, offset-left, lent-fits, lent-stands}
+use Rattle.writing.proofs.Left.{Opens, need-wrote, behind-wrote, behind-opens, back-wrote, one-writing, Left, begun, left-fits, first-back, called-back, finished}
+use Rattle.writing.proofs.Writers.{grab-wrote, due-wrote, placed-opens, offset-room, offset-left, lent-fits, lent-stands}
 
 -- THE EXTENSION
 
@@ -57,7 +57,7 @@ module _ (gs : List Group) (I : InnerW) (at free pos : ℕ) (s : List ℕ) where
   body-inside F D r e = go (same (part 2 pos s) (markBytes XU)) refl
     where
       go : (b : Bool) → same (part 2 pos s) (markBytes XU) ≡ b → pos + 2 ≤ length s
-      go true q = no-inside pos s _ (length-mark XU) q
+      go true q = mark-inside pos s _ (length-mark XU) q
       go false q = due-wrote pos s F D r _ _ (rw q at e) .0
 
   pub extending-inside : (out : List ℕ) → Fits (indirectW (extendingB gs I) at free (drop pos s)) at free out → pos + 2 ≤ length s
@@ -70,13 +70,13 @@ unfolding extensionW
 extension-inside gs I at free s F D r e h = go (same (part 2 0 s) (markBytes XT)) refl
   where
     go : (b : Bool) → same (part 2 0 s) (markBytes XT) ≡ b → 2 ≤ length s
-    go true q = omega (arith, no-inside 0 s _ (length-mark XT) q)
+    go true q = omega (arith, mark-inside 0 s _ (length-mark XT) q)
     go false q = let z = one-writing _ _ _ _ _ _ _ refl (rw q at e) in omega (arith, ap length (z .2), h)
 
 -- A DYNAMIC GROUP
 
 closed-wrote : (id : List ℕ) (y : Writing) (X Y r : List ℕ) → closed id y ≡ wrote X Y r
-    → (F : List ℕ) × (D : List ℕ) × (t : List ℕ) × (y ≡ wrote F D t) × (due GE t (λ r′. wrote (bytesOf 4 (8 + length F + length D) ++ (id ++ (F ++ D))) [] r′) ≡ wrote X Y r)
+    → (F : List ℕ) × (D : List ℕ) × (t : List ℕ) × (y ≡ wrote F D t) × (due GE t (λ r′. wrote (framed id F D) [] r′) ≡ wrote X Y r)
 unfolding closed
 closed-wrote id (stopped n p) X Y r e = absurd (let z : _≡_ {A = ℕ} 0 1 = cc in omega arith)
 closed-wrote id (wrote F D t) X Y r e = (F, D, t, refl, e)
@@ -126,15 +126,15 @@ module _ (t : List ℕ) (l g pos : ℕ) (s out : List ℕ) (inside : pos + 8 ≤
     unfolding behindW
     contents-long =
         let h = back-wrote F D r _ _ e in
-        let u = wide-is _ _ _ _ _ (wides-static (schema t) (innerOf t l) 5 g _ _ _) (h .5) in
-        let v = wide-is _ _ _ _ _ (wides-extension (schema t) (innerOf t l) _ _ _) (h .6) in
+        let u = wide-is (wides-static (schema t) (innerOf t l) 5 g _ _ _) (h .5) in
+        let v = wide-is (wides-extension (schema t) (innerOf t l) _ _ _) (h .6) in
         omega (arith, u, v, ap length (h .7) ∙ length-append (h .3) (h .0))
 
-    closes : (2 ≤ length r) × (head .0 ≡ bytesOf 4 (8 + length F + length D) ++ (id ++ (F ++ D))) × (head .1 ≡ []) × (f .rest ≡ drop 2 r)
+    closes : (2 ≤ length r) × (head .0 ≡ framed id F D) × (head .1 ≡ []) × (f .rest ≡ drop 2 r)
     closes =
         let c = closed-wrote id contents _ _ _ (head .4) in
         let o = one-writing _ _ _ _ _ _ _ (c .3) e in
-        let d : due GE (drop 0 r) (λ r′. wrote (bytesOf 4 (8 + length F + length D) ++ (id ++ (F ++ D))) [] r′) ≡ wrote (head .0) (head .1) (f .rest) = rw (← (o .0), ← (o .1), ← (o .2)) (c .4) in
+        let d : due GE (drop 0 r) (λ r′. wrote (framed id F D) [] r′) ≡ wrote (head .0) (head .1) (f .rest) = rw (← (o .0), ← (o .1), ← (o .2)) (c .4) in
         let q = due-wrote 0 r _ _ _ _ _ d in
         let i = one-writing _ _ _ _ _ _ _ refl (q .1) in
         (omega (arith, q .0), sym (i .0), sym (i .1), sym (i .2))
@@ -142,8 +142,7 @@ module _ (t : List ℕ) (l g pos : ℕ) (s out : List ℕ) (inside : pos + 8 ≤
     body-long : 16 + widthOf t 5 g + length D ≤ length out
     body-long =
         let c = closes in
-        let n = 8 + length F + length D in
-        let k : length (head .0) ≡ 12 + length F + length D = ap length (c .1) ∙ simp (length-append, length-bytes 4 n) (omega (arith, length-part 8 pos s inside)) in
+        let k = ap length (c .1) ∙ framed-length id F D (length-part 8 pos s inside) in
         omega (arith, f .room, ap length (head .3) ∙ length-append (head .0) (head .1), k, contents-long)
 
   pub body-start : 16 ≤ length out
@@ -208,9 +207,9 @@ module _ (t : List ℕ) (l g pos : ℕ) (s out : List ℕ) (inside : pos + 8 ≤
           let c = closes _ _ _ (v .is) in
           let k = contents-long _ _ _ (v .is) in
           let n : ℕ = 8 + length F + length D in
-          let X : List ℕ = bytesOf 4 n ++ (id ++ (F ++ D)) in
+          let X : List ℕ = framed id F D in
           let en : e - 4 ≡ n = omega (arith, v .ends, k, ia) in
-          let lX : length X ≡ e = simp (length-append, length-bytes 4 n) (omega (arith, length-part 8 pos s inside, v .ends, k, ia)) in
+          let lX : length X ≡ e = omega (arith, framed-length id F D (length-part 8 pos s inside), v .ends, k, ia) in
           let y : bodyOf t l g id (drop (pos + 8) s) ≡ wrote X [] (drop (p + 2) s) = head .2 ∙ ap (λ (Z : List ℕ). wrote Z (head .1) (f .rest)) (c .1) ∙ ap (λ (Z : List ℕ). wrote X Z (f .rest)) (c .2) ∙ ap (wrote X []) (c .3 ∙ drop-drop 2 p s) in
           let b = put-group (widthOf t 5 g) (bytesOf 4 n) id F D out mid last left (length-bytes 4 n) (length-part 8 pos s inside) k i (v .bytes ∙ ap (λ (j : ℕ). put 12 j F D mid) ia) (q ∙ ap (λ (j : ℕ). splice 4 0 (bytesOf 4 j) last) en) (body-long _ _ _ (v .is)) in
           record {
@@ -243,16 +242,6 @@ module _ (t : List ℕ) (l a at free pos : ℕ) (s out : List ℕ) (f : Fits (ne
 
       pub nested-stands : left ≡ splice n free last mid → Stands (nestedOf t l a at free (drop pos s)) at free s out left p (free + e)
       nested-stands q = finished _ at free out _ (at + 4) free mid nested-left s left p (free + e) (lent-stands _ (at + 4) free n s mid (left-fits _ at free out _ (at + 4) free mid nested-left) i last left p e v q)
-
--- a static group, as the table has its fields
-pub static-start : (t k : List ℕ) (P : Layout t k) (g : ℕ) (h : g < length (schema t)) (q n : ℕ) → q ≡ groupPlace k g → n ≡ fieldCount (drop q t) → (d : ℕ) → 0 < d → (I : InnerW) (at free : ℕ) (r : List ℕ)
-    → staticW (schema t) I d g at free r ≡ fieldsW I (width (schema t) (d - 1)) (staticW (schema t) I (d - 1)) (fieldsAt (enums t) (n - 0) (drop (q + 16) t)) at free r
-unfolding staticW
-static-start t k P g h q n iq in′ zero z I at free r = absurd (omega arith)
-static-start t k P g h q n iq in′ (suc d) z I at free r =
-    let e : fieldsOf (schema t) g ≡ fieldsAt (enums t) (n - 0) (drop (q + 16) t) = placed-fields t k _ (P .placed) g h ∙ rw (sub-zero, in′, iq) in
-    let o : suc d - 1 ≡ d = omega arith in
-    rw (o, e)
 
 -- THE SHEET
 

@@ -5,11 +5,11 @@ use mathlib.Core.Bool.{Bool, true, false}
 use mathlib.Core.List.{List, [], _++_, append-nil}
 use native.Mathlib.Omega.{arith}
 use lib.ListN.{length, drop, length-append}
-use Rattle.wire.specs.Bytes.{part, splice, bytesOf}
+use Rattle.wire.specs.Bytes.{splice, bytesOf}
 use Rattle.wire.proofs.Laws.{length-splice, splice-nil}
 use Rattle.schema.specs.Faults.{need}
 use Rattle.sheet.specs.Written.{Writing, stopped, wrote, headed, joined, nextW, placed, swapped, backW}
-use Rattle.sheet.proofs.Match.{SatW, satw-is}
+use Rattle.sheet.proofs.Widths.{Wide, wide-is}
 use Rattle.writing.specs.Write.{behind, put, Fits, Stands}
 use Rattle.writing.proofs.Laws.{length-put, put-next, put-back, put-behind, put-head}
 
@@ -65,21 +65,8 @@ unfolding placed headed behind
 placed-is o (stopped n p) = refl
 placed-is o (wrote X Y r) = ap (λ (F : List ℕ). wrote F (X ++ Y) r) (sym (append-nil (bytesOf 4 o)))
 
--- nothing behind a writing
-pub next-none : (y : Writing) → nextW y (λ D r. wrote [] [] r) ≡ y
-unfolding nextW joined
-next-none (stopped n p) = refl
-next-none (wrote F D r) = rw (append-nil F, append-nil D)
-
 pub one-writing : (y : Writing) (F D r F′ D′ r′ : List ℕ) → y ≡ wrote F D r → y ≡ wrote F′ D′ r′ → (F ≡ F′) × (D ≡ D′) × (r ≡ r′)
 one-writing y F D r F′ D′ r′ e f = (cc, cc, cc)
-
--- y has so many bytes in place
-abbrev pub Wide : ℕ → Writing → Type 0
-Wide w y = SatW (λ F D r. length F ≡ w) y
-
-pub wide-is : (w : ℕ) (y : Writing) (F D r : List ℕ) → Wide w y → y ≡ wrote F D r → length F ≡ w
-wide-is w y F D r s e = satw-is (rw e at s)
 
 -- WHAT IS LEFT TO WRITE
 
@@ -117,20 +104,25 @@ module _ (x : Writing) (at₀ free₀ : ℕ) (out₀ : List ℕ) where
     pub left-fits : Fits y at free out
     left-fits = record { fixed = L .fixed; values = L .values; rest = L .rest; is = L .is; before = L .before; room = L .room }
 
-    pub opened : (z : Writing) → Opens y z → Left x at₀ free₀ out₀ z at free out
-    opened z o = record {
+    -- once some of it is written, the rest stands elsewhere, and all of it is the same
+    moved : (z : Writing) (at′ free′ : ℕ) (mid F D : List ℕ) → z ≡ wrote F D (L .rest) → put at′ free′ F D mid ≡ put at free (L .fixed) (L .values) out → free′ + length D ≡ free + length (L .values)
+        → at′ + length F ≤ free′ → length mid ≡ length out → Left x at₀ free₀ out₀ z at′ free′ mid
+    moved z at′ free′ mid F D i q e b l = record {
       whole = L .whole;
       all = L .all;
-      fixed = L .fixed;
-      values = L .values;
+      fixed = F;
+      values = D;
       rest = L .rest;
       was = L .was;
-      is = o _ _ _ (L .is);
-      same = L .same;
-      ends = L .ends;
-      before = L .before;
-      room = L .room;
+      is = i;
+      same = q ∙ L .same;
+      ends = e ∙ L .ends;
+      before = b;
+      room = omega (arith, e, l, L .room);
     }
+
+    pub opened : (z : Writing) → Opens y z → Left x at₀ free₀ out₀ z at free out
+    opened z o = moved z at free out (L .fixed) (L .values) (o _ _ _ (L .is)) refl refl (L .before) refl
 
     -- a call wrote all of it
     pub finished : (s left : List ℕ) (pos end : ℕ) → Stands y at free s out left pos end → Stands x at₀ free₀ s out₀ left pos end
@@ -164,19 +156,7 @@ module _ (x : Writing) (at₀ free₀ : ℕ) (out₀ : List ℕ) where
       let room : at + n ≤ length out = omega (arith, k, L .before, L .room) in
       let j : length mid ≡ length out = ap length m ∙ length-splice n at c out room l in
       let q : put (at + n) free F (L .values) mid ≡ put at free (L .fixed) (L .values) out = put-head n at free c F (L .fixed) (L .values) out mid l m (h .2) room in
-      record {
-        whole = L .whole;
-        all = L .all;
-        fixed = F;
-        values = L .values;
-        rest = L .rest;
-        was = L .was;
-        is = h .1;
-        same = q ∙ L .same;
-        ends = L .ends;
-        before = omega (arith, k, L .before);
-        room = omega (arith, j, L .room);
-      }
+      moved (headed c y) at free out L y (at + n) free mid F (L .values) (h .1) q refl (omega (arith, k, L .before)) j
 
   -- a value behind its offset: n bytes of its own, and then what hangs on it
   pub behind-left : (y : Writing) (n at free : ℕ) (out : List ℕ) → Left x at₀ free₀ out₀ (behind y) at free out → Wide n y → Left x at₀ free₀ out₀ y free (free + n) out
@@ -184,22 +164,10 @@ module _ (x : Writing) (at₀ free₀ : ℕ) (out₀ : List ℕ) where
       let h = behind-wrote _ _ _ y (L .is) in
       let X = h .0 in
       let Y = h .1 in
-      let l : length X ≡ n = wide-is n y X Y _ w (h .2) in
+      let l : length X ≡ n = wide-is w (h .2) in
       let k : length (L .values) ≡ n + length Y = ap length (h .3) ∙ length-append X Y ∙ rw l in
       let q : put free (free + n) X Y out ≡ put at free (L .fixed) (L .values) out = put-behind n at free X Y (L .fixed) (L .values) out l (h .4) (h .3) (omega (arith, k, L .room)) in
-      record {
-        whole = L .whole;
-        all = L .all;
-        fixed = X;
-        values = Y;
-        rest = L .rest;
-        was = L .was;
-        is = h .2;
-        same = q ∙ L .same;
-        ends = omega (arith, k, L .ends);
-        before = omega (arith, l);
-        room = omega (arith, k, L .room);
-      }
+      moved (behind y) at free out L y free (free + n) out X Y (h .2) q (omega (arith, k)) (omega (arith, l)) refl
 
   -- one writing and then, at its ends, another
   module _ (s : List ℕ) (at free w : ℕ) (out mid : List ℕ) (pos end : ℕ) (y : Writing) (v : Stands y at free s out mid pos end) where
@@ -208,7 +176,7 @@ module _ (x : Writing) (at₀ free₀ : ℕ) (out₀ : List ℕ) where
         let h = next-wrote _ _ _ y (λ D r. k (free + length D) r) (L .is) in
         let o = one-writing y _ _ _ _ _ _ (h .5) (v .is) in
         let F = v .fixed in let D = v .values in let F′ = h .3 in let D′ = h .4 in
-        let l : length F ≡ w = wide-is w y F D _ u (v .is) in
+        let l : length F ≡ w = wide-is u (v .is) in
         let eF : L .fixed ≡ F ++ F′ = h .7 ∙ ap (λ (z : List ℕ). z ++ F′) (o .0) in
         let eD : L .values ≡ D ++ D′ = h .8 ∙ ap (λ (z : List ℕ). z ++ D′) (o .1) in
         let nF = ap length eF ∙ length-append F F′ in
@@ -216,19 +184,7 @@ module _ (x : Writing) (at₀ free₀ : ℕ) (out₀ : List ℕ) where
         let j : length mid ≡ length out = ap length (v .bytes) ∙ length-put at free F D out (omega (arith, nF, L .before)) (omega (arith, nD, L .room)) in
         let q : put (at + w) end F′ D′ mid ≡ put at free (L .fixed) (L .values) out = put-next at free w end F F′ (L .fixed) D D′ (L .values) out mid (v .ends) eD l (v .bytes) eF (omega (arith, l, nF, L .before)) (omega (arith, v .ends, nD, L .room)) in
         let i : k end (drop pos s) ≡ wrote F′ D′ (L .rest) = rw (v .ends, ← (o .1), ← (o .2)) (h .6) in
-        record {
-          whole = L .whole;
-          all = L .all;
-          fixed = F′;
-          values = D′;
-          rest = L .rest;
-          was = L .was;
-          is = i;
-          same = q ∙ L .same;
-          ends = omega (arith, nD, v .ends, L .ends);
-          before = omega (arith, nF, l, v .ends, L .before);
-          room = omega (arith, j, nD, v .ends, L .room);
-        }
+        moved _ at free out L (k end (drop pos s)) (at + w) end mid F′ D′ i q (omega (arith, nD, v .ends)) (omega (arith, nF, l, v .ends, L .before)) j
 
     pub called-back : (k : ℕ → List ℕ → Writing) (at′ : ℕ) → at ≡ at′ + w → Left x at₀ free₀ out₀ (backW y (λ D r. k (free + length D) r)) at′ free out → Wide w (k end (drop pos s)) → Left x at₀ free₀ out₀ (k end (drop pos s)) at′ end mid
     called-back k at′ a L u =
@@ -238,25 +194,13 @@ module _ (x : Writing) (at₀ free₀ : ℕ) (out₀ : List ℕ) where
         let eF : L .fixed ≡ F′ ++ F = h .7 ∙ ap (λ (z : List ℕ). F′ ++ z) (o .0) in
         let eD : L .values ≡ D ++ D′ = h .8 ∙ ap (λ (z : List ℕ). z ++ D′) (o .1) in
         let i : k end (drop pos s) ≡ wrote F′ D′ (L .rest) = rw (v .ends, ← (o .1), ← (o .2)) (h .6) in
-        let l : length F′ ≡ w = wide-is w (k end (drop pos s)) F′ D′ _ u i in
+        let l : length F′ ≡ w = wide-is u i in
         let nF = ap length eF ∙ length-append F′ F in
         let nD = ap length eD ∙ length-append D D′ in
         let j : length mid ≡ length out = ap length (v .bytes) ∙ length-put at free F D out (omega (arith, nF, l, a, L .before)) (omega (arith, nD, L .room)) in
         let m : mid ≡ put (at′ + w) free F D out = v .bytes ∙ ap (λ (n : ℕ). put n free F D out) a in
         let q : put at′ end F′ D′ mid ≡ put at′ free (L .fixed) (L .values) out = put-back at′ free w end F F′ (L .fixed) D D′ (L .values) out mid (v .ends) eD l m eF (omega (arith, l, nF, L .before)) (omega (arith, v .ends, nD, L .room)) in
-        record {
-          whole = L .whole;
-          all = L .all;
-          fixed = F′;
-          values = D′;
-          rest = L .rest;
-          was = L .was;
-          is = i;
-          same = q ∙ L .same;
-          ends = omega (arith, nD, v .ends, L .ends);
-          before = omega (arith, nF, v .ends, L .before);
-          room = omega (arith, j, nD, v .ends, L .room);
-        }
+        moved _ at′ free out L (k end (drop pos s)) at′ end mid F′ D′ i q (omega (arith, nD, v .ends)) (omega (arith, nF, v .ends, L .before)) j
 
   -- there is room for the first of two
   pub first-fits : (y : Writing) (k : List ℕ → List ℕ → Writing) (at free : ℕ) (out : List ℕ) → Left x at₀ free₀ out₀ (nextW y k) at free out → Fits y at free out
@@ -274,7 +218,7 @@ module _ (x : Writing) (at₀ free₀ : ℕ) (out₀ : List ℕ) where
   pub first-back : (w : ℕ) (y : Writing) (k : List ℕ → List ℕ → Writing) (at free : ℕ) (out : List ℕ) → ((D r : List ℕ) → Wide w (k D r)) → Left x at₀ free₀ out₀ (backW y k) at free out → Fits y (at + w) free out
   first-back w y k at free out u L =
       let h = back-wrote _ _ _ y k (L .is) in
-      let l = wide-is w _ _ _ _ (u (h .1) (h .2)) (h .6) in
+      let l = wide-is (u (h .1) (h .2)) (h .6) in
       record {
         fixed = h .0;
         values = h .1;

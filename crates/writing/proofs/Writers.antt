@@ -4,27 +4,27 @@ use mathlib.Core.Path.{_≡_, refl, sym, ap, _∙_}
 use mathlib.Core.Bool.{Bool, true, false}
 use mathlib.Core.List.{List, [], _∷_, _++_, append-nil}
 use native.Mathlib.Omega.{arith}
-use lib.ListN.{length, drop, getD, replicate, length-append, length-take, length-drop, length-replicate}
+use lib.ListN.{length, drop, replicate, length-append, length-drop, length-replicate}
 use lib.Seq.{drop-drop}
 use borrow.Author.Tests.{leb-true}
 use Rattle.wire.specs.Bytes.{part, splice, bytesOf, le, same}
 use Rattle.wire.proofs.Laws.{length-bytes, length-part, part-add, splice-nil}
-use Rattle.schema.specs.Schema.{Test, Kind, any, flag, below, symbol, Field, kindWidth, valueWidth, fieldWidth}
+use Rattle.schema.specs.Schema.{Test, Kind, any, Field, kindWidth, valueWidth, fieldWidth}
 use Rattle.schema.specs.Table.{fieldAt, fieldsAt}
-use Rattle.schema.specs.FieldKinds.{kindFrom, testedKind, plainField}
+use Rattle.schema.specs.FieldKinds.{kindFrom, testedKind}
 use Rattle.schema.specs.declared.FieldKind.{FieldKind}
 use Rattle.schema.specs.declared.FieldKind.the-variants.{Plain, Number, Inline, Indirect, Static, Dynamic}
 use Rattle.schema.specs.declared.Tested.{Tested}
-use Rattle.schema.specs.declared.Tested.the-variants.{Flag, Millis, Nanos, Symbol}
 use Rattle.schema.proofs.Records.{fields-more, fields-none}
 use Rattle.schema.proofs.Types.{width-optional}
-use Rattle.message.proofs.Tests.{same-eq}
-use Rattle.message.specs.Sheet.{Mark, VA, ST, markBytes, NO, kindMark, fieldMark}
-use Rattle.sheet.specs.Written.{Writing, stopped, wrote, Writer, InnerW, headed, nextW, placed, grab, due, noneW, thenW, markedW, optionalW, plainW, counted, inlineW, indirectW, textB, innerB, itemsW, listB, kindW, valueW, fieldW, fieldsW}
+use Rattle.message.specs.Sheet.{Mark, ST, SQ, markBytes, NO}
+use Rattle.sheet.specs.Written.{Writing, wrote, Writer, InnerW, headed, nextW, placed, grab, due, noneW, thenW, markedW, plainW, counted, inlineW, indirectW, textB, innerB, itemsW, listB, kindW, fieldW, fieldsW}
+use Rattle.sheet.specs.Writers.{itemW, markedValueW, textOf}
+use Rattle.sheet.proofs.Widths.{Wide, wide-is, wide-headed, Wides, wides-items, wides-field}
+use Rattle.sheet.proofs.Writers.{mark-inside, placed-wrote, items-one, field-required, field-absent, field-present, value-list, tested-plain}
 use Rattle.writing.specs.Write.{behind, put, Fits, Stands}
 use Rattle.writing.proofs.Laws.{put-part}
-use Rattle.writing.proofs.Left.{Opens, need-wrote, headed-wrote, behind-wrote, placed-is, next-none, one-writing, Wide, wide-is, Left, begun, left-fits, first-fits, opened, finished, done, headed-left, behind-left, called}
-use Rattle.writing.proofs.Widths.{Wides, wide-headed, wides-items, wides-field}
+use Rattle.writing.proofs.Left.{Opens, need-wrote, headed-wrote, behind-wrote, placed-is, one-writing, Left, begun, left-fits, first-fits, opened, finished, done, headed-left, behind-left, called}
 
 -- THE SHEET'S NEXT BYTES
 
@@ -59,11 +59,6 @@ module _ (pos : ℕ) (s F D r : List ℕ) where
 
 pub same-opens : (x y : Writing) → x ≡ y → Opens x y
 same-opens x y q F D r e = sym q ∙ e
-
-pub placed-wrote : (o : ℕ) (y : Writing) (F D r : List ℕ) → placed o y ≡ wrote F D r → (X : List ℕ) × (Y : List ℕ) × (y ≡ wrote X Y r) × (F ≡ bytesOf 4 o) × (D ≡ X ++ Y)
-unfolding placed
-placed-wrote o (stopped n p) F D r e = absurd (let z : _≡_ {A = ℕ} 0 1 = cc in omega arith)
-placed-wrote o (wrote X Y t) F D r e = (X, Y, cc, cc, cc)
 
 placed-of : (o : ℕ) (y : Writing) (X Y r : List ℕ) → y ≡ wrote X Y r → placed o y ≡ wrote (bytesOf 4 o) (X ++ Y) r
 unfolding placed
@@ -255,7 +250,7 @@ module _ (x : Writing) (at₀ free₀ : ℕ) (out₀ : List ℕ) (least w : ℕ)
   list-room =
       let o = offset-room x at₀ free₀ out₀ list at free out list-opened in
       let p = placed-wrote _ _ _ _ _ (list-opened .is) in
-      let l = wide-is _ _ _ _ _ list-wide (p .2) in
+      let l = wide-is list-wide (p .2) in
       (list-inside, o .0, omega (arith, list-opened .room, ap length (p .4) ∙ length-append (p .0) (p .1), l))
 
   pub list-left : (mid left : List ℕ) (p items end : ℕ) → mid ≡ splice 4 at (bytesOf 4 (free - at)) out → left ≡ splice 4 free (part 4 pos s) mid → p ≡ pos + 4 → items ≡ free + 4 → end ≡ free + (4 + n * w)
@@ -265,11 +260,6 @@ module _ (x : Writing) (at₀ free₀ : ℕ) (out₀ : List ℕ) (least w : ℕ)
       rw (ip, ii, ie) (headed-left x at₀ free₀ out₀ (part 4 pos s) _ 4 free (free + (4 + n * w)) mid left b (length-part 4 pos s list-inside) l)
 
 -- ITEMS AND FIELDS, ONE BY ONE
-
--- one item by itself
-items-one : (w : ℕ) (W : Writer) (at free : ℕ) (r : List ℕ) → itemsW w W 1 at free r ≡ W at free r
-unfolding itemsW noneW
-items-one w W at free r = next-none (W at free r)
 
 pub one-left : (x : Writing) (at₀ free₀ : ℕ) (out₀ : List ℕ) (w : ℕ) (W : Writer) (at free pos : ℕ) (s out : List ℕ) → Left x at₀ free₀ out₀ (W at free (drop pos s)) at free out
     → (left : List ℕ) (n p items end : ℕ) → left ≡ out → n ≡ 1 → p ≡ pos → items ≡ at → end ≡ free → Left x at₀ free₀ out₀ (itemsW w W n items end (drop p s)) items end left
@@ -316,33 +306,9 @@ module _ (x : Writing) (at₀ free₀ : ℕ) (out₀ : List ℕ) (n i at free po
 
 -- ONE FIELD
 
-pub no-inside : (pos : ℕ) (s k : List ℕ) → length k ≡ 2 → same (part 2 pos s) k ≡ true → pos + 2 ≤ length s
-no-inside pos s k l e = let q = ap length (same-eq (part 2 pos s) k e) ∙ l in let p = simp (length-take, length-drop) at q in omega (arith, p)
-
 module _ (I : InnerW) (sw : ℕ → ℕ) (S : ℕ → Writer) (f : Field) (at free pos : ℕ) (s : List ℕ) where
   abbrev whole : Writing
   whole = fieldW I sw S f at free (drop pos s)
-
-  field-required : f .optional ≡ false → whole ≡ markedW (fieldMark f) (valueW I sw S f) at free (drop pos s)
-  unfolding fieldW fieldMark valueW
-  field-required e = rw e
-
-  field-optional : f .optional ≡ true → whole ≡ optionalW (fieldMark f) (valueWidth sw f) (valueW I sw S f) at free (drop pos s)
-  unfolding fieldW fieldMark valueW valueWidth
-  field-optional e = rw e
-
-  pub field-absent : f .optional ≡ true → same (part 2 pos s) NO ≡ true → whole ≡ wrote (0 ∷ replicate (valueWidth sw f) 0) [] (drop (pos + 2) s)
-  unfolding optionalW
-  field-absent o e = field-optional o ∙ rw (e, drop-drop 2 pos s)
-
-  field-present : f .optional ≡ true → same (part 2 pos s) NO ≡ false → whole ≡ headed (1 ∷ []) (markedW (fieldMark f) (valueW I sw S f) (at + 1) free (drop pos s))
-  unfolding optionalW
-  field-present o e = field-optional o ∙ rw e
-
-  -- a required value without a test
-  pub field-plain : (x w : ℕ) → f ≡ plainField x w → whole ≡ markedW VA (plainW w any) at free (drop pos s)
-  unfolding fieldW valueW kindW fieldMark kindMark
-  field-plain x w e = rw e
 
   module _ (out : List ℕ) (h : Fits whole at free out) where
     pub field-inside : pos + 2 ≤ length s
@@ -350,43 +316,38 @@ module _ (I : InnerW) (sw : ℕ → ℕ) (S : ℕ → Writer) (f : Field) (at fr
     field-inside = go (f .optional) refl (same (part 2 pos s) NO) refl
       where
         go : (b : Bool) → f .optional ≡ b → (c : Bool) → same (part 2 pos s) NO ≡ c → pos + 2 ≤ length s
-        go false o c e = due-wrote pos s _ _ _ _ _ (sym (field-required o) ∙ h .is) .0
-        go true o true e = no-inside pos s NO refl e
-        go true o false e = let q = headed-wrote _ _ _ _ _ (sym (field-present o e) ∙ h .is) in due-wrote pos s _ _ _ _ _ (q .1) .0
+        go false o c e = due-wrote pos s _ _ _ _ _ (sym (field-required I sw S f at free pos s o) ∙ h .is) .0
+        go true o true e = mark-inside pos s NO refl e
+        go true o false e = let q = headed-wrote _ _ _ _ _ (sym (field-present I sw S f at free pos s o e) ∙ h .is) in due-wrote pos s _ _ _ _ _ (q .1) .0
 
     module _ (o : f .optional ≡ true) where
       pub absent-room : same (part 2 pos s) NO ≡ true → (w : ℕ) → w ≡ fieldWidth sw f → at + w ≤ length out
       absent-room e w i =
-          let r = room-of _ at free out h _ _ _ (field-absent o e) in
+          let r = room-of _ at free out h _ _ _ (field-absent I sw S f at free pos s o e) in
           omega (arith, r .0, r .1, length-replicate {A = ℕ} (valueWidth sw f) 0, i, width-optional sw f o)
 
       pub absent-stands : same (part 2 pos s) NO ≡ true → (w : ℕ) → w ≡ fieldWidth sw f → (left : List ℕ) → left ≡ splice w at (replicate w 0) out → Stands whole at free s out left (pos + 2) free
       absent-stands e w i left m =
           let q : w ≡ suc (valueWidth sw f) = omega (arith, i, width-optional sw f o) in
-          in-place _ at free w (pos + 2) (0 ∷ replicate (valueWidth sw f) 0) s out left (field-absent o e) (omega (arith, q, length-replicate {A = ℕ} (valueWidth sw f) 0)) (m ∙ rw q)
+          in-place _ at free w (pos + 2) (0 ∷ replicate (valueWidth sw f) 0) s out left (field-absent I sw S f at free pos s o e) (omega (arith, q, length-replicate {A = ℕ} (valueWidth sw f) 0)) (m ∙ rw q)
 
       pub present-room : same (part 2 pos s) NO ≡ false → at + 1 ≤ length out
       present-room e =
-          let q = headed-wrote _ _ _ _ _ (sym (field-present o e) ∙ h .is) in
+          let q = headed-wrote _ _ _ _ _ (sym (field-present I sw S f at free pos s o e) ∙ h .is) in
           omega (arith, h .before, h .room, ap length (q .2))
 
-      pub present-left : same (part 2 pos s) NO ≡ false → (mid : List ℕ) (place : ℕ) → mid ≡ splice 1 at (1 ∷ []) out → place ≡ at + 1 → Left whole at free out (markedW (fieldMark f) (valueW I sw S f) place free (drop pos s)) place free mid
+      pub present-left : same (part 2 pos s) NO ≡ false → (mid : List ℕ) (place : ℕ) → mid ≡ splice 1 at (1 ∷ []) out → place ≡ at + 1 → Left whole at free out (markedValueW I sw S f place free (drop pos s)) place free mid
       present-left e mid place m i =
-          let L = opened _ at free out _ at free out (begun _ at free out h) _ (same-opens _ _ (field-present o e)) in
+          let L = opened _ at free out _ at free out (begun _ at free out h) _ (same-opens _ _ (field-present I sw S f at free pos s o e)) in
           rw i (headed-left _ at free out (1 ∷ []) _ 1 at free out mid L refl m)
 
-    pub required-left : f .optional ≡ false → (mid : List ℕ) (place : ℕ) → mid ≡ out → place ≡ at → Left whole at free out (markedW (fieldMark f) (valueW I sw S f) place free (drop pos s)) place free mid
-    required-left o mid place m i = rw (m, i) (opened _ at free out _ at free out (begun _ at free out h) _ (same-opens _ _ (field-required o)))
+    pub required-left : f .optional ≡ false → (mid : List ℕ) (place : ℕ) → mid ≡ out → place ≡ at → Left whole at free out (markedValueW I sw S f place free (drop pos s)) place free mid
+    required-left o mid place m i = rw (m, i) (opened _ at free out _ at free out (begun _ at free out h) _ (same-opens _ _ (field-required I sw S f at free pos s o)))
 
--- a value with its mark: one item, or a list behind it
-module _ (I : InnerW) (sw : ℕ → ℕ) (S : ℕ → Writer) (f : Field) (at free pos : ℕ) (s : List ℕ) (k : Kind) (ik : k ≡ f .kind) where
-  pub value-one : f .sequence ≡ false → markedW (fieldMark f) (valueW I sw S f) at free (drop pos s) ≡ markedW (kindMark k) (kindW I S k) at free (drop pos s)
-  unfolding valueW fieldMark
-  value-one e = rw (e, ik)
-
-  pub value-list : f .sequence ≡ true → (w : ℕ) → w ≡ kindWidth sw k → Opens (markedW (fieldMark f) (valueW I sw S f) at free (drop pos s)) (indirectW (listB 0 w (markedW (kindMark k) (kindW I S k))) at free (drop (pos + 2) s))
-  unfolding valueW
-  value-list e w i F D r q = let v = marked-opens (fieldMark f) (valueW I sw S f) at free pos s F D r q in rw (i, ik) (rw e at v)
+-- a list behind its mark
+pub list-opens : (I : InnerW) (sw : ℕ → ℕ) (S : ℕ → Writer) (f : Field) (at free pos : ℕ) (s : List ℕ) (k : Kind) → k ≡ f .kind → f .sequence ≡ true → (w : ℕ) → w ≡ kindWidth sw k
+    → Opens (markedValueW I sw S f at free (drop pos s)) (indirectW (listB 0 w (itemW I S k)) at free (drop (pos + 2) s))
+list-opens I sw S f at free pos s k ik e w i F D r q = marked-opens SQ (indirectW (listB 0 w (itemW I S k))) at free pos s F D r (sym (value-list I sw S f at free pos s k ik e w i) ∙ q)
 
 -- KINDS, AS THE CODE SEES THEM
 
@@ -396,14 +357,8 @@ module _ (I : InnerW) (S : ℕ → Writer) (es : List (List ℕ)) (kind : FieldK
   kind-plain w e = rw e
 
   pub kind-number : (sw : ℕ → ℕ) (x : Tested) (w : ℕ) → kind ≡ Number x → w ≡ kindWidth sw (testedKind es x) → (t : Test) × (kindW I S (kindFrom es kind) at free r ≡ plainW w t at free r)
-  unfolding kindFrom testedKind kindWidth kindW
-  kind-number sw x w e i = rw (e, i) (go x)
-    where
-      go : (x : Tested) → (t : Test) × (kindW I S (testedKind es x) at free r ≡ plainW (kindWidth sw (testedKind es x)) t at free r)
-      go Flag = (flag, refl)
-      go Millis = (below 86400000, refl)
-      go Nanos = (below 86400000000000, refl)
-      go (Symbol y) = (symbol (getD es y []), refl)
+  unfolding kindFrom kindW
+  kind-number sw x w e i = let p = tested-plain sw es x w i in (p .0, rw (e, p .1))
 
   pub kind-inline : (u : Bool) (c k : ℕ) → kind ≡ Inline u c → k ≡ c → kindW I S (kindFrom es kind) at free r ≡ inlineW u k at free r
   unfolding kindFrom kindW
@@ -421,16 +376,6 @@ module _ (I : InnerW) (S : ℕ → Writer) (es : List (List ℕ)) (kind : FieldK
   unfolding kindFrom kindW
   kind-dynamic a e = rw e
 
-pub items-plain : (I : InnerW) (sw : ℕ → ℕ) (S : ℕ → Writer) (es : List (List ℕ)) (kind : FieldKind) (c w n at free : ℕ) (r : List ℕ) → kind ≡ Plain c → w ≡ kindWidth sw (kindFrom es kind)
-    → itemsW w (markedW (kindMark (kindFrom es kind)) (kindW I S (kindFrom es kind))) n at free r ≡ itemsW c (markedW VA (plainW c any)) n at free r
-unfolding kindFrom kindWidth kindMark kindW
-items-plain I sw S es kind c w n at free r e i = let q : w ≡ c = i ∙ rw e in rw (q, e)
-
-pub items-text : (I : InnerW) (sw : ℕ → ℕ) (S : ℕ → Writer) (es : List (List ℕ)) (kind : FieldKind) (u : Bool) (w n at free : ℕ) (r : List ℕ) → kind ≡ Indirect u → w ≡ kindWidth sw (kindFrom es kind)
-    → itemsW w (markedW (kindMark (kindFrom es kind)) (kindW I S (kindFrom es kind))) n at free r ≡ itemsW 4 (markedW ST (indirectW (textB u))) n at free r
-unfolding kindFrom kindWidth kindMark kindW
-items-text I sw S es kind u w n at free r e i = let q : w ≡ 4 = i ∙ rw e in rw (q, e)
-
 -- a text is a count and so many bytes, behind its mark or with it
 text-counted : (u : Bool) (at free pos : ℕ) (s : List ℕ)
     → (k : List ℕ → List ℕ → List ℕ → Writing) × ((c v t : List ℕ) → Opens (k c v t) (wrote (c ++ v) [] t)) × (indirectW (textB u) at free (drop pos s) ≡ placed (free - at) (counted (drop pos s) k))
@@ -442,5 +387,5 @@ pub text-opens : (I : InnerW) (S : ℕ → Writer) (es : List (List ℕ)) (kind 
 text-opens I S es kind at free pos s u i = let x = text-counted u at free pos s in (x .0, x .1, same-opens _ _ (kind-text I S es kind at free (drop pos s) u i ∙ x .2))
 
 pub record-text : (u : Bool) (at free pos : ℕ) (s : List ℕ)
-    → (k : List ℕ → List ℕ → List ℕ → Writing) × ((c v t : List ℕ) → Opens (k c v t) (wrote (c ++ v) [] t)) × Opens (markedW ST (indirectW (textB u)) at free (drop pos s)) (placed (free - at) (counted (drop (pos + 2) s) k))
+    → (k : List ℕ → List ℕ → List ℕ → Writing) × ((c v t : List ℕ) → Opens (k c v t) (wrote (c ++ v) [] t)) × Opens (textOf u at free (drop pos s)) (placed (free - at) (counted (drop (pos + 2) s) k))
 record-text u at free pos s = let x = text-counted u at free (pos + 2) s in (x .0, x .1, λ F D r e. sym (x .2) ∙ marked-opens ST (indirectW (textB u)) at free pos s F D r e)

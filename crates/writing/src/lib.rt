@@ -16,7 +16,8 @@ ghost use Rattle.schema.specs.Layout.{Layout};
 ghost use Rattle.schema.specs.FieldKinds.{kindFrom};
 ghost use Rattle.message.specs.Check.{widthOf};
 ghost use Rattle.sheet.specs.Written.{wrote, itemsW, sheetW};
-ghost use Rattle.writing.specs.Write.{innerOf, bodyOf, staticOf, plainOf, textOf, kindOf, itemOf, valueOf, fieldOf, nestedOf, extensionOf, extendingOf, behind, Fits, Stands};
+ghost use Rattle.sheet.specs.Writers.{innerOf, staticOf, plainOf, textOf, kindOf, itemOf, valueOf, fieldOf, nestedOf, extensionOf, extendingOf};
+ghost use Rattle.writing.specs.Write.{bodyOf, behind, Fits, Stands};
 
 const XT: [u8; 2] = *b"XT";
 

@@ -11,20 +11,23 @@ use Rattle.wire.specs.Bytes.{part, same}
 use Rattle.wire.proofs.Laws.{length-part}
 use Rattle.schema.specs.Schema.{any, shallowFields, shallow, find}
 use Rattle.schema.specs.Table.{fieldAt, fieldsAt, enums, schema}
+use Rattle.schema.specs.declared.FieldKind.the-variants.{Plain}
 use Rattle.schema.proofs.Records.{fields-more}
 use Rattle.schema.proofs.Groups.{static-inside, placed-inside, find-whole, layout-width}
 use Rattle.schema.proofs.Depth.{and-both, shallow-some, shallow-cons, wide-kind}
 use Rattle.message.specs.Check.{widthOf}
 use Rattle.message.proofs.CheckFields.{kind-static, start-inside, start-shallow}
 use Rattle.sheet.specs.Written.{itemsW, fieldsW, extensionW}
+use Rattle.sheet.specs.Writers.{innerOf, staticOf, itemOf, extendingOf}
+use Rattle.sheet.proofs.Widths.{wides-static}
+use Rattle.sheet.proofs.Writers.{items-one, field-plain, value-one, items-plain, items-text, start-static}
 use Rattle.sheet.proofs.ShowReaders.{is-VA, is-SG, is-SQ, is-GB, is-XT, is-XU}
 use Rattle.parsing.specs.Count.{Count}
-use Rattle.parsing.specs.Parse.{Counts, innerOf, staticOf, itemOf, extendingOf, endW, Ready}
-use Rattle.parsing.proofs.Answers.{ready, ready-at}
+use Rattle.parsing.specs.Parse.{Counts, endW, Ready}
+use Rattle.parsing.proofs.Answers.{ready, ready-at, count-as}
 use Rattle.parsing.proofs.Records.{record-inside, as-record}
 use Rattle.parsing.proofs.Values.{plain-bad, plain-good, any-passes}
-use Rattle.parsing.proofs.Long.{long-static}
-use Rattle.parsing.proofs.Fields.{field-plain, field-absent, field-there, value-one, sequence-bad, sequence-good, item-plain, item-number, item-inline, item-indirect, item-dynamic, items-plain, items-indirect, static-bad, static-good, start-static}
+use Rattle.parsing.proofs.Fields.{absent-passes, field-there, sequence-bad, sequence-good, item-plain, item-number, item-inline, item-indirect, item-dynamic, static-bad, static-good}
 use Rattle.parsing.proofs.Groups.{extension-none, extension-bad, extension-empty, extension-some, extending-group, body-stopped, body-passed, group-bad, group-unknown, group-other, group-deep, group-body}
 use Rattle.parsing.proofs.Loops.{then-passed, then-stopped, items-all, items-passed, items-stopped, items-end, fields-passed, fields-stopped, fields-end}
 use borrow.Fn.Kinds.{In}
@@ -271,7 +274,7 @@ abbrev check-field-claims : ℕ → check-field-lts.Claims
 check-field-claims t = (is-absent-reads.Asked, is-absent-reads.Learnt, passed-reads.Asked, passed-reads.Learnt, kind-at-reads.Asked, kind-at-reads.Learnt, kind-width-reads.Asked, kind-width-reads.Learnt, is-sequence-reads.Asked, is-sequence-reads.Learnt, record-fault-reads.Asked, record-fault-reads.Learnt, refused-reads.Asked, refused-reads.Learnt, read-u32-reads.Asked, read-u32-reads.Learnt, longer-reads.Asked, longer-reads.Learnt, check-items-below t, check-items.Post)
 
 check-field-returns : (t : ℕ) → check-field-lts.Need-returns (check-field-claims t) (check-field-at t) check-field.Post
-check-field-returns t c = let a = c .before .before .before .before .before .before .args in let t = a .table .now in rw (c .passed .ensures) (field-absent (a .sheet .now) (a .pos) (a .before) (innerOf t (a .levels)) (widthOf t (a .depth)) (staticOf t (a .levels) (a .depth)) (fieldAt (enums t) (drop (a .field) t)) _ (c .before .before .is-absent .ensures (enums t)) (c .before .if1 .taken) (c .before .before .before .before .before .before .pre .1 .1))
+check-field-returns t c = let a = c .before .before .before .before .before .before .args in let t = a .table .now in rw (c .passed .ensures) (absent-passes (a .sheet .now) (a .pos) (a .before) (innerOf t (a .levels)) (widthOf t (a .depth)) (staticOf t (a .levels) (a .depth)) (fieldAt (enums t) (drop (a .field) t)) _ (c .before .before .is-absent .ensures (enums t)) (c .before .if1 .taken) (c .before .before .before .before .before .before .pre .1 .1))
 
 check-field-returns-2 : (t : ℕ) → check-field-lts.Need-returns-2 (check-field-claims t) (check-field-at t) check-field.Post
 check-field-returns-2 t c = let a = c .before .before .before .before .before .before .before .before .before .before .before .before .args in let t = a .table .now in rw (c .refused .ensures) (field-there (a .sheet .now) (a .pos) (a .before) (innerOf t (a .levels)) (widthOf t (a .depth)) (staticOf t (a .levels) (a .depth)) (fieldAt (enums t) (drop (a .field) t)) _ (c .before .before .before .before .before .before .before .before .is-absent .ensures (enums t)) (c .before .before .before .before .before .before .before .if1 .left) _ (sequence-bad (a .sheet .now) (a .pos) (a .before) (innerOf t (a .levels)) (widthOf t (a .depth)) (staticOf t (a .levels) (a .depth)) (fieldAt (enums t) (drop (a .field) t)) _ (c .before .before .before .before .before .before .kind-at .ensures (enums t)) (sym (c .before .before .before .before .is-sequence .ensures (enums t)) ∙ c .before .before .before .if2 .taken) (c .before .before .before .before .before .before .before .before .before .before .before .before .pre .1 .1) _ (as-record is-SQ _ _ (c .before .before .record-fault .ensures)) (c .before .if3 .taken)))
@@ -297,8 +300,8 @@ check-field-check-items-requires t c κs = let a = c .before .before .before .be
 check-field-returns-3 : (t : ℕ) → check-field-lts.Need-returns-3 (check-field-claims t) (check-field-at t) check-field.Post
 check-field-returns-3 t c = let a = c .before .before .before .before .before .before .before .before .before .before .args in let t = a .table .now in let k = c .before .before .before .before .kind-at .ensures (enums t) in let d = rw (sym k) at (c .before .before .before .before .before .before .before .before .before .before .pre .1 .3) in
     field-there (a .sheet .now) (a .pos) (a .before) (innerOf t (a .levels)) (widthOf t (a .depth)) (staticOf t (a .levels) (a .depth)) (fieldAt (enums t) (drop (a .field) t)) _ (c .before .before .before .before .before .before .is-absent .ensures (enums t)) (c .before .before .before .before .before .if1 .left) _ (⊎-elim
-    (λ w. sequence-good (a .sheet .now) (a .pos) (a .before) (innerOf t (a .levels)) (widthOf t (a .depth)) (staticOf t (a .levels) (a .depth)) (fieldAt (enums t) (drop (a .field) t)) _ k (sym (c .before .before .is-sequence .ensures (enums t)) ∙ w .0 .taken) (c .before .before .before .before .before .before .before .before .before .before .pre .1 .1) _ (as-record is-SQ _ _ (w .1 .ensures)) (w .2 .left) (long-static (schema t) (innerOf t (a .levels)) (a .depth)) _ _ _ (w .3 .ensures .0) (c .before .before .before .kind-width .ensures .0 (enums t) ∙ wide-kind t (a .index .now) (c .before .before .before .before .before .before .before .before .before .before .pre .1 .0) (a .depth) _ d) (w .4 .ensures .0) _ (rw (w .5, w .6, w .7) at (c .check-items .ensures)))
-    (λ w. value-one (a .sheet .now) (a .pos) (a .before) (innerOf t (a .levels)) (widthOf t (a .depth)) (staticOf t (a .levels) (a .depth)) (fieldAt (enums t) (drop (a .field) t)) _ k (sym (c .before .before .is-sequence .ensures (enums t)) ∙ w .0 .left) _ _ (rw (w .1, w .2, w .3) at (c .check-items .ensures)))
+    (λ w. sequence-good (a .sheet .now) (a .pos) (a .before) (innerOf t (a .levels)) (widthOf t (a .depth)) (staticOf t (a .levels) (a .depth)) (fieldAt (enums t) (drop (a .field) t)) _ k (sym (c .before .before .is-sequence .ensures (enums t)) ∙ w .0 .taken) (c .before .before .before .before .before .before .before .before .before .before .pre .1 .1) _ (as-record is-SQ _ _ (w .1 .ensures)) (w .2 .left) (wides-static (schema t) (innerOf t (a .levels)) (a .depth)) _ _ _ (w .3 .ensures .0) (c .before .before .before .kind-width .ensures .0 (enums t) ∙ wide-kind t (a .index .now) (c .before .before .before .before .before .before .before .before .before .before .pre .1 .0) (a .depth) _ d) (w .4 .ensures .0) _ (rw (w .5, w .6, w .7) at (c .check-items .ensures)))
+    (λ w. λ at fr. count-as _ _ (value-one (innerOf t (a .levels)) (widthOf t (a .depth)) (staticOf t (a .levels) (a .depth)) (fieldAt (enums t) (drop (a .field) t)) at fr (a .pos) (a .sheet .now) _ k (sym (c .before .before .is-sequence .ensures (enums t)) ∙ w .0 .left) ∙ sym (items-one _ _ at fr _)) (rw (w .1, w .2, w .3) at (c .check-items .ensures) at fr))
     (c .before .if2 .came))
 
 abbrev check-fields-Inv-loop : check-fields-lts.InvT-loop
@@ -327,14 +330,14 @@ check-fields-loop-holds t c = let a = c .before .before .before .before .before 
       r .1,
       start-inside t (a .index .now) (r .0) (a .group) (r .2) _ _ s n,
       start-shallow t (a .index .now) (r .0) (a .group) (r .2) _ _ s n (a .depth) d (r .3),
-      start-static t (a .index .now) (r .0) (a .group) (r .2) _ _ s n (a .depth) d (a .sheet .now) (a .pos) (a .before) (innerOf t (a .levels)),
+      λ k f at fr. count-as _ _ (start-static t (a .index .now) (r .0) (a .group) (r .2) _ _ s n (a .depth) d (innerOf t (a .levels)) at fr _) (f at fr),
     )
 
 check-fields-returns : (t : ℕ) → check-fields-lts.Need-returns (check-fields-claims t) (check-fields-at t) check-fields.Post check-fields-Inv-loop check-fields-μ-loop
 check-fields-returns t c = let l = c .before .before .before .before .before .before .loop in let a = c .before .before .before .before .before .before .before .before .before .before .before .before .args in let t = a .table .now in let i = l .inv in let I = innerOf t (a .levels) in let sw = widthOf t (a .depth - 1) in let S = staticOf t (a .levels) (a .depth - 1) in
     rw (c .refused .ensures) (i .3 _ (fields-stopped I sw S (enums t) t (a .sheet .now) (c .before .before .before .before .before .before .before .field-count .result) (l .i) (l .field) (l .next) (l .length) (c .before .before .before .before .before .loop-test .taken) _
-    (field-plain (a .sheet .now) (l .next) (l .length) I sw S _ _ _ (c .before .before .before .before .plain-width .ensures .0 (c .before .before .before .if1 .taken) (enums t)) _
-    (plain-bad (a .sheet .now) (l .next) (l .length) (i .0) _ any _ (as-record is-VA _ _ (c .before .before .record-fault .ensures)) (c .before .if2 .taken))) (c .before .if2 .taken)))
+    (λ at fr. count-as _ _ (field-plain I sw S _ at fr (l .next) (a .sheet .now) _ _ (c .before .before .before .before .plain-width .ensures .0 (c .before .before .before .if1 .taken) (enums t)))
+    (plain-bad (a .sheet .now) (l .next) (l .length) (i .0) _ any _ (as-record is-VA _ _ (c .before .before .record-fault .ensures)) (c .before .if2 .taken) at fr)) (c .before .if2 .taken)))
 
 check-fields-loop-again : (t : ℕ) → check-fields-lts.Need-loop-again (check-fields-claims t) (check-fields-at t) check-fields.Post check-fields-Inv-loop check-fields-μ-loop
 check-fields-loop-again t c = let l = c .before .before .before .before .before .loop in let a = c .before .before .before .before .before .before .before .before .before .before .before .args in let t = a .table .now in let i = l .inv in let I = innerOf t (a .levels) in let sw = widthOf t (a .depth - 1) in let S = staticOf t (a .levels) (a .depth - 1) in
@@ -344,8 +347,8 @@ check-fields-loop-again t c = let l = c .before .before .before .before .before 
       omega (arith, i .1, c .before .before .before .before .loop-test .taken),
       shallow-cons _ _ _ _ _ f (i .2) .1,
       λ k g. i .3 k (fields-passed I sw S (enums t) t (a .sheet .now) (c .before .before .before .before .before .before .field-count .result) (l .i) (l .field) (l .next) (l .length) (c .before .before .before .before .loop-test .taken) _
-          (field-plain (a .sheet .now) (l .next) (l .length) I sw S _ _ _ (c .before .before .before .plain-width .ensures .0 (c .before .before .if1 .taken) (enums t)) _
-          (plain-good (a .sheet .now) (l .next) (l .length) (i .0) _ any _ e (c .if2 .left) (any-passes _))) refl k g),
+          (λ at fr. count-as _ _ (field-plain I sw S _ at fr (l .next) (a .sheet .now) _ _ (c .before .before .before .plain-width .ensures .0 (c .before .before .if1 .taken) (enums t)))
+          (plain-good (a .sheet .now) (l .next) (l .length) (i .0) _ any _ e (c .if2 .left) (any-passes _) at fr)) refl k g),
     )
 
 check-fields-check-field-requires : (t : ℕ) → check-fields-lts.Need-check-field-requires (check-fields-claims t) (check-fields-at t) check-fields.Post check-fields-Inv-loop check-fields-μ-loop
@@ -445,7 +448,7 @@ check-item-check-fields-requires t c κs = let a = c .before .before .before .be
     (search needs, (c .before .before .before .before .before .before .before .before .pre .1 .0, ready-at (c .before .before .before .before .before .before .before .before .pre .1 .1) _ l, static-inside (schema t) (a .depth) _ (q .0), q .1))
 
 check-item-returns-2 : (t : ℕ) → check-item-lts.Need-returns-2 (check-item-claims t) (check-item-at t) check-item.Post
-check-item-returns-2 t c = let a = c .before .before .before .before .before .before .before .before .args in let t = a .table .now in item-plain (a .sheet .now) (a .pos) (a .before) (innerOf t (a .levels)) (staticOf t (a .levels) (a .depth)) (enums t) (a .kind) _ _ _ (c .before .before .before .kind .given .1) (c .before .wide .ensures .0) (c .check-plain .ensures)
+check-item-returns-2 t c = let a = c .before .before .before .before .before .before .before .before .args in let t = a .table .now in item-plain (a .sheet .now) (a .pos) (a .before) (innerOf t (a .levels)) (staticOf t (a .levels) (a .depth)) (enums t) (a .kind) _ _ (c .before .before .before .kind .given .1 ∙ ap Plain (sym (c .before .wide .ensures .0))) (c .check-plain .ensures)
 
 check-item-returns-3 : (t : ℕ) → check-item-lts.Need-returns-3 (check-item-claims t) (check-item-at t) check-item.Post
 check-item-returns-3 t c = let a = c .before .before .before .before .before .before .before .args in let t = a .table .now in item-number (a .sheet .now) (a .pos) (a .before) (innerOf t (a .levels)) (staticOf t (a .levels) (a .depth)) (enums t) (a .kind) _ _ (c .before .before .kind2 .given .1) (c .check-number .ensures (innerOf t (a .levels)) (staticOf t (a .levels) (a .depth)))
@@ -474,10 +477,10 @@ abbrev check-items-claims : ℕ → check-items-lts.Claims
 check-items-claims t = (wide-reads.Asked, wide-reads.Learnt, check-plains-reads.Asked, check-plains-reads.Learnt, check-texts-reads.Asked, check-texts-reads.Learnt, check-item-below t, check-item.Post, passed-reads.Asked, passed-reads.Learnt)
 
 check-items-returns : (t : ℕ) → check-items-lts.Need-returns (check-items-claims t) (check-items-at t) check-items.Post check-items-Inv-loop check-items-μ-loop
-check-items-returns t c = let a = c .before .before .before .before .before .before .before .before .args in let t = a .table .now in items-plain (a .sheet .now) (a .pos) (a .before) (innerOf t (a .levels)) (staticOf t (a .levels) (a .depth)) (enums t) (a .kind) _ (widthOf t (a .depth)) _ _ _ _ (c .before .before .before .kind .given .1) (c .before .wide .ensures .0) (c .before .before .before .before .before .before .before .before .pre .1 .2) (c .check-plains .ensures)
+check-items-returns t c = let a = c .before .before .before .before .before .before .before .before .args in let t = a .table .now in λ at fr. count-as _ _ (items-plain (innerOf t (a .levels)) (widthOf t (a .depth)) (staticOf t (a .levels) (a .depth)) (enums t) (a .kind) _ _ at fr _ (c .before .before .before .before .before .before .before .before .pre .1 .2) _ (c .before .before .before .kind .given .1 ∙ ap Plain (sym (c .before .wide .ensures .0)))) (c .check-plains .ensures at fr)
 
 check-items-returns-2 : (t : ℕ) → check-items-lts.Need-returns-2 (check-items-claims t) (check-items-at t) check-items.Post check-items-Inv-loop check-items-μ-loop
-check-items-returns-2 t c = let a = c .before .before .before .before .before .before .before .before .args in let t = a .table .now in items-indirect (a .sheet .now) (a .pos) (a .before) (innerOf t (a .levels)) (staticOf t (a .levels) (a .depth)) (enums t) (a .kind) _ (widthOf t (a .depth)) _ _ _ (c .before .before .kind2 .given .1) (c .before .before .before .before .before .before .before .before .pre .1 .2) (c .check-texts .ensures)
+check-items-returns-2 t c = let a = c .before .before .before .before .before .before .before .before .args in let t = a .table .now in λ at fr. count-as _ _ (items-text (innerOf t (a .levels)) (widthOf t (a .depth)) (staticOf t (a .levels) (a .depth)) (enums t) (a .kind) _ _ at fr _ (c .before .before .before .before .before .before .before .before .pre .1 .2) _ (c .before .before .kind2 .given .1)) (c .check-texts .ensures at fr)
 
 check-items-loop-holds : (t : ℕ) → check-items-lts.Need-loop-holds (check-items-claims t) (check-items-at t) check-items.Post check-items-Inv-loop check-items-μ-loop
 check-items-loop-holds t c = let a = c .before .before .before .before .before .args in (c .before .before .before .before .before .pre .1 .1, items-all (a .sheet .now) (a .width) (itemOf (a .table .now) (a .levels) (a .depth) (a .kind)) (a .total) (a .pos) (a .before))

@@ -4,9 +4,10 @@ use Prim.Native.Nat.{_-_, _≤_}
 use lib.ListN.{length}
 use Rattle.schema.specs.Schema.{any}
 use Rattle.sheet.specs.Written.{itemsW}
+use Rattle.sheet.specs.Writers.{plainOf}
 use Rattle.sheet.proofs.ShowReaders.{is-VA}
 use Rattle.parsing.specs.Count.{Count}
-use Rattle.parsing.specs.Parse.{Counts, plainOf}
+use Rattle.parsing.specs.Parse.{Counts}
 use Rattle.parsing.proofs.Answers.{ready-at}
 use Rattle.parsing.proofs.Records.{record-inside, as-record}
 use Rattle.parsing.proofs.Values.{plain-bad, plain-good, any-passes}

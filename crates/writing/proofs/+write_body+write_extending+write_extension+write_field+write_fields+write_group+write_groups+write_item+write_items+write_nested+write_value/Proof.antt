@@ -21,12 +21,14 @@ use Rattle.message.specs.Sheet.{VA, kindMark}
 use Rattle.message.specs.Check.{widthOf}
 use Rattle.message.proofs.CheckFields.{plain-wide, kind-static, start-inside, start-shallow}
 use Rattle.sheet.specs.Written.{indirectW, listB, itemsW, fieldsW}
+use Rattle.sheet.specs.Writers.{innerOf, staticOf, kindOf, itemOf, valueOf, fieldOf, extendingOf}
+use Rattle.sheet.proofs.Widths.{wide-is, Wides, wides-indirect, wides-marked, wides-kind, wides-field, wides-static, wides-extension}
+use Rattle.sheet.proofs.Writers.{field-plain, value-one, items-plain, items-text, start-static}
 use Rattle.sheet.proofs.ShowReaders.{is-XT, is-XU}
-use Rattle.writing.specs.Write.{innerOf, staticOf, kindOf, itemOf, valueOf, fieldOf, extendingOf, Fits}
-use Rattle.writing.proofs.Left.{wide-is, Left, begun, opened, left-fits, finished, fits-opens, stands-opens}
-use Rattle.writing.proofs.Widths.{Wides, wides-indirect, wides-marked, wides-kind, wides-field, wides-static, wides-extension}
-use Rattle.writing.proofs.Writers.{same-opens, marked-opens, marked-inside, in-place, plain-room, plain-stands, record-room, record-stands, inline-room, inline-stands, text-room, text-stands, list-room, list-left, one-left, item-fits, items-next, items-done, field-fits, fields-next, fields-done, field-plain, field-inside, absent-room, absent-stands, present-room, present-left, required-left, value-one, value-list, kind-plain, kind-number, kind-inline, kind-fields, kind-dynamic, items-plain, items-text, text-opens}
-use Rattle.writing.proofs.Groups.{extension-none, extension-some, extending-kept, extending-inner, extending-inside, group-begins, group-opens, body-start, fields-fits, extension-fits, extension-mark, contents-stand, body-closes, body-room, body-stands, nested-room, nested-fits, nested-end, nested-stands, static-start}
+use Rattle.writing.specs.Write.{Fits}
+use Rattle.writing.proofs.Left.{Left, begun, opened, left-fits, finished, fits-opens, stands-opens}
+use Rattle.writing.proofs.Writers.{same-opens, marked-opens, marked-inside, in-place, plain-room, plain-stands, record-room, record-stands, inline-room, inline-stands, text-room, text-stands, list-room, list-left, one-left, item-fits, items-next, items-done, field-fits, fields-next, fields-done, field-inside, absent-room, absent-stands, present-room, present-left, required-left, list-opens, kind-plain, kind-number, kind-inline, kind-fields, kind-dynamic, text-opens}
+use Rattle.writing.proofs.Groups.{extension-none, extension-some, extending-kept, extending-inner, extending-inside, group-begins, group-opens, body-start, fields-fits, extension-fits, extension-mark, contents-stand, body-closes, body-room, body-stands, nested-room, nested-fits, nested-end, nested-stands}
 use Prim.Native.Nat.{ℕ, _<_}
 use borrow.Fn.Kinds.{In}
 use borrow.Fn.PlainCycle.{Measures, is, falls, and}
@@ -326,7 +328,7 @@ write-extension-returns t c = let a = c .before .before .before .before .before 
     finished _ _ _ _ _ _ _ _ (list-left _ _ _ _ 1 4 (extendingOf t (a .levels)) (wides-indirect _) 12 (a .free) (a .pos + 2) (c .before .before .before .before .before .before .before .before .before .before .before .before .read-u32 .result) s o (c .before .before .before .before .before .before .before .before .before .before .before .before .read-u32 .ensures .0) L _ _ _ _ _ (c .before .before .before .before .before .before .before .before .before .before .write-u32 .ensures) (c .before .before .before .before .before .before .write-bytes .ensures .0) (c .before .before .before .before .before .before .write-bytes .ensures .1) refl refl) _ _ _ _ (c .before .before .write-groups .ensures)
 
 write-extension-write-u32-requires-2 : (t : ℕ) → write-extension-lts.Need-write-u32-requires-2 (write-extension-claims t) (write-extension-at t) write-extension.Post
-write-extension-write-u32-requires-2 t c κs = let a = c .before .before .before .before .before .before .before .args in let R = c .before .before .before .before .before .before .before .pre .1 in let t = a .table .now in let s = a .sheet .now in let o = a .out .now in let I = innerOf t (a .levels) in let w = wide-is 4 _ _ _ _ (wides-extension (schema t) I 12 (a .free) (drop (a .pos) s)) (R .2 .is) in omega (arith, w, R .2 .before, R .2 .room)
+write-extension-write-u32-requires-2 t c κs = let a = c .before .before .before .before .before .before .before .args in let R = c .before .before .before .before .before .before .before .pre .1 in let t = a .table .now in let s = a .sheet .now in let o = a .out .now in let I = innerOf t (a .levels) in let w = wide-is (wides-extension (schema t) I 12 (a .free) (drop (a .pos) s)) (R .2 .is) in omega (arith, w, R .2 .before, R .2 .room)
 
 write-extension-returns-2 : (t : ℕ) → write-extension-lts.Need-returns-2 (write-extension-claims t) (write-extension-at t) write-extension.Post
 write-extension-returns-2 t c = let a = c .before .before .before .before .before .before .before .before .before .before .args in let R = c .before .before .before .before .before .before .before .before .before .before .pre .1 in let t = a .table .now in let s = a .sheet .now in let o = a .out .now in let I = innerOf t (a .levels) in let k = ap (same (part 2 (a .pos) s)) (sym is-XT) ∙ sym (c .before .before .before .before .before .has-mark .ensures) ∙ c .before .before .before .before .if1 .left in
@@ -401,7 +403,7 @@ write-fields-loop-holds t c = let a = c .before .before .before .before .before 
   search needs,
   start-inside t k (R .0) (a .group) (R .1) _ _ q n,
   start-shallow t k (R .0) (a .group) (R .1) _ _ q n (a .depth) d (R .2),
-  opened _ _ _ _ _ _ _ _ (begun _ _ _ _ (R .3)) _ (same-opens _ _ (static-start t k (R .0) (a .group) (R .1) _ _ q n (a .depth) d I (a .at) (a .free) (drop (a .pos) s))),
+  opened _ _ _ _ _ _ _ _ (begun _ _ _ _ (R .3)) _ (same-opens _ _ (start-static t k (R .0) (a .group) (R .1) _ _ q n (a .depth) d I (a .at) (a .free) (drop (a .pos) s))),
 )
 
 write-fields-add-write-bytes : (t : ℕ) → write-fields-lts.Need-add-write-bytes (write-fields-claims t) (write-fields-at t) write-fields.Post write-fields-Inv-loop write-fields-μ-loop
@@ -429,7 +431,7 @@ write-fields-write-field-requires t c κs = let a = c .before .before .before .b
 write-fields-add-place-2 : (t : ℕ) → write-fields-lts.Need-add-place-2 (write-fields-claims t) (write-fields-at t) write-fields.Post write-fields-Inv-loop write-fields-μ-loop
 write-fields-add-place-2 t c = let a = c .before .before .before .before .before .before .before .before .before .before .before .before .before .before .before .args in let R = c .before .before .before .before .before .before .before .before .before .before .before .before .before .before .before .pre .1 in let t = a .table .now in let s = a .sheet .now in let o = a .out .now in let I = innerOf t (a .levels) in let es = enums t in let n = c .before .before .before .before .before .before .before .before .before .field-count .result in let sw = widthOf t (a .depth - 1) in let S = staticOf t (a .levels) (a .depth - 1) in let l = c .before .before .before .before .before .before .before .before .loop in let i = l .inv in let f = field-fits _ _ _ _ n (l .i) (l .place) (l .end) (l .next) s _ I sw S es t (l .field) (i .4) (c .before .before .before .before .before .before .before .loop-test .taken) in let m = fields-more es t (l .field) n (l .i) (c .before .before .before .before .before .before .before .loop-test .taken) in
     let v = c .before .before .before .before .field-width .ensures .0 es ∙ wide-field t (a .index .now) (R .0) (a .depth - 1) _ (shallow-cons _ _ _ _ _ m (i .3) .0) in
-    let w = wide-is _ _ _ _ _ (wides-field I sw S (λ g. wides-static (schema t) I (a .depth - 1) g) (fieldAt es (drop (l .field) t)) (l .place) (l .end) (drop (l .next) s)) (f .is) in
+    let w = wide-is (wides-field I sw S (λ g. wides-static (schema t) I (a .depth - 1) g) (fieldAt es (drop (l .field) t)) (l .place) (l .end) (drop (l .next) s)) (f .is) in
     omega (arith, v, w, f .before, f .room, i .1)
 
 write-fields-loop-again-2 : (t : ℕ) → write-fields-lts.Need-loop-again-2 (write-fields-claims t) (write-fields-at t) write-fields.Post write-fields-Inv-loop write-fields-μ-loop
@@ -560,18 +562,18 @@ write-items-claims t = (wide-reads.Asked, wide-reads.Learnt, write-plain-reads.A
 
 write-items-write-plain-requires : (t : ℕ) → write-items-lts.Need-write-plain-requires (write-items-claims t) (write-items-at t) write-items.Post write-items-Inv-loop write-items-μ-loop
 write-items-write-plain-requires t c κs = let a = c .before .before .before .before .before .before .before .before .before .args in let R = c .before .before .before .before .before .before .before .before .before .pre .1 in let t = a .table .now in let e = c .before .before .before .kind .given .1 ∙ ap Plain (sym (c .before .wide .ensures .0)) in
-    (_, fits-opens _ _ _ _ _ (R .3) (same-opens _ _ (items-plain (innerOf t (a .levels)) (widthOf t (a .depth)) (staticOf t (a .levels) (a .depth)) (enums t) (a .kind) _ (a .width) (a .total) (a .at) (a .free) (drop (a .pos) (a .sheet .now)) e (R .1))))
+    (_, fits-opens _ _ _ _ _ (R .3) (same-opens _ _ (items-plain (innerOf t (a .levels)) (widthOf t (a .depth)) (staticOf t (a .levels) (a .depth)) (enums t) (a .kind) (a .width) (a .total) (a .at) (a .free) (drop (a .pos) (a .sheet .now)) (R .1) _ e)))
 
 write-items-returns : (t : ℕ) → write-items-lts.Need-returns (write-items-claims t) (write-items-at t) write-items.Post write-items-Inv-loop write-items-μ-loop
 write-items-returns t c = let a = c .before .before .before .before .before .before .before .before .before .before .before .before .args in let R = c .before .before .before .before .before .before .before .before .before .before .before .before .pre .1 in let t = a .table .now in let e = c .before .before .before .before .before .before .kind .given .1 ∙ ap Plain (sym (c .before .before .before .before .wide .ensures .0)) in
-    let q = same-opens _ _ (items-plain (innerOf t (a .levels)) (widthOf t (a .depth)) (staticOf t (a .levels) (a .depth)) (enums t) (a .kind) _ (a .width) (a .total) (a .at) (a .free) (drop (a .pos) (a .sheet .now)) e (R .1)) in stands-opens _ _ _ _ _ (R .3) q _ _ _ _ (c .before .before .write-plain .ensures _ (fits-opens _ _ _ _ _ (R .3) q))
+    let q = same-opens _ _ (items-plain (innerOf t (a .levels)) (widthOf t (a .depth)) (staticOf t (a .levels) (a .depth)) (enums t) (a .kind) (a .width) (a .total) (a .at) (a .free) (drop (a .pos) (a .sheet .now)) (R .1) _ e) in stands-opens _ _ _ _ _ (R .3) q _ _ _ _ (c .before .before .write-plain .ensures _ (fits-opens _ _ _ _ _ (R .3) q))
 
 write-items-write-texts-requires : (t : ℕ) → write-items-lts.Need-write-texts-requires (write-items-claims t) (write-items-at t) write-items.Post write-items-Inv-loop write-items-μ-loop
 write-items-write-texts-requires t c κs = let a = c .before .before .before .before .before .before .before .before .before .args in let R = c .before .before .before .before .before .before .before .before .before .pre .1 in let t = a .table .now in
-    (_, fits-opens _ _ _ _ _ (R .3) (same-opens _ _ (items-text (innerOf t (a .levels)) (widthOf t (a .depth)) (staticOf t (a .levels) (a .depth)) (enums t) (a .kind) _ (a .width) (a .total) (a .at) (a .free) (drop (a .pos) (a .sheet .now)) (c .before .before .kind2 .given .1) (R .1))))
+    (_, fits-opens _ _ _ _ _ (R .3) (same-opens _ _ (items-text (innerOf t (a .levels)) (widthOf t (a .depth)) (staticOf t (a .levels) (a .depth)) (enums t) (a .kind) (a .width) (a .total) (a .at) (a .free) (drop (a .pos) (a .sheet .now)) (R .1) _ (c .before .before .kind2 .given .1))))
 
 write-items-returns-2 : (t : ℕ) → write-items-lts.Need-returns-2 (write-items-claims t) (write-items-at t) write-items.Post write-items-Inv-loop write-items-μ-loop
-write-items-returns-2 t c = let a = c .before .before .before .before .before .before .before .before .before .before .before .before .args in let R = c .before .before .before .before .before .before .before .before .before .before .before .before .pre .1 in let t = a .table .now in let q = same-opens _ _ (items-text (innerOf t (a .levels)) (widthOf t (a .depth)) (staticOf t (a .levels) (a .depth)) (enums t) (a .kind) _ (a .width) (a .total) (a .at) (a .free) (drop (a .pos) (a .sheet .now)) (c .before .before .before .before .before .kind2 .given .1) (R .1)) in
+write-items-returns-2 t c = let a = c .before .before .before .before .before .before .before .before .before .before .before .before .args in let R = c .before .before .before .before .before .before .before .before .before .before .before .before .pre .1 in let t = a .table .now in let q = same-opens _ _ (items-text (innerOf t (a .levels)) (widthOf t (a .depth)) (staticOf t (a .levels) (a .depth)) (enums t) (a .kind) (a .width) (a .total) (a .at) (a .free) (drop (a .pos) (a .sheet .now)) (R .1) _ (c .before .before .before .before .before .kind2 .given .1)) in
     stands-opens _ _ _ _ _ (R .3) q _ _ _ _ (c .before .before .write-texts .ensures _ (fits-opens _ _ _ _ _ (R .3) q))
 
 write-items-loop-holds : (t : ℕ) → write-items-lts.Need-loop-holds (write-items-claims t) (write-items-at t) write-items.Post write-items-Inv-loop write-items-μ-loop
@@ -596,7 +598,7 @@ write-items-write-item-requires t c κs = let a = c .before .before .before .bef
 
 write-items-add-place : (t : ℕ) → write-items-lts.Need-add-place (write-items-claims t) (write-items-at t) write-items.Post write-items-Inv-loop write-items-μ-loop
 write-items-add-place t c = let a = c .before .before .before .before .before .before .before .before .before .before .before .before .args in let l = c .before .before .before .before .before .loop in let f = write-items-fits t (c .before .before .before .before) in
-    let w = wide-is _ _ _ _ _ (write-items-wides t (c .before .before .before .before) (l .place) (l .end) (drop (l .next) (a .sheet .now))) (f .is) in omega (arith, w, f .before, f .room, l .inv .1)
+    let w = wide-is (write-items-wides t (c .before .before .before .before) (l .place) (l .end) (drop (l .next) (a .sheet .now))) (f .is) in omega (arith, w, f .before, f .room, l .inv .1)
 
 write-items-loop-again : (t : ℕ) → write-items-lts.Need-loop-again (write-items-claims t) (write-items-at t) write-items.Post write-items-Inv-loop write-items-μ-loop
 write-items-loop-again t c = let a = c .before .before .before .before .before .before .before .before .before .before .before .before .args in let l = c .before .before .before .before .before .loop in let t′ = a .table .now in let s = a .sheet .now in
@@ -644,7 +646,7 @@ write-value-list : (t : ℕ) (c : write-value-lts.Then1 (write-value-claims t) (
     Left (valueOf t (a .levels) (a .depth) (a .field) (a .at) (a .free) (drop (a .pos) s)) (a .at) (a .free) (a .out .now)
     (indirectW (listB 0 (c .before .before .kind-width .result) (itemOf t (a .levels) (a .depth) (c .before .before .before .kind-at .result))) (a .at) (a .free) (drop (a .pos + 2) s)) (a .at) (a .free) (a .out .now)
 write-value-list t c = let a = c .before .before .before .before .before .before .before .before .args in let R = c .before .before .before .before .before .before .before .before .pre .1 in let t′ = a .table .now in let es = enums t′ in
-    opened _ _ _ _ _ _ _ _ (begun _ _ _ _ (R .3)) _ (value-list (innerOf t′ (a .levels)) (widthOf t′ (a .depth)) (staticOf t′ (a .levels) (a .depth)) (fieldAt es (drop (a .field) t′)) (a .at) (a .free) (a .pos) (a .sheet .now) _ (c .before .before .before .kind-at .ensures es) (sym (c .before .is-sequence .ensures es) ∙ c .if1 .taken) _ (write-value-wide t (c .before .before) .0))
+    opened _ _ _ _ _ _ _ _ (begun _ _ _ _ (R .3)) _ (list-opens (innerOf t′ (a .levels)) (widthOf t′ (a .depth)) (staticOf t′ (a .levels) (a .depth)) (fieldAt es (drop (a .field) t′)) (a .at) (a .free) (a .pos) (a .sheet .now) _ (c .before .before .before .kind-at .ensures es) (sym (c .before .is-sequence .ensures es) ∙ c .if1 .taken) _ (write-value-wide t (c .before .before) .0))
 
 write-value-room : (t : ℕ) (c : write-value-lts.Then1 (write-value-claims t) (write-value-at t) write-value.Post)
     → let a = c .before .before .before .before .before .before .before .before .args in let n = le (part 4 (a .pos + 2) (a .sheet .now)) in

@@ -7,9 +7,10 @@ use lib.ListN.{length, drop}
 use Rattle.schema.specs.Schema.{any}
 use Rattle.message.specs.Sheet.{VA}
 use Rattle.sheet.specs.Written.{itemsW}
-use Rattle.writing.specs.Write.{plainOf, Fits}
+use Rattle.sheet.specs.Writers.{plainOf}
+use Rattle.sheet.proofs.Widths.{wides-plain, wides-marked}
+use Rattle.writing.specs.Write.{Fits}
 use Rattle.writing.proofs.Left.{Left, begun}
-use Rattle.writing.proofs.Widths.{wides-plain, wides-marked}
 use Rattle.writing.proofs.Writers.{record-room, record-stands, item-fits, items-next, items-done}
 use Rattle.writing.proofs.write_plain.Statement.{statement}
 use Rattle.writing.proofs.write_plain.Tie as tie

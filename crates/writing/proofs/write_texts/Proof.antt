@@ -7,9 +7,10 @@ use borrow.Author.Needs.{needs}
 use lib.ListN.{length, drop}
 use Rattle.message.specs.Sheet.{ST}
 use Rattle.sheet.specs.Written.{indirectW, textB, itemsW}
-use Rattle.writing.specs.Write.{textOf, Fits}
+use Rattle.sheet.specs.Writers.{textOf}
+use Rattle.sheet.proofs.Widths.{wides-indirect, wides-marked}
+use Rattle.writing.specs.Write.{Fits}
 use Rattle.writing.proofs.Left.{Left, begun}
-use Rattle.writing.proofs.Widths.{wides-indirect, wides-marked}
 use Rattle.writing.proofs.Writers.{marked-inside, record-text, text-room, text-stands, item-fits, items-next, items-done}
 use Rattle.writing.proofs.write_texts.Statement.{statement}
 use Rattle.writing.proofs.write_texts.Tie as tie

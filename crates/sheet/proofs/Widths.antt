@@ -1,8 +1,8 @@
--- How many bytes in place each writer gives, where it gives something.
-use Prim.Native.Nat.{ℕ, zero, suc, _+_, _-_, _*_}
+-- How many bytes in place each writer gives, where it gives something: as many as the schema says.
 use mathlib.Core.Path.{_≡_, refl, _∙_}
 use mathlib.Core.Bool.{Bool, true, false, cond}
 use mathlib.Core.List.{List, [], _∷_}
+use Prim.Native.Nat.{ℕ, zero, suc, _+_, _-_, _*_}
 use native.Mathlib.Omega.{arith}
 use native.Mathlib.Nat.{add-mul}
 use lib.ListN.{length, take, length-append, length-replicate}
@@ -11,32 +11,32 @@ use Rattle.wire.specs.Bytes.{le, same}
 use Rattle.wire.proofs.Laws.{length-bytes}
 use Rattle.schema.specs.Schema.{Test, Kind, plain, inline, indirect, static, dynamic, Field, Group, kindWidth, valueWidth, fieldWidth, fieldsWidth, fieldsOf, width}
 use Rattle.message.specs.Sheet.{Mark, XT, markBytes, NO, fieldMark}
-use Rattle.sheet.specs.Written.{Writing, stopped, wrote, Writer, InnerW, headed, nextW, placed, noneW, thenW, markedW, optionalW, plainW, inlineW, indirectW, itemsW, kindW, valueW, fieldW, fieldsW, staticW, extensionW}
-use Rattle.sheet.proofs.Match.{saidW, unsaidW, satw-need, satw-cond, satw-headed, satw-next, satw-map}
+use Rattle.sheet.specs.Written.{Writing, wrote, Writer, InnerW, Body, headed, nextW, noneW, thenW, markedW, optionalW, plainW, inlineW, indirectW, itemsW, kindW, valueW, fieldW, fieldsW, staticW, extensionW}
+use Rattle.sheet.proofs.Match.{SatW, saidW, satw-is, satw-need, satw-cond, satw-headed, satw-next, satw-placed, satw-all, satw-map}
 use Rattle.sheet.proofs.Layers.{satw-grab, satw-due, satw-counted}
-use Rattle.writing.proofs.Left.{Wide}
 
 -- WRITINGS
 
-pub wide-headed : (n w : ℕ) (c : List ℕ) (y : Writing) → length c ≡ n → Wide w y → Wide (n + w) (headed c y)
-wide-headed n w c y l u = satw-headed c (satw-map (λ F D r e. omega (arith, length-append c F, l, e)) u)
+abbrev pub Wide : ℕ → Writing → Type 0
+Wide w x = SatW (λ F D r. length F ≡ w) x
 
-wide-next : (w v : ℕ) (y : Writing) (k : List ℕ → List ℕ → Writing) → Wide w y → ((D r : List ℕ) → Wide v (k D r)) → Wide (w + v) (nextW y k)
-wide-next w v y k u f = satw-next (satw-map (λ F D r e. satw-map (λ F′ D′ r′ e′. omega (arith, length-append F F′, e, e′)) (f D r)) u)
+pub wide-is : {w : ℕ} {x : Writing} {F D r : List ℕ} → Wide w x → x ≡ wrote F D r → length F ≡ w
+wide-is u e = satw-is (rw e at u)
 
-wide-placed : (o : ℕ) (y : Writing) → Wide 4 (placed o y)
-unfolding placed
-wide-placed o (stopped n p) = unsaidW
-wide-placed o (wrote X Y r) = saidW (length-bytes 4 o)
+pub wide-headed : (n w : ℕ) (c : List ℕ) (x : Writing) → length c ≡ n → Wide w x → Wide (n + w) (headed c x)
+wide-headed n w c x l u = satw-headed c (satw-map (λ F D r e. omega (arith, length-append c F, l, e)) u)
 
--- WRITERS
+wide-next : (w v : ℕ) (x : Writing) (k : List ℕ → List ℕ → Writing) → Wide w x → ((D r : List ℕ) → Wide v (k D r)) → Wide (w + v) (nextW x k)
+wide-next w v x k u f = satw-next (satw-map (λ F D r e. satw-map (λ F′ D′ r′ e′. omega (arith, length-append F F′, e, e′)) (f D r)) u)
+
+-- VALUES
 
 abbrev pub Wides : ℕ → Writer → Type 0
 Wides w W = (at fr : ℕ) (s : List ℕ) → Wide w (W at fr s)
 
-pub wides-indirect : (B : ℕ → List ℕ → Writing) → Wides 4 (indirectW B)
+pub wides-indirect : (B : Body) → Wides 4 (indirectW B)
 unfolding indirectW
-wides-indirect B at fr s = wide-placed (fr - at) (B fr s)
+wides-indirect B at fr s = satw-placed (fr - at) (satw-all (λ X Y r. length-bytes 4 (fr - at)) (B fr s))
 
 pub wides-marked : (k : Mark) (w : ℕ) (W : Writer) → Wides w W → Wides w (markedW k W)
 unfolding markedW
@@ -63,6 +63,8 @@ wides-items w W u zero at fr s = saidW {F = []} {D = []} {r = s} (omega arith)
 wides-items w W u (suc n) at fr s =
     let e : w + n * w ≡ suc n * w = omega (arith, add-mul 1 n w) in
     satw-map (λ F D r l. l ∙ e) (wide-next w (n * w) (W at fr s) _ (u at fr s) (λ D r. wides-items w W u n (at + w) (fr + length D) r))
+
+-- FIELDS
 
 wides-cond : (c : Bool) {w v : ℕ} {U W : Writer} → Wides w U → Wides v W → Wides (cond c w v) (cond c U W)
 wides-cond true A B = A

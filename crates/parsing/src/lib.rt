@@ -15,8 +15,8 @@ ghost use Rattle.schema.specs.Layout.{Layout};
 ghost use Rattle.schema.specs.FieldKinds.{kindFrom, testedKind};
 ghost use Rattle.message.specs.Sheet.{ST, XU, NO, markBytes};
 ghost use Rattle.message.specs.Check.{widthOf};
-ghost use Rattle.sheet.specs.Written.{InnerW, Writer, markedW, indirectW, textB, itemsW, extendingB, extensionW, sheetW};
-ghost use Rattle.sheet.specs.Writers.{itemW, innerOf, staticOf, plainOf, itemOf, fieldOf, extendingOf};
+ghost use Rattle.sheet.specs.Written.{InnerW, Writer, indirectW, itemsW, extendingB, sheetW};
+ghost use Rattle.sheet.specs.Writers.{itemW, staticOf, plainOf, itemOf, fieldOf, extendingOf, textOf, extensionOf};
 ghost use Rattle.parsing.specs.Count.{capped};
 ghost use Rattle.parsing.specs.Parse.{parsedOf, passed, refused, Finds, recordFault, countedFault, endW, openedOf, bodyOf, Ready};
 
@@ -192,7 +192,7 @@ fn check_inline(sheet: &[u8], utf8: bool, capacity: u8, pos: usize, before: usiz
 // Indirect text: its count and its bytes go into the data area.
 fn check_text(sheet: &[u8], utf8: bool, pos: usize, before: usize) -> Step
     requires { ⌜ Ready (now sheet) pos before ⌝ }
-    ensures { λ r. ⌜ Finds (now (sheet .entry)) before (markedW ST (indirectW (textB utf8))) pos r ⌝ }
+    ensures { λ r. ⌜ Finds (now (sheet .entry)) before (textOf utf8) pos r ⌝ }
 {
     let fault = counted_fault(sheet, pos, ST);
     if fault != 0 {
@@ -245,7 +245,7 @@ fn check_plains(sheet: &[u8], width: usize, total: usize, pos: usize, before: us
 // So many indirect texts in a row, each its own record.
 fn check_texts(sheet: &[u8], utf8: bool, total: usize, pos: usize, before: usize) -> Step
     requires { ⌜ Ready (now sheet) pos before ⌝ }
-    ensures { λ r. ⌜ Finds (now (sheet .entry)) before (itemsW 4 (markedW ST (indirectW (textB utf8))) total) pos r ⌝ }
+    ensures { λ r. ⌜ Finds (now (sheet .entry)) before (itemsW 4 (textOf utf8) total) pos r ⌝ }
 {
     let mut i = 0;
     let mut next = pos;
@@ -536,7 +536,7 @@ fn check_extension(
     before: usize,
 ) -> Step
     requires { ⌜ (Layout (now table) (now index)) × (Ready (now sheet) pos before) ⌝ }
-    ensures { λ r. ⌜ Finds (now (sheet .entry)) before (extensionW (schema (now (table .entry))) (innerOf (now (table .entry)) levels)) pos r ⌝ }
+    ensures { λ r. ⌜ Finds (now (sheet .entry)) before (extensionOf (now (table .entry)) levels) pos r ⌝ }
 {
     if stands(sheet, pos, XT) {
         let fault = record_fault(sheet, pos, XT, 4);

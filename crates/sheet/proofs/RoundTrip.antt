@@ -15,7 +15,7 @@ use Rattle.message.specs.Sheet.{GB, markBytes}
 use Rattle.message.specs.Walk.{Ignored, strict, here, Reading, refused, done, prefixed, bodyR, headR, groupR, walk, messageR}
 use Rattle.message.specs.Proper.{Sized}
 use Rattle.message.proofs.Count.{length-mark}
-use Rattle.message.proofs.Sat.{Sat, unsaid, said, sat-is, sat-need, sat-prefixed, sat-map, sat-padded}
+use Rattle.message.proofs.Sat.{Sat, sat-all, unsaid, said, sat-is, sat-need, sat-prefixed, sat-map, sat-padded}
 use Rattle.message.proofs.Eleven.{eleven}
 use Rattle.sheet.specs.Written.{Writing, stopped, wrote, groupW, ended, sheetW, fitted, written}
 use Rattle.sheet.specs.Rewritten.{Rooms, sheetIn, onward, rewritten, Enough}
@@ -26,10 +26,6 @@ use Rattle.sheet.proofs.Bodies.{GroupFit, GroupAgain}
 use Rattle.sheet.proofs.Groups.{match-group}
 
 -- ACCEPTED MESSAGES
-
-pub sat-all : {Q : List ℕ → List ℕ → Type 0} → ((s m : List ℕ) → Q s m) → (r : Reading) → Sat Q r
-sat-all f (refused n p) = unsaid
-sat-all f (done s m) = said (f s m)
 
 -- no marks go out of a group
 group-marks : (x : Ignored) (gs : List Group) (l n base : ℕ) (b : List ℕ) → Sat (λ s m. m ≡ []) (groupR x gs l n base b)

@@ -1,13 +1,13 @@
 // The questions, asked and answered.
 use crate::arguments;
-use crate::dump;
 use crate::faults;
 use crate::file;
-use crate::print;
 use crate::read;
-use crate::show;
 use codec::Verdict;
 use codec::Written;
+use printing::dump;
+use printing::print;
+use printing::show;
 
 // A refusal: for programs the first line, for people what it means and where it is.
 fn explain(number: u8, place: usize, bytes: &[u8]) {

@@ -1,6 +1,6 @@
 // Document 01's faults.
-use crate::lines;
-use crate::print;
+use printing::lines;
+use printing::print;
 
 // What each means, in plain words, as include/faults.txt has them for all.
 const MEANINGS: [u8; 2059] =
@@ -45,15 +45,30 @@ const MEANINGS: [u8; 2059] =
 48 the field is of another kind: no number, or no bytes
 ";
 
-pub fn print_all() {
+// Asks for every line, as a fault's number asks for its own.
+const ALL: u8 = 0;
+
+// The words of one line, or all of the text.
+fn print_words(text: &[u8], number: u8) {
+    if number == ALL {
+        print::text(text);
+    } else {
+        lines::print_words(text, number);
+    }
+}
+
+fn print_meanings(number: u8) {
     let text = MEANINGS;
-    print::text(&text);
+    print_words(&text, number);
+}
+
+pub fn print_all() {
+    print_meanings(ALL);
 }
 
 pub fn print_meaning(number: u8) {
-    let text = MEANINGS;
-    lines::print_words(&text, number);
-    print::text(b"\n");
+    print_meanings(number);
+    print::end_line();
 }
 
 // The line for programs.
@@ -62,7 +77,7 @@ pub fn print_refusal(number: u8, place: usize) {
     print::number(number as usize);
     print::text(b" at ");
     print::number(place);
-    print::text(b"\n");
+    print::end_line();
 }
 
 // Whether the fault's place is a byte to look at. The others' place is 0 and says nothing.

@@ -1,6 +1,6 @@
 // Files that an argument names. Where one cannot be read or written, standard output says `error` and standard error why.
-use crate::print;
 use libc::STDERR_FILENO;
+use printing::print;
 
 // What `load` answers where the file is not in the room: more than any room's length.
 pub const FAILED: usize = 0xffff_ffff_ffff_ffff;
@@ -30,12 +30,24 @@ pub fn load(i: usize, room: &mut [u8]) -> usize {
         fail(b"name");
         return FAILED;
     }
-    let fd = os::open_read(&name[..n]);
-    if fd < 0 {
-        fail(&name[..n]);
+    load_named(&name[..n], room)
+}
+
+// The same, of a file of at most this many bytes.
+pub fn load_most(i: usize, room: &mut [u8], most: usize) -> usize {
+    if room.len() < most {
         return FAILED;
     }
-    let length = load_open(fd, &name[..n], room);
+    load(i, &mut room[0..most])
+}
+
+fn load_named(name: &[u8], room: &mut [u8]) -> usize {
+    let fd = os::open_read(name);
+    if fd < 0 {
+        fail(name);
+        return FAILED;
+    }
+    let length = load_open(fd, name, room);
     libc::close(fd);
     length
 }
@@ -56,6 +68,14 @@ fn load_open(fd: i32, name: &[u8], room: &mut [u8]) -> usize {
     length
 }
 
+// A file of this length, which stands at the start of its room; nothing where the room is shorter.
+pub fn contents(room: &[u8], length: usize) -> &[u8] {
+    if room.len() < length {
+        return &room[0..0];
+    }
+    &room[0..length]
+}
+
 // Makes the first `length` bytes of the room the whole contents of the file that argument `i` names.
 pub fn save(i: usize, room: &[u8], length: usize) {
     if room.len() < length {
@@ -71,12 +91,16 @@ fn save_bytes(i: usize, bytes: &[u8]) {
         fail(b"name");
         return;
     }
-    let fd = os::open_overwrite(&name[..n]);
+    save_named(&name[..n], bytes);
+}
+
+fn save_named(name: &[u8], bytes: &[u8]) {
+    let fd = os::open_overwrite(name);
     if fd < 0 {
-        fail(&name[..n]);
+        fail(name);
         return;
     }
-    let is_saved = save_open(fd, &name[..n], bytes);
+    let is_saved = save_open(fd, name, bytes);
     libc::close(fd);
     if is_saved {
         print_done(bytes.len());
@@ -94,5 +118,5 @@ fn save_open(fd: i32, name: &[u8], bytes: &[u8]) -> bool {
 fn print_done(length: usize) {
     print::text(b"done ");
     print::number(length);
-    print::text(b"\n");
+    print::end_line();
 }

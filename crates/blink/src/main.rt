@@ -2,17 +2,11 @@
 mod answer;
 mod arguments;
 mod command;
-mod dump;
 mod faults;
 mod file;
 mod help;
-mod lines;
-mod print;
 mod read;
 mod rooms;
-mod rows;
-mod show;
-mod value;
 
 use command::Command;
 
@@ -24,8 +18,7 @@ fn run(command: Command) {
             file::print_error();
             help::print(libc::STDERR_FILENO);
         }
-        Command::Write => rooms::ask_sheet(),
-        _ => rooms::ask_message(command),
+        _ => rooms::ask(command),
     }
 }
 

@@ -1,9 +1,9 @@
 // One field's value on one line: its kind, and the value.
-use crate::print;
-use crate::rows;
-use crate::value;
 use codec::Number;
 use codec::Verdict;
+use printing::print;
+use printing::rows;
+use printing::value;
 
 // Prints the value, or answers why there is none.
 pub fn print_field(
@@ -30,8 +30,9 @@ pub fn print_field(
 
 fn print_number(n: Number) {
     value::print_kind(n);
+    print::space();
     value::print_number(n);
-    print::text(b"\n");
+    print::end_line();
 }
 
 // The field is no number: "48 other kind".
@@ -58,7 +59,7 @@ fn print_bytes(
 
 fn print_part(number: u8, bytes: &[u8]) {
     value::print_type(number);
-    print::text(b" ");
+    print::space();
     value::print_bytes(number, bytes);
-    print::text(b"\n");
+    print::end_line();
 }

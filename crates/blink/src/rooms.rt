@@ -1,5 +1,5 @@
-// The rooms for the files and the answers. A file stands at the start of its room. A length that is more than the room says that
-// the file could not be read.
+// The rooms for the files and the answers. A file stands at the start of its room. A length that is more than the room says that the
+// file could not be read.
 use crate::answer;
 use crate::arguments;
 use crate::command::Command;
@@ -10,87 +10,84 @@ const MESSAGE: usize = 65536;
 
 const SHEET: usize = 1048576;
 
-fn load_message(i: usize, room: &mut [u8; MESSAGE]) -> usize {
-    file::load(i, room)
+fn load_table(room: &mut [u8; MESSAGE]) -> usize {
+    file::load(arguments::TABLE, room)
 }
 
-fn load_sheet(i: usize, room: &mut [u8; SHEET]) -> usize {
-    file::load(i, room)
+fn load_input(room: &mut [u8; SHEET], most: usize) -> usize {
+    file::load_most(arguments::INPUT, room, most)
 }
 
-// A question on a table and a message.
-pub fn ask_message(command: Command) {
+// How long the command's input may be: it is a sheet or a message.
+fn longest_input(command: Command) -> usize {
+    match command {
+        Command::Write => SHEET,
+        _ => MESSAGE,
+    }
+}
+
+// A question on the files that the arguments name.
+pub fn ask(command: Command) {
     let mut tables = [0u8; MESSAGE];
-    let mut messages = [0u8; MESSAGE];
-    let mut scratch = [0u8; MESSAGE];
-    let mut sheet = [0u8; SHEET];
-    let mut output = [0u8; MESSAGE];
-    let table = load_message(arguments::TABLE, &mut tables);
+    let mut inputs = [0u8; SHEET];
+    let mut room = [0u8; MESSAGE];
+    let table = load_table(&mut tables);
     if MESSAGE < table {
         return;
     }
-    let message = load_message(arguments::INPUT, &mut messages);
-    lend_message(
-        command,
-        &tables,
-        table,
-        &messages,
-        message,
-        &mut scratch,
-        &mut sheet,
-        &mut output,
-    );
+    let input = load_input(&mut inputs, longest_input(command));
+    if SHEET < input {
+        return;
+    }
+    lend(command, &tables, table, &inputs, input, &mut room);
 }
 
-fn lend_message(
+// The rooms are arrays up to here, and slices from here on.
+fn lend(
     command: Command,
     tables: &[u8; MESSAGE],
     table: usize,
-    messages: &[u8; MESSAGE],
-    message: usize,
-    scratch: &mut [u8; MESSAGE],
+    inputs: &[u8; SHEET],
+    input: usize,
+    room: &mut [u8; MESSAGE],
+) {
+    answer(
+        command,
+        file::contents(tables, table),
+        file::contents(inputs, input),
+        room,
+    );
+}
+
+// The room is scratch, or takes the message that is written.
+fn answer(command: Command, table: &[u8], input: &[u8], room: &mut [u8]) {
+    match command {
+        Command::Check => answer::check(table, input, room),
+        Command::Read { field, item } => answer::read(table, input, room, field, item),
+        Command::Write => answer::write(table, input, room),
+        _ => make_sheet(command, table, input, room),
+    }
+}
+
+// A question on the message's sheet.
+fn make_sheet(command: Command, table: &[u8], message: &[u8], scratch: &mut [u8]) {
+    let mut sheet = [0u8; SHEET];
+    let mut output = [0u8; MESSAGE];
+    lend_sheet(command, table, message, scratch, &mut sheet, &mut output);
+}
+
+fn lend_sheet(
+    command: Command,
+    table: &[u8],
+    message: &[u8],
+    scratch: &mut [u8],
     sheet: &mut [u8; SHEET],
     output: &mut [u8; MESSAGE],
 ) {
-    cut_message(
-        command,
-        tables,
-        table,
-        messages,
-        message,
-        scratch,
-        sheet,
-        output,
-    );
+    answer_sheet(command, table, message, scratch, sheet, output);
 }
 
-fn cut_message(
-    command: Command,
-    tables: &[u8],
-    table: usize,
-    messages: &[u8],
-    message: usize,
-    scratch: &mut [u8],
-    sheet: &mut [u8],
-    output: &mut [u8],
-) {
-    if tables.len() < table {
-        return;
-    }
-    if messages.len() < message {
-        return;
-    }
-    answer_message(
-        command,
-        &tables[0..table],
-        &messages[0..message],
-        scratch,
-        sheet,
-        output,
-    );
-}
-
-fn answer_message(
+fn answer_sheet(
     command: Command,
     table: &[u8],
     message: &[u8],
@@ -99,44 +96,9 @@ fn answer_message(
     output: &mut [u8],
 ) {
     match command {
-        Command::Check => answer::check(table, message, scratch),
-        Command::Read { field, item } => answer::read(table, message, scratch, field, item),
         Command::Show => answer::show(table, message, scratch, sheet),
         Command::Sheet => answer::sheet(table, message, scratch, sheet),
         Command::Rewrite => answer::rewrite(table, message, scratch, sheet, output),
         _ => {}
     }
-}
-
-// The question on a table and a sheet.
-pub fn ask_sheet() {
-    let mut tables = [0u8; MESSAGE];
-    let mut sheets = [0u8; SHEET];
-    let mut output = [0u8; MESSAGE];
-    let table = load_message(arguments::TABLE, &mut tables);
-    if MESSAGE < table {
-        return;
-    }
-    let sheet = load_sheet(arguments::INPUT, &mut sheets);
-    lend_sheet(&tables, table, &sheets, sheet, &mut output);
-}
-
-fn lend_sheet(
-    tables: &[u8; MESSAGE],
-    table: usize,
-    sheets: &[u8; SHEET],
-    sheet: usize,
-    output: &mut [u8; MESSAGE],
-) {
-    cut_sheet(tables, table, sheets, sheet, output);
-}
-
-fn cut_sheet(tables: &[u8], table: usize, sheets: &[u8], sheet: usize, output: &mut [u8]) {
-    if tables.len() < table {
-        return;
-    }
-    if sheets.len() < sheet {
-        return;
-    }
-    answer::write(&tables[0..table], &sheets[0..sheet], output);
 }

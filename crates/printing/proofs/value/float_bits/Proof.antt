@@ -1,0 +1,19 @@
+use mathlib.Core.Path.{_≡_}
+use mathlib.Core.Bool.{true, not, false≢true}
+use lib.Dec.{T}
+use lib.Ieee.{Float, nan, inf, fin, eq, isNan}
+use borrow.Author.Needs.{needs}
+use Rattle.printing.proofs.value.float_bits.Statement.{statement}
+use Rattle.printing.proofs.value.float_bits.Tie as tie
+
+no-nan : (x : Float) → eq x x ≡ true → T (not (isNan x))
+unfolding eq isNan
+no-nan nan h = absurd (false≢true h)
+no-nan (inf s) h = tt
+no-nan (fin s m e) h = tt
+
+float-to-bits-result : tie.Need-float-to-bits-result
+float-to-bits-result c = no-nan (c .before .args .x) (c .if1 .taken)
+
+pub float-bits-spec : {M : Type 1} → statement M
+float-bits-spec = tie.close (tie.spec float-to-bits-result (λ c. search needs) (λ c. search needs))

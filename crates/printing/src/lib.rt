@@ -1,0 +1,7 @@
+// Bytes, values and sheets as text on standard output. The functions are proved safe; what they print has no contract.
+pub mod dump;
+pub mod lines;
+pub mod print;
+pub mod rows;
+pub mod show;
+pub mod value;

@@ -39,6 +39,13 @@ pub enum FieldKind {
     Dynamic { allowed: usize },
 }
 
+// How much of a group is walked: a dynamic group whole, for the kind of number `allowed`; of a static
+// group its fields, since it is a part of the group that holds it.
+pub enum Scope {
+    Whole { allowed: usize },
+    Fields { group: usize },
+}
+
 fn wide16(x: u16) -> usize
     ensures { λ r. ⌜ (r ≡ x) × (r < 65536) ⌝ }
 {

@@ -122,8 +122,8 @@ module _ (s : List ℕ) (pos d : ℕ) (gs : List Group) (I : InnerW) (g : ℕ) (
 -- THE HEAD
 
 module _ (s : List ℕ) (pos d : ℕ) (R : Ready s pos d) (gs : List Group) (a l y : ℕ) (is : y ≡ recordFault (markBytes GB) 8 (drop pos s)) where
-  abbrev Opened : Writer
-  Opened = markedW GB (indirectW (innerB (groupW gs l) a))
+  abbrev Marked : Writer
+  Marked = markedW GB (indirectW (innerB (groupW gs l) a))
 
   -- the body at a level: none where no level is left
   abbrev bodyAt : ℕ → ℕ → List ℕ → List ℕ → Writing
@@ -133,7 +133,7 @@ module _ (s : List ℕ) (pos d : ℕ) (R : Ready s pos d) (gs : List Group) (a l
   abbrev head : List ℕ → List ℕ → List ℕ → Writing
   head r id r′ = need (known gs (le id)) (stopped 2 (2 + length r)) (need (allows gs a (find gs (le id))) (stopped 25 (2 + length r)) (bodyAt l (find gs (le id)) id r′))
 
-  opened-is : (at fr : ℕ) → Opened at fr (drop pos s) ≡ placed (fr - at) (due (markBytes GB) (drop pos s) (λ r. grab (2 + length r) 8 r (head r)))
+  opened-is : (at fr : ℕ) → Marked at fr (drop pos s) ≡ placed (fr - at) (due (markBytes GB) (drop pos s) (λ r. grab (2 + length r) 8 r (head r)))
   unfolding groupW headW innerB
   opened-is at fr = marked-indirect GB (innerB (groupW gs l) a) at fr (drop pos s) ∙ go l
     where
@@ -142,7 +142,7 @@ module _ (s : List ℕ) (pos d : ℕ) (R : Ready s pos d) (gs : List Group) (a l
       go zero = refl
       go (suc l) = refl
 
-  pub group-bad : (y ≡ 0 → ⊥) → Finds s d Opened pos (refused y pos)
+  pub group-bad : (y ≡ 0 → ⊥) → Finds s d Marked pos (refused y pos)
   unfolding placed
   group-bad z at fr = refuses s d _ y pos _ z (rw is (record-small _ _ _)) (opened-is at fr ∙ ap (placed (fr - at)) (record-bad s pos (R .inside) _ 8 y is head z)) (at-mark s pos (R .inside))
 
@@ -150,13 +150,13 @@ module _ (s : List ℕ) (pos d : ℕ) (R : Ready s pos d) (gs : List Group) (a l
     abbrev id : List ℕ
     id = part 8 (pos + 2) s
 
-    opened-at : (at fr : ℕ) → Opened at fr (drop pos s) ≡ placed (fr - at) (need (known gs (le id)) (stopped 2 (2 + length (drop (pos + 2) s))) (need (allows gs a g) (stopped 25 (2 + length (drop (pos + 2) s))) (bodyAt l g id (drop (pos + 10) s))))
+    opened-at : (at fr : ℕ) → Marked at fr (drop pos s) ≡ placed (fr - at) (need (known gs (le id)) (stopped 2 (2 + length (drop (pos + 2) s))) (need (allows gs a g) (stopped 25 (2 + length (drop (pos + 2) s))) (bodyAt l g id (drop (pos + 10) s))))
     opened-at at fr = opened-is at fr ∙ ap (placed (fr - at)) (record-good s pos (R .inside) _ 8 y is head z ∙ rw (← ig))
 
     whole : pos + 10 ≤ length s
     whole = record-inside s pos (R .inside) _ 8 y is z
 
-    pub group-unknown : length gs ≤ g → Finds s d Opened pos (refused 2 pos)
+    pub group-unknown : length gs ≤ g → Finds s d Marked pos (refused 2 pos)
     unfolding placed need known
     group-unknown h at fr =
         let u = whole in
@@ -167,24 +167,24 @@ module _ (s : List ℕ) (pos d : ℕ) (R : Ready s pos d) (gs : List Group) (a l
       unfolding known
       its-known = rw (← ig) (lt-ltb g (length gs) h)
 
-      pub group-other : allows gs a g ≡ false → Finds s d Opened pos (refused 25 pos)
+      pub group-other : allows gs a g ≡ false → Finds s d Marked pos (refused 25 pos)
       unfolding placed need
       group-other e at fr =
           let u = whole in
           refuses s d _ 25 pos _ (omega arith) (omega arith) (opened-at at fr ∙ rw (its-known, e)) (behind-mark s pos (omega (arith, u)))
 
       module _ (e : allows gs a g ≡ true) where
-        opened-body : (at fr : ℕ) → Opened at fr (drop pos s) ≡ placed (fr - at) (bodyAt l g id (drop (pos + 10) s))
+        opened-body : (at fr : ℕ) → Marked at fr (drop pos s) ≡ placed (fr - at) (bodyAt l g id (drop (pos + 10) s))
         unfolding need
         opened-body at fr = opened-at at fr ∙ rw (its-known, e)
 
-        pub group-deep : l ≡ 0 → Finds s d Opened pos (refused 24 pos)
+        pub group-deep : l ≡ 0 → Finds s d Marked pos (refused 24 pos)
         unfolding placed
         group-deep o at fr =
             let u = whole in
             refuses s d _ 24 pos (10 + length (drop (pos + 10) s)) (omega arith) (omega arith) (opened-body at fr ∙ ap (λ (j : ℕ). placed (fr - at) (bodyAt j g id (drop (pos + 10) s))) o) (omega (arith, u, length-drop (pos + 10) s))
 
-        pub group-body : (l ≡ 0 → ⊥) → (c : Count) → Counts s d (indirectW (λ p r. bodyW gs (groupW gs (l - 1)) g id r)) (pos + 10) c → Counts s d Opened pos c
+        pub group-body : (l ≡ 0 → ⊥) → (c : Count) → Counts s d (indirectW (λ p r. bodyW gs (groupW gs (l - 1)) g id r)) (pos + 10) c → Counts s d Marked pos c
         unfolding indirectW
         group-body o c f at fr = count-as _ _ (opened-body at fr ∙ go l o) (f at fr)
           where

@@ -4,3 +4,4 @@ pub mod Values
 pub mod Loops
 pub mod Fields
 pub mod Groups
+pub mod Scopes

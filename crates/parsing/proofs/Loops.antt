@@ -1,18 +1,19 @@
 -- One turn of each loop: the answer for what is left is the answer for all.
-use mathlib.Core.Path.{_≡_, refl}
+use mathlib.Core.Path.{_≡_, refl, sym, _∙_}
 use mathlib.Core.List.{List, []}
 use Prim.Native.Nat.{ℕ, suc, _+_, _-_, _<_, _≤_}
 use native.Mathlib.Omega.{arith}
 use native.Mathlib.Nat.{sub-zero}
 use lib.ListN.{length, drop}
+use borrow.Author.Tests.{eq-eqb}
 use Rattle.schema.specs.Schema.{fieldWidth}
 use Rattle.schema.specs.Table.{fieldAt, fieldsAt}
 use Rattle.schema.proofs.Records.{fields-more, fields-none}
 use Rattle.sheet.specs.Written.{Writer, InnerW, noneW, thenW, itemsW, fieldW, fieldsW}
 use Rattle.parsing.specs.Count.{Count}
-use Rattle.parsing.specs.Parse.{passed, Counts, Finds, Ready}
+use Rattle.parsing.specs.Parse.{passed, found, Counts, Finds, Ready}
 use Rattle.parsing.specs.declared.Step.{Step}
-use Rattle.parsing.proofs.Answers.{stays, next-passed, next-stopped}
+use Rattle.parsing.proofs.Answers.{stays, ready, next-passed, next-stopped}
 
 -- TWO WRITERS IN A ROW
 
@@ -28,6 +29,14 @@ module _ (s : List ℕ) (w : ℕ) (U W : Writer) (pos d : ℕ) (v : Step) (f : F
 pub none-left : (s : List ℕ) (pos d : ℕ) → Ready s pos d → Finds s d noneW pos (passed pos d)
 unfolding noneW
 none-left s pos d R at fr = stays s d _ pos [] refl (R .inside) (R .low)
+
+-- a writer with nothing behind it
+pub none-passed : (s : List ℕ) (W : Writer) (pos d : ℕ) (v : Step) → Finds s d W pos v → length s ≤ 1048576 → v .number ≡ 0
+    → (c : Count) → Counts s (v .length) noneW (v .place) c → Counts s d W pos c
+unfolding found
+none-passed s W pos d v f h z c g at fr =
+    let q : found s (passed (v .place) (v .length)) ≡ found s v = rw (eq-eqb (v .number) 0 z) in
+    g 0 0 ∙ sym (none-left s (v .place) (v .length) (ready s d _ v (f 0 0) z h) 0 0) ∙ q ∙ f at fr
 
 -- ITEMS
 

@@ -1,18 +1,22 @@
 -- What the functions that read a sheet answer, and what they ask of their callers.
 use mathlib.Core.Path.{_≡_}
-use mathlib.Core.Bool.{cond}
+use mathlib.Core.Bool.{true, cond}
 use mathlib.Core.List.{List, []}
-use Prim.Native.Nat.{ℕ, _+_, _%_, _≤_}
+use Prim.Native.Nat.{ℕ, _+_, _%_, _<_, _≤_}
 use lib.ListN.{length, take, drop}
 use lib.Dec.{leb, eqb}
 use Rattle.wire.specs.Bytes.{part, le, same}
 use Rattle.schema.specs.Faults.{need}
+use Rattle.schema.specs.Schema.{shallow}
 use Rattle.schema.specs.Table.{schema}
+use Rattle.schema.specs.declared.Scope.{Scope}
+use Rattle.schema.specs.declared.Scope.the-variants.{Whole, Fields}
 use Rattle.message.specs.Sheet.{GB, GE}
-use Rattle.sheet.specs.Written.{Writing, stopped, wrote, Writer, due, markedW, indirectW, bodyW}
-use Rattle.sheet.specs.Writers.{innerOf, nestedOf}
+use Rattle.sheet.specs.Written.{Writing, stopped, wrote, Writer, due, noneW, thenW, markedW}
+use Rattle.sheet.specs.Writers.{staticOf, nestedOf, extensionOf}
 use Rattle.parsing.specs.Count.{Count, failed, counted, count, capped, after}
 use Rattle.parsing.specs.declared.Step.{Step}
+use Rattle.parsing.specs.declared.Opened.{Opened}
 use Rattle.parsing.specs.declared.Parsed.{Parsed}
 use Rattle.parsing.specs.declared.Parsed.the-variants.{Counted, Refused}
 
@@ -61,12 +65,18 @@ countedFault k s = cond (eqb (recordFault k 4 s) 0) (need (leb (6 + le (part 4 2
 unfoldable pub endW : Writer
 endW at fr s = due GE s (λ r. wrote [] [] r)
 
--- a dynamic group with its mark, and what follows its head
+-- a dynamic group with its mark
 abbrev pub openedOf : List ℕ → ℕ → ℕ → Writer
 openedOf t levels allowed = markedW GB (nestedOf t levels allowed)
 
-abbrev pub bodyOf : List ℕ → ℕ → ℕ → List ℕ → Writer
-bodyOf t levels group id = indirectW (λ p s. bodyW (schema t) (innerOf t levels) group id s)
+-- a group by its scope, and what stands behind its fields: "`SG` opens a static group and no record closes it"
+unfoldable pub groupOf : List ℕ → ℕ → ℕ → Scope → Writer
+groupOf t levels depth (Whole a) = openedOf t levels a
+groupOf t levels depth (Fields g) = staticOf t levels depth g
+
+unfoldable pub closeOf : List ℕ → ℕ → Scope → Writer
+closeOf t levels (Whole a) = thenW 4 (extensionOf t levels) endW
+closeOf t levels (Fields g) = noneW
 
 -- WHAT CALLERS SHOW
 
@@ -75,3 +85,39 @@ pub record Ready (s : List ℕ) (pos d : ℕ) : Type 0 where
   pub small : length s ≤ 1048576
   pub inside : pos ≤ length s
   pub low : d ≤ 65537
+
+-- g is a group of the table t whose static depth is below this one.
+abbrev pub Shallow : List ℕ → ℕ → ℕ → Type 0
+Shallow t depth g = (g < length (schema t)) × (shallow (schema t) depth g ≡ true)
+
+-- The depth that a group is read at. "35 .. static depth over 4": so 5 serves for any.
+unfoldable pub Within : List ℕ → ℕ → Scope → Type 0
+Within t depth (Whole a) = depth ≡ 5
+Within t depth (Fields g) = Shallow t depth g
+
+-- A GROUP THAT IS OPENED
+
+abbrev pub opened : ℕ → ℕ → ℕ → ℕ → Opened
+opened g l next e = record { fault = 0; group = g; levels = l; pos = next; length = e }
+
+abbrev pub unopened : ℕ → Opened
+unopened k = record { fault = k; group = 0; levels = 0; pos = 0; length = 0 }
+
+-- How many levels a group takes.
+unfoldable pub level : Scope → ℕ
+level (Whole a) = 1
+level (Fields g) = 0
+
+-- The group's fields come next. A fault in them is the group's, and where there is none the group goes on with what closes it.
+pub record Opening (t s : List ℕ) (levels depth : ℕ) (scope : Scope) (pos d : ℕ) (o : Opened) : Type 0 where
+  pub ready : Ready s (o .pos) (o .length)
+  pub shallows : Shallow t depth (o .group)
+  pub lower : o .levels + level scope ≡ levels
+  pub stops : (v : Step) → Finds s (o .length) (staticOf t (o .levels) depth (o .group)) (o .pos) v → (v .number ≡ 0 → ⊥) → Finds s d (groupOf t levels depth scope) pos v
+  pub goes : (v : Step) → Finds s (o .length) (staticOf t (o .levels) depth (o .group)) (o .pos) v → v .number ≡ 0
+      → (c : Count) → Counts s (v .length) (closeOf t (o .levels) scope) (v .place) c → Counts s d (groupOf t levels depth scope) pos c
+
+-- o is what opening the group finds: its fault, or the group.
+pub record Opens (t s : List ℕ) (levels depth : ℕ) (scope : Scope) (pos d : ℕ) (o : Opened) : Type 0 where
+  pub fails : (o .fault ≡ 0 → ⊥) → Finds s d (groupOf t levels depth scope) pos (refused (o .fault) pos)
+  pub opens : o .fault ≡ 0 → Opening t s levels depth scope pos d o

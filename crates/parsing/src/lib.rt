@@ -13,12 +13,13 @@ ghost use Rattle.schema.specs.Schema.{inline, kindWidth, shallowKind, shallow};
 ghost use Rattle.schema.specs.Table.{fieldAt, enums, schema};
 ghost use Rattle.schema.specs.Layout.{Layout};
 ghost use Rattle.schema.specs.FieldKinds.{kindFrom, testedKind};
+ghost use Rattle.schema.specs.declared.Scope.the-variants.{Whole};
 ghost use Rattle.message.specs.Sheet.{ST, XU, NO, markBytes};
 ghost use Rattle.message.specs.Check.{widthOf};
 ghost use Rattle.sheet.specs.Written.{InnerW, Writer, indirectW, itemsW, extendingB, sheetW};
 ghost use Rattle.sheet.specs.Writers.{itemW, staticOf, plainOf, itemOf, fieldOf, extendingOf, textOf, extensionOf};
 ghost use Rattle.parsing.specs.Count.{capped};
-ghost use Rattle.parsing.specs.Parse.{parsedOf, passed, refused, Finds, recordFault, countedFault, endW, openedOf, bodyOf, Ready};
+ghost use Rattle.parsing.specs.Parse.{parsedOf, passed, refused, Finds, recordFault, countedFault, endW, groupOf, closeOf, Ready, Within, unopened, Opens};
 
 const VA: [u8; 2] = *b"VA";
 
@@ -287,9 +288,31 @@ fn check_end(sheet: &[u8], pos: usize, before: usize) -> Step
 
 // GROUPS, FIELDS AND ITEMS
 
+// A group that is opened: its number, the levels left below it, where its fields begin in the sheet,
+// and the count before them. Where `fault` is not 0, none is.
+struct Opened {
+    fault: usize,
+    group: usize,
+    levels: usize,
+    pos: usize,
+    length: usize,
+}
+
+fn unopened(fault: usize) -> Opened
+    ensures { λ r. ⌜ r ≡ unopened fault ⌝ }
+{
+    Opened {
+        fault,
+        group: 0,
+        levels: 0,
+        pos: 0,
+        length: 0,
+    }
+}
+
 // "`GB` type id u64 opens a group": "2, 25, 24". `levels` are left for it, and `allowed` is the number
-// of the dynamic kind that names it.
-fn check_group(
+// of the dynamic kind that names it. Its head and its fields take 16 bytes and its width.
+fn open_dynamic(
     table: &[u8],
     index: &[u16],
     sheet: &[u8],
@@ -297,52 +320,134 @@ fn check_group(
     allowed: usize,
     pos: usize,
     before: usize,
-) -> Step
+) -> Opened
     requires { ⌜ (Layout (now table) (now index)) × (Ready (now sheet) pos before) ⌝ }
-    ensures { λ r. ⌜ Finds (now (sheet .entry)) before (openedOf (now (table .entry)) levels allowed) pos r ⌝ }
+    ensures { λ r. ⌜ Opens (now (table .entry)) (now (sheet .entry)) levels 5 (Whole allowed) pos before r ⌝ }
 {
     let fault = record_fault(sheet, pos, GB, 8);
     if fault != 0 {
-        return refused(fault, pos);
+        return unopened(fault);
     }
     let total = schema::group_total(index);
     let group = schema::find(table, index, total, wire::read_u64(sheet, pos + 2));
     if total <= group {
-        return refused(2, pos);
+        return unopened(2);
     }
     if schema::allows(table, index, allowed, group) {
         if levels == 0 {
-            return refused(24, pos);
+            return unopened(24);
         }
-        return check_body(table, index, sheet, levels - 1, group, pos + 10, before);
+        return Opened {
+            fault: 0,
+            group,
+            levels: levels - 1,
+            pos: pos + 10,
+            length: longer(before, 16 + schema::group_width(index, group)),
+        };
     }
-    refused(25, pos)
+    unopened(25)
 }
 
-// The fields, the extension and the end of a group with so many levels left below it. Its head and its
-// fields take 16 bytes and its width.
-fn check_body(
+// A static group has no head: its fields come at once.
+fn open_group(
     table: &[u8],
     index: &[u16],
     sheet: &[u8],
     levels: usize,
-    group: usize,
+    scope: schema::Scope,
+    pos: usize,
+    before: usize,
+) -> Opened
+    requires { ⌜ (Layout (now table) (now index)) × (Ready (now sheet) pos before) ⌝ }
+    ensures { λ r. ⌜ ((depth : ℕ) → Within (now (table .entry)) depth scope → Opens (now (table .entry)) (now (sheet .entry)) levels depth scope pos before r) ⌝ }
+{
+    match scope {
+        schema::Scope::Whole { allowed } => open_dynamic(
+            table,
+            index,
+            sheet,
+            levels,
+            allowed,
+            pos,
+            before,
+        ),
+        schema::Scope::Fields { group } => Opened {
+            fault: 0,
+            group,
+            levels,
+            pos,
+            length: before,
+        },
+    }
+}
+
+// A group, whole or its fields alone. One function checks both, and calls `check_fields` in one place
+// only, so that a level costs one call.
+fn check_group(
+    table: &[u8],
+    index: &[u16],
+    sheet: &[u8],
+    levels: usize,
+    depth: usize,
+    scope: schema::Scope,
     pos: usize,
     before: usize,
 ) -> Step
-    requires { ⌜ (Layout (now table) (now index)) × (Ready (now sheet) pos before) × (group < length (schema (now table))) ⌝ }
-    ensures { λ r. ⌜ ((id : List ℕ) → length id ≡ 8 → Finds (now (sheet .entry)) before (bodyOf (now (table .entry)) levels group id) pos r) ⌝ }
+    requires { ⌜ (Layout (now table) (now index)) × (Ready (now sheet) pos before) × (Within (now table) depth scope) ⌝ }
+    ensures { λ r. ⌜ Finds (now (sheet .entry)) before (groupOf (now (table .entry)) levels depth scope) pos r ⌝ }
 {
-    let start = longer(before, 16 + schema::group_width(index, group));
-    let fields = check_fields(table, index, sheet, levels, 5, group, pos, start);
+    let open = open_group(table, index, sheet, levels, scope, pos, before);
+    if open.fault != 0 {
+        return refused(open.fault, pos);
+    }
+    let fields = check_fields(
+        table,
+        index,
+        sheet,
+        open.levels,
+        depth,
+        open.group,
+        open.pos,
+        open.length,
+    );
     if fields.number != 0 {
         return fields;
     }
-    let extension = check_extension(table, index, sheet, levels, fields.place, fields.length);
-    if extension.number != 0 {
-        return extension;
+    close_group(
+        table,
+        index,
+        sheet,
+        open.levels,
+        scope,
+        fields.place,
+        fields.length,
+    )
+}
+
+// What stands behind the fields: of a dynamic group its extension and its end. "`SG` opens a static
+// group and no record closes it".
+fn close_group(
+    table: &[u8],
+    index: &[u16],
+    sheet: &[u8],
+    levels: usize,
+    scope: schema::Scope,
+    pos: usize,
+    before: usize,
+) -> Step
+    requires { ⌜ (Layout (now table) (now index)) × (Ready (now sheet) pos before) ⌝ }
+    ensures { λ r. ⌜ Finds (now (sheet .entry)) before (closeOf (now (table .entry)) levels scope) pos r ⌝ }
+{
+    match scope {
+        schema::Scope::Whole { allowed } => {
+            let extension = check_extension(table, index, sheet, levels, pos, before);
+            if extension.number != 0 {
+                return extension;
+            }
+            check_end(sheet, extension.place, extension.length)
+        }
+        schema::Scope::Fields { group } => passed(pos, before),
     }
-    check_end(sheet, extension.place, extension.length)
 }
 
 // The fields of a group whose static depth is below `depth`. Required plain values are passed over
@@ -512,14 +617,24 @@ fn check_item(
             if fault != 0 {
                 return refused(fault, pos);
             }
-            check_fields(table, index, sheet, levels, depth, group, pos + 2, before)
+            check_group(
+                table,
+                index,
+                sheet,
+                levels,
+                depth,
+                schema::Scope::Fields { group },
+                pos + 2,
+                before,
+            )
         }
         schema::FieldKind::Dynamic { allowed } => check_group(
             table,
             index,
             sheet,
             levels,
-            allowed,
+            5,
+            schema::Scope::Whole { allowed },
             pos,
             before,
         ),
@@ -595,7 +710,16 @@ fn check_extending(
     if stands(sheet, pos, XU) {
         return check_kept(table, index, sheet, pos, before);
     }
-    check_group(table, index, sheet, levels, 0, pos, before)
+    check_group(
+        table,
+        index,
+        sheet,
+        levels,
+        5,
+        schema::Scope::Whole { allowed: 0 },
+        pos,
+        before,
+    )
 }
 
 // THE SHEET
@@ -611,7 +735,16 @@ pub fn check_sheet(table: &[u8], index: &[u16], sheet: &[u8]) -> Parsed
             place: 0,
         };
     }
-    let group = check_group(table, index, sheet, 8, 0, 0, 0);
+    let group = check_group(
+        table,
+        index,
+        sheet,
+        8,
+        5,
+        schema::Scope::Whole { allowed: 0 },
+        0,
+        0,
+    );
     if group.number != 0 {
         return Parsed::Refused {
             number: (group.number % 256) as u8,

@@ -8,57 +8,57 @@ use mathlib.Core.Logic.{⊎-elim}
 use lib.ListN.{length, drop}
 use lib.Dec.{leb}
 use Rattle.wire.specs.Bytes.{part, same}
-use Rattle.wire.proofs.Laws.{length-part}
-use Rattle.schema.specs.Schema.{any, shallowFields, shallow, find}
+use Rattle.schema.specs.Schema.{any, shallowFields, shallow}
 use Rattle.schema.specs.Table.{fieldAt, fieldsAt, enums, schema}
 use Rattle.schema.specs.declared.FieldKind.the-variants.{Plain}
 use Rattle.schema.proofs.Records.{fields-more}
-use Rattle.schema.proofs.Groups.{static-inside, placed-inside, find-whole, layout-width}
+use Rattle.schema.proofs.Groups.{static-inside, placed-inside}
 use Rattle.schema.proofs.Depth.{and-both, shallow-some, shallow-cons, wide-kind}
 use Rattle.message.specs.Check.{widthOf}
 use Rattle.message.proofs.CheckFields.{kind-static, start-inside, start-shallow}
-use Rattle.sheet.specs.Written.{itemsW, fieldsW, extensionW}
-use Rattle.sheet.specs.Writers.{innerOf, staticOf, itemOf, extendingOf}
+use Rattle.sheet.specs.Written.{itemsW, fieldsW}
+use Rattle.sheet.specs.Writers.{innerOf, staticOf, itemOf, extendingOf, extensionOf}
 use Rattle.sheet.proofs.Widths.{wides-static}
 use Rattle.sheet.proofs.Writers.{items-one, field-plain, value-one, items-plain, items-text, start-static}
-use Rattle.sheet.proofs.ShowReaders.{is-VA, is-SG, is-SQ, is-GB, is-XT, is-XU}
+use Rattle.sheet.proofs.ShowReaders.{is-VA, is-SG, is-SQ, is-XT, is-XU}
 use Rattle.parsing.specs.Count.{Count}
-use Rattle.parsing.specs.Parse.{Counts, endW, Ready}
+use Rattle.parsing.specs.Parse.{Counts, endW, groupOf, closeOf, Ready, Within}
 use Rattle.parsing.proofs.Answers.{ready, ready-at, count-as}
 use Rattle.parsing.proofs.Records.{record-inside, as-record}
 use Rattle.parsing.proofs.Values.{plain-bad, plain-good, any-passes}
 use Rattle.parsing.proofs.Fields.{absent-passes, field-there, sequence-bad, sequence-good, item-plain, item-number, item-inline, item-indirect, item-dynamic, static-bad, static-good}
-use Rattle.parsing.proofs.Groups.{extension-none, extension-bad, extension-empty, extension-some, extending-group, body-stopped, body-passed, group-bad, group-unknown, group-other, group-deep, group-body}
-use Rattle.parsing.proofs.Loops.{then-passed, then-stopped, items-all, items-passed, items-stopped, items-end, fields-passed, fields-stopped, fields-end}
+use Rattle.parsing.proofs.Groups.{extension-none, extension-bad, extension-empty, extension-some, extending-group}
+use Rattle.parsing.proofs.Loops.{then-passed, then-stopped, none-left, items-all, items-passed, items-stopped, items-end, fields-passed, fields-stopped, fields-end}
+use Rattle.parsing.proofs.Scopes.{weight, less-left}
 use borrow.Fn.Kinds.{In}
 use borrow.Fn.PlainCycle.{Measures, is, falls, and}
-use Rattle.parsing.proofs.check_body.Reads as check-body
-use Rattle.parsing.proofs.check_body.Kinds as check-body-kinds
-use Rattle.parsing.proofs.+check_body+check_extending+check_extension+check_field+check_fields+check_group+check_groups+check_item+check_items.Lts-check_body as check-body-lts
 use Rattle.parsing.proofs.check_extending.Reads as check-extending
 use Rattle.parsing.proofs.check_extending.Kinds as check-extending-kinds
-use Rattle.parsing.proofs.+check_body+check_extending+check_extension+check_field+check_fields+check_group+check_groups+check_item+check_items.Lts-check_extending as check-extending-lts
+use Rattle.parsing.proofs.+check_extending+check_extension+check_field+check_fields+check_group+check_groups+check_item+check_items+close_group.Lts-check_extending as check-extending-lts
 use Rattle.parsing.proofs.check_extension.Reads as check-extension
 use Rattle.parsing.proofs.check_extension.Kinds as check-extension-kinds
-use Rattle.parsing.proofs.+check_body+check_extending+check_extension+check_field+check_fields+check_group+check_groups+check_item+check_items.Lts-check_extension as check-extension-lts
+use Rattle.parsing.proofs.+check_extending+check_extension+check_field+check_fields+check_group+check_groups+check_item+check_items+close_group.Lts-check_extension as check-extension-lts
 use Rattle.parsing.proofs.check_field.Reads as check-field
 use Rattle.parsing.proofs.check_field.Kinds as check-field-kinds
-use Rattle.parsing.proofs.+check_body+check_extending+check_extension+check_field+check_fields+check_group+check_groups+check_item+check_items.Lts-check_field as check-field-lts
+use Rattle.parsing.proofs.+check_extending+check_extension+check_field+check_fields+check_group+check_groups+check_item+check_items+close_group.Lts-check_field as check-field-lts
 use Rattle.parsing.proofs.check_fields.Reads as check-fields
 use Rattle.parsing.proofs.check_fields.Kinds as check-fields-kinds
-use Rattle.parsing.proofs.+check_body+check_extending+check_extension+check_field+check_fields+check_group+check_groups+check_item+check_items.Lts-check_fields as check-fields-lts
+use Rattle.parsing.proofs.+check_extending+check_extension+check_field+check_fields+check_group+check_groups+check_item+check_items+close_group.Lts-check_fields as check-fields-lts
 use Rattle.parsing.proofs.check_group.Reads as check-group
 use Rattle.parsing.proofs.check_group.Kinds as check-group-kinds
-use Rattle.parsing.proofs.+check_body+check_extending+check_extension+check_field+check_fields+check_group+check_groups+check_item+check_items.Lts-check_group as check-group-lts
+use Rattle.parsing.proofs.+check_extending+check_extension+check_field+check_fields+check_group+check_groups+check_item+check_items+close_group.Lts-check_group as check-group-lts
 use Rattle.parsing.proofs.check_groups.Reads as check-groups
 use Rattle.parsing.proofs.check_groups.Kinds as check-groups-kinds
-use Rattle.parsing.proofs.+check_body+check_extending+check_extension+check_field+check_fields+check_group+check_groups+check_item+check_items.Lts-check_groups as check-groups-lts
+use Rattle.parsing.proofs.+check_extending+check_extension+check_field+check_fields+check_group+check_groups+check_item+check_items+close_group.Lts-check_groups as check-groups-lts
 use Rattle.parsing.proofs.check_item.Reads as check-item
 use Rattle.parsing.proofs.check_item.Kinds as check-item-kinds
-use Rattle.parsing.proofs.+check_body+check_extending+check_extension+check_field+check_fields+check_group+check_groups+check_item+check_items.Lts-check_item as check-item-lts
+use Rattle.parsing.proofs.+check_extending+check_extension+check_field+check_fields+check_group+check_groups+check_item+check_items+close_group.Lts-check_item as check-item-lts
 use Rattle.parsing.proofs.check_items.Reads as check-items
 use Rattle.parsing.proofs.check_items.Kinds as check-items-kinds
-use Rattle.parsing.proofs.+check_body+check_extending+check_extension+check_field+check_fields+check_group+check_groups+check_item+check_items.Lts-check_items as check-items-lts
+use Rattle.parsing.proofs.+check_extending+check_extension+check_field+check_fields+check_group+check_groups+check_item+check_items+close_group.Lts-check_items as check-items-lts
+use Rattle.parsing.proofs.close_group.Reads as close-group
+use Rattle.parsing.proofs.close_group.Kinds as close-group-kinds
+use Rattle.parsing.proofs.+check_extending+check_extension+check_field+check_fields+check_group+check_groups+check_item+check_items+close_group.Lts-close_group as close-group-lts
 use Rattle.parsing.proofs.check_end.Reads as check-end-reads
 use Rattle.parsing.proofs.check_inline.Reads as check-inline-reads
 use Rattle.parsing.proofs.check_kept.Reads as check-kept-reads
@@ -69,32 +69,25 @@ use Rattle.parsing.proofs.check_text.Reads as check-text-reads
 use Rattle.parsing.proofs.check_texts.Reads as check-texts-reads
 use Rattle.parsing.proofs.is_absent.Reads as is-absent-reads
 use Rattle.parsing.proofs.longer.Reads as longer-reads
+use Rattle.parsing.proofs.open_group.Reads as open-group-reads
 use Rattle.parsing.proofs.passed.Reads as passed-reads
 use Rattle.parsing.proofs.record_fault.Reads as record-fault-reads
 use Rattle.parsing.proofs.refused.Reads as refused-reads
 use Rattle.parsing.proofs.stands.Reads as stands-reads
-use Rattle.schema.proofs.allows.Reads as allows-reads
 use Rattle.schema.proofs.field_count.Reads as field-count-reads
-use Rattle.schema.proofs.find.Reads as find-reads
 use Rattle.schema.proofs.group_place.Reads as group-place-reads
-use Rattle.schema.proofs.group_total.Reads as group-total-reads
-use Rattle.schema.proofs.group_width.Reads as group-width-reads
 use Rattle.schema.proofs.is_sequence.Reads as is-sequence-reads
 use Rattle.schema.proofs.kind_at.Reads as kind-at-reads
 use Rattle.schema.proofs.kind_width.Reads as kind-width-reads
 use Rattle.schema.proofs.plain_width.Reads as plain-width-reads
 use Rattle.wire.proofs.read_u32.Reads as read-u32-reads
-use Rattle.wire.proofs.read_u64.Reads as read-u64-reads
 use Rattle.wire.proofs.wide.Reads as wide-reads
-use Rattle.parsing.proofs.+check_body+check_extending+check_extension+check_field+check_fields+check_group+check_groups+check_item+check_items.{
+use Rattle.parsing.proofs.+check_extending+check_extension+check_field+check_fields+check_group+check_groups+check_item+check_items+close_group.{
   statement,
 }
-use Rattle.parsing.proofs.+check_body+check_extending+check_extension+check_field+check_fields+check_group+check_groups+check_item+check_items.Tie.{
+use Rattle.parsing.proofs.+check_extending+check_extension+check_field+check_fields+check_group+check_groups+check_item+check_items+close_group.Tie.{
   close,
 }
-
-abbrev μ-check-body : Measures 3 check-body-kinds.ps ℕ
-μ-check-body κs a = 64 * a .1 .1 .1 .0 + 63
 
 abbrev μ-check-extending : Measures 3 check-extending-kinds.ps ℕ
 μ-check-extending κs a = 64 * a .1 .1 .1 .0 + 6
@@ -109,7 +102,7 @@ abbrev μ-check-fields : Measures 3 check-fields-kinds.ps ℕ
 μ-check-fields κs a = 64 * a .1 .1 .1 .0 + 10 * a .1 .1 .1 .1 .0
 
 abbrev μ-check-group : Measures 3 check-group-kinds.ps ℕ
-μ-check-group κs a = 64 * a .1 .1 .1 .0 + 1
+μ-check-group κs a = 64 * a .1 .1 .1 .0 + weight (a .1 .1 .1 .1 .0) (a .1 .1 .1 .1 .1 .0)
 
 abbrev μ-check-groups : Measures 3 check-groups-kinds.ps ℕ
 μ-check-groups κs a = 64 * a .1 .1 .1 .0 + 7
@@ -120,13 +113,8 @@ abbrev μ-check-item : Measures 3 check-item-kinds.ps ℕ
 abbrev μ-check-items : Measures 3 check-items-kinds.ps ℕ
 μ-check-items κs a = 64 * a .1 .1 .1 .0 + 10 * a .1 .1 .1 .1 .0 + 7
 
-abbrev check-body-at : ℕ → In 3 check-body-kinds.ps
-check-body-at t =
-    and 3 check-body-kinds.ps (is 3 check-body-kinds.ps μ-check-body t) check-body.Pre
-
-abbrev check-body-below : ℕ → In 3 check-body-kinds.ps
-check-body-below t =
-    and 3 check-body-kinds.ps (falls 3 check-body-kinds.ps _<_ μ-check-body t) check-body.Pre
+abbrev μ-close-group : Measures 3 close-group-kinds.ps ℕ
+μ-close-group κs a = 64 * a .1 .1 .1 .0 + 9
 
 abbrev check-extending-at : ℕ → In 3 check-extending-kinds.ps
 check-extending-at t =
@@ -216,26 +204,13 @@ abbrev check-items-below : ℕ → In 3 check-items-kinds.ps
 check-items-below t =
     and 3 check-items-kinds.ps (falls 3 check-items-kinds.ps _<_ μ-check-items t) check-items.Pre
 
-abbrev check-body-claims : ℕ → check-body-lts.Claims
-check-body-claims t = (group-width-reads.Asked, group-width-reads.Learnt, longer-reads.Asked, longer-reads.Learnt, check-fields-below t, check-fields.Post, check-extension-below t, check-extension.Post, check-end-reads.Asked, check-end-reads.Learnt)
+abbrev close-group-at : ℕ → In 3 close-group-kinds.ps
+close-group-at t =
+    and 3 close-group-kinds.ps (is 3 close-group-kinds.ps μ-close-group t) close-group.Pre
 
-check-body-check-fields-requires : (t : ℕ) → check-body-lts.Need-check-fields-requires (check-body-claims t) (check-body-at t) check-body.Post
-check-body-check-fields-requires t c κs = (search needs, (c .before .before .before .before .before .pre .1 .0, record { small = c .before .before .before .before .before .pre .1 .1 .small; inside = c .before .before .before .before .before .pre .1 .1 .inside; low = c .longer .ensures .1 }, c .before .before .before .before .before .pre .1 .2, c .before .before .before .before .before .pre .1 .0 .shallows (c .before .before .before .before .before .args .group)))
-
-check-body-returns : (t : ℕ) → check-body-lts.Need-returns (check-body-claims t) (check-body-at t) check-body.Post
-check-body-returns t c = let a = c .before .before .before .before .before .before .before .before .args in let t = a .table .now in λ id l8. body-stopped (a .sheet .now) (a .pos) (a .before) (schema t) (innerOf t (a .levels)) (a .group) id l8 _ (c .before .before .before .before .group-width .ensures .0 ∙ layout-width t (a .index .now) (c .before .before .before .before .before .before .before .before .pre .1 .0) (a .group)) _ (c .before .before .before .longer .ensures .0) _ (c .before .before .check-fields .ensures) (c .if1 .taken)
-
-check-body-check-extension-requires : (t : ℕ) → check-body-lts.Need-check-extension-requires (check-body-claims t) (check-body-at t) check-body.Post
-check-body-check-extension-requires t c κs = (search needs, (c .before .before .before .before .before .before .before .before .pre .1 .0, ready (c .before .before .before .before .before .before .before .before .args .sheet .now) _ _ _ (c .before .before .check-fields .ensures 0 0) (c .if1 .left) (c .before .before .before .before .before .before .before .before .pre .1 .1 .small)))
-
-check-body-returns-2 : (t : ℕ) → check-body-lts.Need-returns-2 (check-body-claims t) (check-body-at t) check-body.Post
-check-body-returns-2 t c = let a = c .before .before .before .before .before .before .before .before .before .before .before .args in let t = a .table .now in λ id l8. body-passed (a .sheet .now) (a .pos) (a .before) (schema t) (innerOf t (a .levels)) (a .group) id l8 _ (c .before .before .before .before .before .before .before .group-width .ensures .0 ∙ layout-width t (a .index .now) (c .before .before .before .before .before .before .before .before .before .before .before .pre .1 .0) (a .group)) _ (c .before .before .before .before .before .before .longer .ensures .0) _ (c .before .before .before .before .before .check-fields .ensures) (c .before .before .before .if1 .left) _ (then-stopped (a .sheet .now) 4 (extensionW (schema t) (innerOf t (a .levels))) endW (c .before .before .before .before .before .check-fields .result .place) (c .before .before .before .before .before .check-fields .result .length) _ (c .before .before .check-extension .ensures) (c .if2 .taken))
-
-check-body-check-end-requires : (t : ℕ) → check-body-lts.Need-check-end-requires (check-body-claims t) (check-body-at t) check-body.Post
-check-body-check-end-requires t c κs = ready (c .before .before .before .before .before .before .before .before .before .before .before .args .sheet .now) _ _ _ (c .before .before .check-extension .ensures 0 0) (c .if2 .left) (c .before .before .before .before .before .before .before .before .before .before .before .pre .1 .1 .small)
-
-check-body-returns-3 : (t : ℕ) → check-body-lts.Need-returns-3 (check-body-claims t) (check-body-at t) check-body.Post
-check-body-returns-3 t c = let a = c .before .before .before .before .before .before .before .before .before .before .before .before .args in let t = a .table .now in λ id l8. body-passed (a .sheet .now) (a .pos) (a .before) (schema t) (innerOf t (a .levels)) (a .group) id l8 _ (c .before .before .before .before .before .before .before .before .group-width .ensures .0 ∙ layout-width t (a .index .now) (c .before .before .before .before .before .before .before .before .before .before .before .before .pre .1 .0) (a .group)) _ (c .before .before .before .before .before .before .before .longer .ensures .0) _ (c .before .before .before .before .before .before .check-fields .ensures) (c .before .before .before .before .if1 .left) _ (then-passed (a .sheet .now) 4 (extensionW (schema t) (innerOf t (a .levels))) endW (c .before .before .before .before .before .before .check-fields .result .place) (c .before .before .before .before .before .before .check-fields .result .length) _ (c .before .before .before .check-extension .ensures) (c .before .if2 .left) _ (c .check-end .ensures))
+abbrev close-group-below : ℕ → In 3 close-group-kinds.ps
+close-group-below t =
+    and 3 close-group-kinds.ps (falls 3 close-group-kinds.ps _<_ μ-close-group t) close-group.Pre
 
 abbrev check-extending-claims : ℕ → check-extending-lts.Claims
 check-extending-claims t = (stands-reads.Asked, stands-reads.Learnt, check-kept-reads.Asked, check-kept-reads.Learnt, check-group-below t, check-group.Post)
@@ -247,6 +222,7 @@ check-extending-returns : (t : ℕ) → check-extending-lts.Need-returns (check-
 check-extending-returns t c = c .check-kept .ensures (innerOf (c .before .before .before .before .before .before .args .table .now) (c .before .before .before .before .before .before .args .levels))
 
 check-extending-returns-2 : (t : ℕ) → check-extending-lts.Need-returns-2 (check-extending-claims t) (check-extending-at t) check-extending.Post
+unfolding groupOf
 check-extending-returns-2 t c = let a = c .before .before .before .before .before .before .args in let t = a .table .now in extending-group (a .sheet .now) (a .pos) (a .before) (schema t) (innerOf t (a .levels)) (ap (same (part 2 (a .pos) (a .sheet .now))) (sym is-XU) ∙ sym (c .before .before .stands .ensures) ∙ c .before .if1 .left) _ (c .check-group .ensures)
 
 abbrev check-extension-claims : ℕ → check-extension-lts.Claims
@@ -374,43 +350,24 @@ check-fields-returns-3 t c = let l = c .before .before .loop in let a = c .befor
     rw (c .passed .ensures) (l .inv .3 _ (fields-end (innerOf t (a .levels)) (widthOf t (a .depth - 1)) (staticOf t (a .levels) (a .depth - 1)) (enums t) t (a .sheet .now) (c .before .before .before .field-count .result) (l .i) (l .field) (l .next) (l .length) (c .before .loop-test .left) (l .inv .0)))
 
 abbrev check-group-claims : ℕ → check-group-lts.Claims
-check-group-claims t = (record-fault-reads.Asked, record-fault-reads.Learnt, refused-reads.Asked, refused-reads.Learnt, group-total-reads.Asked, group-total-reads.Learnt, read-u64-reads.Asked, read-u64-reads.Learnt, find-reads.Asked, find-reads.Learnt, allows-reads.Asked, allows-reads.Learnt, check-body-below t, check-body.Post)
+check-group-claims t = (open-group-reads.Asked, open-group-reads.Learnt, refused-reads.Asked, refused-reads.Learnt, check-fields-below t, check-fields.Post, close-group-below t, close-group.Post)
 
 check-group-returns : (t : ℕ) → check-group-lts.Need-returns (check-group-claims t) (check-group-at t) check-group.Post
-check-group-returns t c = let a = c .before .before .before .before .before .before .args in rw (c .refused .ensures) (group-bad (a .sheet .now) (a .pos) (a .before) (c .before .before .before .before .before .before .pre .1 .1) (schema (a .table .now)) (a .allowed) (a .levels) _ (as-record is-GB _ _ (c .before .before .record-fault .ensures)) (c .before .if1 .taken))
+check-group-returns t c = let a = c .before .before .before .before .before .before .before .args in rw (c .refused .ensures) (c .before .before .before .open-group .ensures (a .depth) (c .before .before .before .before .before .before .before .pre .1 .2) .fails (c .before .if1 .taken))
 
-check-group-read-u64-requires : (t : ℕ) → check-group-lts.Need-read-u64-requires (check-group-claims t) (check-group-at t) check-group.Post
-check-group-read-u64-requires t c κs = let l = record-inside (c .before .before .before .before .before .before .args .sheet .now) (c .before .before .before .before .before .before .args .pos) (c .before .before .before .before .before .before .pre .1 .1 .inside) _ 8 _ (c .before .before .record-fault .ensures) (c .before .if1 .left) in omega (arith, l)
-
-check-group-find-requires : (t : ℕ) → check-group-lts.Need-find-requires (check-group-claims t) (check-group-at t) check-group.Post
-check-group-find-requires t c κs = let P = c .before .before .before .before .before .before .before .pre .1 .0 in (rw (sym (c .before .group-total .ensures .0 ∙ P .total)) at (P .placed), P .long, omega (arith, c .before .group-total .ensures .0, P .total, P .few), P .small)
+check-group-check-fields-requires : (t : ℕ) → check-group-lts.Need-check-fields-requires (check-group-claims t) (check-group-at t) check-group.Post
+check-group-check-fields-requires t c κs = let a = c .before .before .before .before .before .before .args in let o = c .before .before .open-group .ensures (a .depth) (c .before .before .before .before .before .before .pre .1 .2) .opens (c .if1 .left) in
+    (omega (arith, less-left (a .table .now) (a .levels) (a .depth) _ (a .scope) (c .before .before .before .before .before .before .pre .1 .2) (o .lower)), (c .before .before .before .before .before .before .pre .1 .0, o .ready, o .shallows .0, o .shallows .1))
 
 check-group-returns-2 : (t : ℕ) → check-group-lts.Need-returns-2 (check-group-claims t) (check-group-at t) check-group.Post
-check-group-returns-2 t c = let a = c .before .before .before .before .before .before .before .before .before .before .args in let gs = schema (a .table .now) in let n = c .before .before .before .before .group-total .ensures .0 ∙ c .before .before .before .before .before .before .before .before .before .before .pre .1 .0 .total in
-    let g = c .before .before .find .ensures .0 ∙ find-whole gs _ _ n ∙ ap (find gs) (c .before .before .before .read-u64 .ensures) in
-    rw (c .refused2 .ensures) (group-unknown (a .sheet .now) (a .pos) (a .before) (c .before .before .before .before .before .before .before .before .before .before .pre .1 .1) gs (a .allowed) (a .levels) _ (as-record is-GB _ _ (c .before .before .before .before .before .before .record-fault .ensures)) (c .before .before .before .before .before .if1 .left) _ g (omega (arith, n, c .before .if2 .taken)))
+check-group-returns-2 t c = let a = c .before .before .before .before .before .before .before .before .before .args in c .before .before .before .before .before .open-group .ensures (a .depth) (c .before .before .before .before .before .before .before .before .before .pre .1 .2) .opens (c .before .before .before .if1 .left) .stops _ (c .before .before .check-fields .ensures) (c .if2 .taken)
 
-check-group-allows-requires : (t : ℕ) → check-group-lts.Need-allows-requires (check-group-claims t) (check-group-at t) check-group.Post
-check-group-allows-requires t c κs = (c .before .before .before .before .before .before .before .before .before .pre .1 .0, omega (arith, c .before .before .before .group-total .ensures .0 ∙ c .before .before .before .before .before .before .before .before .before .pre .1 .0 .total, c .if2 .left))
+check-group-close-group-requires : (t : ℕ) → check-group-lts.Need-close-group-requires (check-group-claims t) (check-group-at t) check-group.Post
+check-group-close-group-requires t c κs = let a = c .before .before .before .before .before .before .before .before .before .args in let o = c .before .before .before .before .before .open-group .ensures (a .depth) (c .before .before .before .before .before .before .before .before .before .pre .1 .2) .opens (c .before .before .before .if1 .left) in
+    (omega (arith, less-left (a .table .now) (a .levels) (a .depth) _ (a .scope) (c .before .before .before .before .before .before .before .before .before .pre .1 .2) (o .lower), shallow-some (schema (a .table .now)) _ _ (o .shallows .1)), (c .before .before .before .before .before .before .before .before .before .pre .1 .0, ready (a .sheet .now) _ _ _ (c .before .before .check-fields .ensures 0 0) (c .if2 .left) (c .before .before .before .before .before .before .before .before .before .pre .1 .1 .small)))
 
 check-group-returns-3 : (t : ℕ) → check-group-lts.Need-returns-3 (check-group-claims t) (check-group-at t) check-group.Post
-check-group-returns-3 t c = let a = c .before .before .before .before .before .before .before .before .before .before .before .before .before .args in let gs = schema (a .table .now) in let n = c .before .before .before .before .before .before .before .group-total .ensures .0 ∙ c .before .before .before .before .before .before .before .before .before .before .before .before .before .pre .1 .0 .total in
-    let g = c .before .before .before .before .before .find .ensures .0 ∙ find-whole gs _ _ n ∙ ap (find gs) (c .before .before .before .before .before .before .read-u64 .ensures) in
-    rw (c .refused3 .ensures) (group-deep (a .sheet .now) (a .pos) (a .before) (c .before .before .before .before .before .before .before .before .before .before .before .before .before .pre .1 .1) gs (a .allowed) (a .levels) _ (as-record is-GB _ _ (c .before .before .before .before .before .before .before .before .before .record-fault .ensures)) (c .before .before .before .before .before .before .before .before .if1 .left) _ g (omega (arith, n, c .before .before .before .before .if2 .left)) (sym (c .before .before .before .allows .ensures) ∙ c .before .before .if3 .taken) (c .before .if4 .taken))
-
-check-group-check-body-requires : (t : ℕ) → check-group-lts.Need-check-body-requires (check-group-claims t) (check-group-at t) check-group.Post
-check-group-check-body-requires t c κs = let l = record-inside (c .before .before .before .before .before .before .before .before .before .before .before .before .args .sheet .now) (c .before .before .before .before .before .before .before .before .before .before .before .before .args .pos) (c .before .before .before .before .before .before .before .before .before .before .before .before .pre .1 .1 .inside) _ 8 _ (c .before .before .before .before .before .before .before .before .record-fault .ensures) (c .before .before .before .before .before .before .before .if1 .left) in (search needs, (c .before .before .before .before .before .before .before .before .before .before .before .before .pre .1 .0, ready-at (c .before .before .before .before .before .before .before .before .before .before .before .before .pre .1 .1) _ l, omega (arith, c .before .before .before .before .before .before .group-total .ensures .0 ∙ c .before .before .before .before .before .before .before .before .before .before .before .before .pre .1 .0 .total, c .before .before .before .if2 .left)))
-
-check-group-returns-4 : (t : ℕ) → check-group-lts.Need-returns-4 (check-group-claims t) (check-group-at t) check-group.Post
-check-group-returns-4 t c = let a = c .before .before .before .before .before .before .before .before .before .before .before .before .before .args in let gs = schema (a .table .now) in let n = c .before .before .before .before .before .before .before .group-total .ensures .0 ∙ c .before .before .before .before .before .before .before .before .before .before .before .before .before .pre .1 .0 .total in
-    let g = c .before .before .before .before .before .find .ensures .0 ∙ find-whole gs _ _ n ∙ ap (find gs) (c .before .before .before .before .before .before .read-u64 .ensures) in
-    let l = record-inside (a .sheet .now) (a .pos) (c .before .before .before .before .before .before .before .before .before .before .before .before .before .pre .1 .1 .inside) _ 8 _ (c .before .before .before .before .before .before .before .before .before .record-fault .ensures) (c .before .before .before .before .before .before .before .before .if1 .left) in
-    group-body (a .sheet .now) (a .pos) (a .before) (c .before .before .before .before .before .before .before .before .before .before .before .before .before .pre .1 .1) gs (a .allowed) (a .levels) _ (as-record is-GB _ _ (c .before .before .before .before .before .before .before .before .before .record-fault .ensures)) (c .before .before .before .before .before .before .before .before .if1 .left) _ g (omega (arith, n, c .before .before .before .before .if2 .left)) (sym (c .before .before .before .allows .ensures) ∙ c .before .before .if3 .taken) (c .before .if4 .left) _ (c .check-body .ensures (part 8 (a .pos + 2) (a .sheet .now)) (length-part 8 (a .pos + 2) (a .sheet .now) (omega (arith, l))))
-
-check-group-returns-5 : (t : ℕ) → check-group-lts.Need-returns-5 (check-group-claims t) (check-group-at t) check-group.Post
-check-group-returns-5 t c = let a = c .before .before .before .before .before .before .before .before .before .before .before .before .args in let gs = schema (a .table .now) in let n = c .before .before .before .before .before .before .group-total .ensures .0 ∙ c .before .before .before .before .before .before .before .before .before .before .before .before .pre .1 .0 .total in
-    let g = c .before .before .before .before .find .ensures .0 ∙ find-whole gs _ _ n ∙ ap (find gs) (c .before .before .before .before .before .read-u64 .ensures) in
-    rw (c .refused4 .ensures) (group-other (a .sheet .now) (a .pos) (a .before) (c .before .before .before .before .before .before .before .before .before .before .before .before .pre .1 .1) gs (a .allowed) (a .levels) _ (as-record is-GB _ _ (c .before .before .before .before .before .before .before .before .record-fault .ensures)) (c .before .before .before .before .before .before .before .if1 .left) _ g (omega (arith, n, c .before .before .before .if2 .left)) (sym (c .before .before .allows .ensures) ∙ c .before .if3 .left))
+check-group-returns-3 t c = let a = c .before .before .before .before .before .before .before .before .before .before .args in c .before .before .before .before .before .before .open-group .ensures (a .depth) (c .before .before .before .before .before .before .before .before .before .before .pre .1 .2) .opens (c .before .before .before .before .if1 .left) .goes _ (c .before .before .before .check-fields .ensures) (c .before .if2 .left) _ (c .close-group .ensures)
 
 abbrev check-groups-Inv-loop : check-groups-lts.InvT-loop
 check-groups-Inv-loop table index sheet levels total pos before i₀ next₀ length₀ i next d =
@@ -436,16 +393,17 @@ check-groups-returns-2 : (t : ℕ) → check-groups-lts.Need-returns-2 (check-gr
 check-groups-returns-2 t c = let l = c .before .before .loop in let a = c .before .before .before .before .before .before .args in rw (c .passed .ensures) (l .inv .1 _ (items-end (a .sheet .now) 4 (extendingOf (a .table .now) (a .levels)) (a .total) (l .i) (l .next) (l .length) (c .before .loop-test .left) (l .inv .0)))
 
 abbrev check-item-claims : ℕ → check-item-lts.Claims
-check-item-claims t = (wide-reads.Asked, wide-reads.Learnt, check-plain-reads.Asked, check-plain-reads.Learnt, check-number-reads.Asked, check-number-reads.Learnt, check-inline-reads.Asked, check-inline-reads.Learnt, check-text-reads.Asked, check-text-reads.Learnt, record-fault-reads.Asked, record-fault-reads.Learnt, refused-reads.Asked, refused-reads.Learnt, check-fields-below t, check-fields.Post, check-group-below t, check-group.Post)
+check-item-claims t = (wide-reads.Asked, wide-reads.Learnt, check-plain-reads.Asked, check-plain-reads.Learnt, check-number-reads.Asked, check-number-reads.Learnt, check-inline-reads.Asked, check-inline-reads.Learnt, check-text-reads.Asked, check-text-reads.Learnt, record-fault-reads.Asked, record-fault-reads.Learnt, refused-reads.Asked, refused-reads.Learnt, check-group-below t, check-group.Post)
 
 check-item-returns : (t : ℕ) → check-item-lts.Need-returns (check-item-claims t) (check-item-at t) check-item.Post
 check-item-returns t c = let a = c .before .before .before .before .before .before .before .before .before .args in let t = a .table .now in rw (c .refused .ensures) (static-bad (a .sheet .now) (a .pos) (a .before) (c .before .before .before .before .before .before .before .before .before .pre .1 .1) (innerOf t (a .levels)) (staticOf t (a .levels) (a .depth)) (enums t) (a .kind) _ (c .before .before .before .before .kind5 .given .1) _ (as-record is-SG _ _ (c .before .before .record-fault .ensures)) (c .before .if1 .taken))
 
-check-item-check-fields-requires : (t : ℕ) → check-item-lts.Need-check-fields-requires (check-item-claims t) (check-item-at t) check-item.Post
-check-item-check-fields-requires t c κs = let a = c .before .before .before .before .before .before .before .before .args in let t = a .table .now in let sw = widthOf t (a .depth) in
+check-item-check-group-requires : (t : ℕ) → check-item-lts.Need-check-group-requires (check-item-claims t) (check-item-at t) check-item.Post
+unfolding Within
+check-item-check-group-requires t c κs = let a = c .before .before .before .before .before .before .before .before .args in let t = a .table .now in let sw = widthOf t (a .depth) in
     let l = record-inside (a .sheet .now) (a .pos) (c .before .before .before .before .before .before .before .before .pre .1 .1 .inside) _ 0 _ (c .before .record-fault .ensures) (c .if1 .left) in
     let q = and-both (leb 1 (sw _)) (shallow (schema t) (a .depth) _) (sym (kind-static sw (enums t) (a .kind) (shallow (schema t) (a .depth)) _ (c .before .before .before .kind5 .given .1)) ∙ c .before .before .before .before .before .before .before .before .pre .1 .2) in
-    (search needs, (c .before .before .before .before .before .before .before .before .pre .1 .0, ready-at (c .before .before .before .before .before .before .before .before .pre .1 .1) _ l, static-inside (schema t) (a .depth) _ (q .0), q .1))
+    (search needs, (c .before .before .before .before .before .before .before .before .pre .1 .0, ready-at (c .before .before .before .before .before .before .before .before .pre .1 .1) _ l, (static-inside (schema t) (a .depth) _ (q .0), q .1)))
 
 check-item-returns-2 : (t : ℕ) → check-item-lts.Need-returns-2 (check-item-claims t) (check-item-at t) check-item.Post
 check-item-returns-2 t c = let a = c .before .before .before .before .before .before .before .before .args in let t = a .table .now in item-plain (a .sheet .now) (a .pos) (a .before) (innerOf t (a .levels)) (staticOf t (a .levels) (a .depth)) (enums t) (a .kind) _ _ (c .before .before .before .kind .given .1 ∙ ap Plain (sym (c .before .wide .ensures .0))) (c .check-plain .ensures)
@@ -460,10 +418,12 @@ check-item-returns-5 : (t : ℕ) → check-item-lts.Need-returns-5 (check-item-c
 check-item-returns-5 t c = let a = c .before .before .before .before .before .before .before .args in let t = a .table .now in item-indirect (a .sheet .now) (a .pos) (a .before) (innerOf t (a .levels)) (staticOf t (a .levels) (a .depth)) (enums t) (a .kind) _ _ (c .before .before .kind4 .given .1) (c .check-text .ensures)
 
 check-item-returns-6 : (t : ℕ) → check-item-lts.Need-returns-6 (check-item-claims t) (check-item-at t) check-item.Post
-check-item-returns-6 t c = let a = c .before .before .before .before .before .before .before .before .before .args in let t = a .table .now in static-good (a .sheet .now) (a .pos) (a .before) (c .before .before .before .before .before .before .before .before .before .pre .1 .1) (innerOf t (a .levels)) (staticOf t (a .levels) (a .depth)) (enums t) (a .kind) _ (c .before .before .before .before .kind5 .given .1) _ (as-record is-SG _ _ (c .before .before .record-fault .ensures)) (c .before .if1 .left) _ (c .check-fields .ensures)
+unfolding groupOf
+check-item-returns-6 t c = let a = c .before .before .before .before .before .before .before .before .before .args in let t = a .table .now in static-good (a .sheet .now) (a .pos) (a .before) (c .before .before .before .before .before .before .before .before .before .pre .1 .1) (innerOf t (a .levels)) (staticOf t (a .levels) (a .depth)) (enums t) (a .kind) _ (c .before .before .before .before .kind5 .given .1) _ (as-record is-SG _ _ (c .before .before .record-fault .ensures)) (c .before .if1 .left) _ (c .check-group .ensures)
 
 check-item-returns-7 : (t : ℕ) → check-item-lts.Need-returns-7 (check-item-claims t) (check-item-at t) check-item.Post
-check-item-returns-7 t c = let a = c .before .before .before .before .before .before .before .args in let t = a .table .now in item-dynamic (a .sheet .now) (a .pos) (a .before) (innerOf t (a .levels)) (staticOf t (a .levels) (a .depth)) (enums t) (a .kind) _ _ (c .before .before .kind6 .given .1) (c .check-group .ensures)
+unfolding groupOf
+check-item-returns-7 t c = let a = c .before .before .before .before .before .before .before .args in let t = a .table .now in item-dynamic (a .sheet .now) (a .pos) (a .before) (innerOf t (a .levels)) (staticOf t (a .levels) (a .depth)) (enums t) (a .kind) _ _ (c .before .before .kind6 .given .1) (c .check-group2 .ensures)
 
 abbrev check-items-Inv-loop : check-items-lts.InvT-loop
 check-items-Inv-loop table index sheet levels depth kind width total pos before i₀ next₀ length₀ i next d =
@@ -494,11 +454,29 @@ check-items-loop-again t c = let l = c .before .before .before .before .loop in 
 check-items-returns-4 : (t : ℕ) → check-items-lts.Need-returns-4 (check-items-claims t) (check-items-at t) check-items.Post check-items-Inv-loop check-items-μ-loop
 check-items-returns-4 t c = let l = c .before .before .loop in let a = c .before .before .before .before .before .before .before .before .args in rw (c .passed .ensures) (l .inv .1 _ (items-end (a .sheet .now) (a .width) (itemOf (a .table .now) (a .levels) (a .depth) (a .kind)) (a .total) (l .i) (l .next) (l .length) (c .before .loop-test .left) (l .inv .0)))
 
-pub +check-body+check-extending+check-extension+check-field+check-fields+check-group+check-groups+check-item+check-items-spec :
+abbrev close-group-claims : ℕ → close-group-lts.Claims
+close-group-claims t = (check-extension-below t, check-extension.Post, check-end-reads.Asked, check-end-reads.Learnt, passed-reads.Asked, passed-reads.Learnt)
+
+close-group-returns : (t : ℕ) → close-group-lts.Need-returns (close-group-claims t) (close-group-at t) close-group.Post
+unfolding closeOf
+close-group-returns t c = let a = c .before .before .before .before .before .before .before .before .before .args in rw (c .before .before .before .before .scope .given .1) (then-stopped (a .sheet .now) 4 (extensionOf (a .table .now) (a .levels)) endW (a .pos) (a .before) _ (c .before .before .check-extension .ensures) (c .if1 .taken))
+
+close-group-check-end-requires : (t : ℕ) → close-group-lts.Need-check-end-requires (close-group-claims t) (close-group-at t) close-group.Post
+close-group-check-end-requires t c κs = ready (c .before .before .before .before .before .before .before .before .before .args .sheet .now) _ _ _ (c .before .before .check-extension .ensures 0 0) (c .if1 .left) (c .before .before .before .before .before .before .before .before .before .pre .1 .1 .small)
+
+close-group-returns-2 : (t : ℕ) → close-group-lts.Need-returns-2 (close-group-claims t) (close-group-at t) close-group.Post
+unfolding closeOf
+close-group-returns-2 t c = let a = c .before .before .before .before .before .before .before .before .before .before .args in rw (c .before .before .before .before .before .scope .given .1) (then-passed (a .sheet .now) 4 (extensionOf (a .table .now) (a .levels)) endW (a .pos) (a .before) _ (c .before .before .before .check-extension .ensures) (c .before .if1 .left) _ (c .check-end .ensures))
+
+close-group-returns-3 : (t : ℕ) → close-group-lts.Need-returns-3 (close-group-claims t) (close-group-at t) close-group.Post
+unfolding closeOf
+close-group-returns-3 t c = let a = c .before .before .before .before .before .before .before .args in rw (c .passed .ensures, c .before .before .scope2 .given .1) (none-left (a .sheet .now) (a .pos) (a .before) (c .before .before .before .before .before .before .before .pre .1 .1))
+
+pub +check-extending+check-extension+check-field+check-fields+check-group+check-groups+check-item+check-items+close-group-spec :
     {M : Type 1} → statement M
-+check-body+check-extending+check-extension+check-field+check-fields+check-group+check-groups+check-item+check-items-spec =
+unfolding Within
++check-extending+check-extension+check-field+check-fields+check-group+check-groups+check-item+check-items+close-group-spec =
     close
-    μ-check-body
     μ-check-extending
     μ-check-extension
     μ-check-field
@@ -506,20 +484,22 @@ pub +check-body+check-extending+check-extension+check-field+check-fields+check-g
     μ-check-group
     μ-check-groups
     μ-check-item
-    μ-check-items (λ t. check-body-lts.spec (check-body-claims t) (check-body-at t)
-    check-body.Post (λ c κs. search needs) (λ c. search needs) (λ c κs. search needs) (check-body-check-fields-requires t) (check-body-returns t) (check-body-check-extension-requires t) (check-body-returns-2 t) (check-body-check-end-requires t) (check-body-returns-3 t)) (λ t. check-extending-lts.spec (check-extending-claims t) (check-extending-at t)
+    μ-check-items
+    μ-close-group (λ t. check-extending-lts.spec (check-extending-claims t) (check-extending-at t)
     check-extending.Post (λ c κs. search needs) (check-extending-check-kept-requires t) (check-extending-returns t) (λ c κs. search needs) (check-extending-returns-2 t)) (λ t. check-extension-lts.spec (check-extension-claims t) (check-extension-at t)
     check-extension.Post (λ c κs. search needs) (λ c κs. search needs) (λ c κs. search needs) (check-extension-returns t) (λ c. search needs) (check-extension-read-u32-requires t) (λ c κs. search needs) (check-extension-returns-2 t) (λ c. search needs) (λ c. search needs) (λ c κs. search needs) (λ c. search needs) (check-extension-check-groups-requires t) (check-extension-returns-3 t) (λ c κs. search needs) (check-extension-returns-4 t)) (λ t. check-field-lts.spec (check-field-claims t) (check-field-at t)
     check-field.Post (λ c κs. search needs) (λ c. search needs) (λ c κs. search needs) (check-field-returns t) (λ c κs. search needs) (λ c κs. search needs) (λ c κs. search needs) (λ c κs. search needs) (λ c κs. search needs) (check-field-returns-2 t) (λ c. search needs) (check-field-read-u32-requires t) (λ c. search needs) (check-field-mul-longer t) (check-field-add-longer t) (check-field-longer-requires t) (check-field-check-items-requires t) (check-field-returns-3 t)) (λ t. check-fields-lts.spec (check-fields-claims t) (check-fields-at t)
     check-fields.Post
     check-fields-Inv-loop
     check-fields-μ-loop (λ c κs. search needs) (check-fields-field-count-requires t) (check-fields-sub-deeper t) (λ c. search needs) (check-fields-loop-holds t) (λ c κs. search needs) (λ c κs. search needs) (λ c κs. search needs) (check-fields-returns t) (λ c. search needs) (λ c. search needs) (λ c. search needs) (λ c. search needs) (λ c. search needs) (check-fields-loop-again t) (check-fields-check-field-requires t) (check-fields-returns-2 t) (λ c. search needs) (λ c. search needs) (λ c. search needs) (check-fields-loop-again-2 t) (λ c κs. search needs) (check-fields-returns-3 t)) (λ t. check-group-lts.spec (check-group-claims t) (check-group-at t)
-    check-group.Post (λ c κs. search needs) (λ c κs. search needs) (check-group-returns t) (λ c κs. search needs) (λ c. search needs) (check-group-read-u64-requires t) (check-group-find-requires t) (λ c κs. search needs) (check-group-returns-2 t) (check-group-allows-requires t) (λ c κs. search needs) (check-group-returns-3 t) (λ c. search needs) (λ c. search needs) (check-group-check-body-requires t) (check-group-returns-4 t) (λ c κs. search needs) (check-group-returns-5 t)) (λ t. check-groups-lts.spec (check-groups-claims t) (check-groups-at t)
+    check-group.Post (λ c κs. search needs) (λ c κs. search needs) (check-group-returns t) (check-group-check-fields-requires t) (check-group-returns-2 t) (check-group-close-group-requires t) (check-group-returns-3 t)) (λ t. check-groups-lts.spec (check-groups-claims t) (check-groups-at t)
     check-groups.Post
     check-groups-Inv-loop
     check-groups-μ-loop (check-groups-loop-holds t) (λ c κs. search needs) (check-groups-returns t) (λ c. search needs) (λ c. search needs) (check-groups-loop-again t) (λ c κs. search needs) (check-groups-returns-2 t)) (λ t. check-item-lts.spec (check-item-claims t) (check-item-at t)
-    check-item.Post (λ c. search needs) (λ c κs. search needs) (λ c κs. search needs) (λ c. search needs) (λ c κs. search needs) (λ c. search needs) (λ c κs. search needs) (λ c. search needs) (λ c κs. search needs) (λ c. search needs) (λ c κs. search needs) (λ c κs. search needs) (check-item-returns t) (λ c. search needs) (check-item-check-fields-requires t) (λ c. search needs) (λ c κs. search needs) (check-item-returns-2 t) (check-item-returns-3 t) (check-item-returns-4 t) (check-item-returns-5 t) (check-item-returns-6 t) (check-item-returns-7 t))
-    λ t. check-items-lts.spec (check-items-claims t) (check-items-at t)
+    check-item.Post (λ c. search needs) (λ c κs. search needs) (λ c κs. search needs) (λ c. search needs) (λ c κs. search needs) (λ c. search needs) (λ c κs. search needs) (λ c. search needs) (λ c κs. search needs) (λ c. search needs) (λ c κs. search needs) (λ c κs. search needs) (check-item-returns t) (λ c. search needs) (check-item-check-group-requires t) (λ c. search needs) (λ c κs. search needs) (check-item-returns-2 t) (check-item-returns-3 t) (check-item-returns-4 t) (check-item-returns-5 t) (check-item-returns-6 t) (check-item-returns-7 t))
+    (λ t. check-items-lts.spec (check-items-claims t) (check-items-at t)
     check-items.Post
     check-items-Inv-loop
-    check-items-μ-loop (λ c. search needs) (λ c κs. search needs) (λ c κs. search needs) (check-items-returns t) (λ c. search needs) (λ c κs. search needs) (check-items-returns-2 t) (check-items-loop-holds t) (λ c κs. search needs) (check-items-returns-3 t) (λ c. search needs) (λ c. search needs) (check-items-loop-again t) (λ c κs. search needs) (check-items-returns-4 t)
+    check-items-μ-loop (λ c. search needs) (λ c κs. search needs) (λ c κs. search needs) (check-items-returns t) (λ c. search needs) (λ c κs. search needs) (check-items-returns-2 t) (check-items-loop-holds t) (λ c κs. search needs) (check-items-returns-3 t) (λ c. search needs) (λ c. search needs) (check-items-loop-again t) (λ c κs. search needs) (check-items-returns-4 t))
+    λ t. close-group-lts.spec (close-group-claims t) (close-group-at t)
+    close-group.Post (λ c. search needs) (λ c κs. search needs) (close-group-returns t) (close-group-check-end-requires t) (λ c. search needs) (λ c κs. search needs) (close-group-returns-2 t) (close-group-returns-3 t)

@@ -11,7 +11,7 @@ use Rattle.schema.specs.Faults.{need}
 use Rattle.message.specs.Sheet.{Mark, markBytes}
 use Rattle.message.specs.Walk.{Reading, refused, done, prefixed, next}
 use Rattle.message.proofs.Count.{length-mark}
-use Rattle.sheet.specs.Show.{Passage, Reads, Fits, Shown}
+use Rattle.sheet.specs.Show.{Passage, just, then, Reads, Fits, Shown}
 
 -- WHAT IS READ BEHIND A TEST, AND IN TWO PARTS
 
@@ -40,13 +40,6 @@ next-done (done x i) f s m e = go (f i) refl
         record { first = x; marks = i; second = y; reads = refl; goes-on = o ∙ (let v : done y j ≡ done y m = cc in v); joined = cc }
 
 -- PASSAGES
-
--- fixed bytes; one passage and then another
-abbrev pub just : List ℕ → Passage
-just x base area m = done x m
-
-abbrev pub then : Passage → Passage → Passage
-then F G base area m = next (F base area m) (λ m′. G base area m′)
 
 -- whatever is read as F is read as G
 abbrev pub Opens : Passage → Passage → Type 0

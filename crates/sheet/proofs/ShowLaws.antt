@@ -142,9 +142,9 @@ just-room x pos out f = let e = just-is x _ (f .reads) in rw e at (f .room)
 pub fits-opens : (F G : Passage) (pos : ℕ) (out : List ℕ) → Opens F G → Fits F pos out → Fits G pos out
 fits-opens F G pos out o f = record { sheet = f .sheet; reads = o _ (f .reads); room = f .room }
 
--- two writes in a row; the second of k bytes
-pub written : (m n k pos : ℕ) (x y out mid left : List ℕ) → mid ≡ splice m pos x out → left ≡ splice n (pos + m) y mid → length x ≡ m → pos + m ≤ length out → n ≡ k → left ≡ splice (m + k) pos (x ++ y) out
-written m n k pos x y out mid left e f l h q = f ∙ rw (q, e) (splice-append m k pos x y out l h)
+-- two writes in a row
+pub written : (m n pos : ℕ) (x y out mid left : List ℕ) → mid ≡ splice m pos x out → left ≡ splice n (pos + m) y mid → length x ≡ m → pos + m ≤ length out → left ≡ splice (m + n) pos (x ++ y) out
+written m n pos x y out mid left e f l h = f ∙ rw e (splice-append m n pos x y out l h)
 
 -- MARKS, AND BYTES OF THE MESSAGE BEHIND THEM
 

@@ -186,12 +186,12 @@ inline-length n at b h =
     length-append (markBytes ST) (bytesOf 4 n ++ part n (at + 1) b) ∙ rw (length-append (bytesOf 4 n) (part n (at + 1) b), length-mark ST, length-bytes 4 n, length-part n (at + 1) b h) (omega arith)
 
 -- inline text, as it is written
-pub inline-written : (n pos : ℕ) (x out m₁ m₂ m₃ : List ℕ) → m₁ ≡ splice 2 pos (markBytes ST) out → m₂ ≡ splice 4 (pos + 2) (bytesOf 4 n) m₁ → m₃ ≡ splice (length x) (pos + 6) x m₂ → length x ≡ n → pos + (6 + n) ≤ length out
+pub inline-written : (n pos : ℕ) (x out m₁ m₂ m₃ : List ℕ) → m₁ ≡ splice 2 pos (markBytes ST) out → m₂ ≡ splice 4 (pos + 2) (bytesOf 4 n) m₁ → m₃ ≡ splice n (pos + 6) x m₂ → pos + (6 + n) ≤ length out
     → m₃ ≡ splice (6 + n) pos (markBytes ST ++ (bytesOf 4 n ++ x)) out
-inline-written n pos x out m₁ m₂ m₃ e f g l h =
-    let u : m₂ ≡ splice 6 pos (markBytes ST ++ bytesOf 4 n) out = written 2 4 4 pos (markBytes ST) (bytesOf 4 n) out m₁ m₂ e f (length-mark ST) (omega arith) refl in
+inline-written n pos x out m₁ m₂ m₃ e f g h =
+    let u : m₂ ≡ splice 6 pos (markBytes ST ++ bytesOf 4 n) out = written 2 4 pos (markBytes ST) (bytesOf 4 n) out m₁ m₂ e f (length-mark ST) (omega arith) in
     let k : length (markBytes ST ++ bytesOf 4 n) ≡ 6 = length-append (markBytes ST) (bytesOf 4 n) ∙ rw (length-mark ST, length-bytes 4 n) in
-    written 6 (length x) n pos (markBytes ST ++ bytesOf 4 n) x out m₂ m₃ u g k (omega arith) l ∙ rw (append-assoc (markBytes ST) (bytesOf 4 n) x)
+    written 6 n pos (markBytes ST ++ bytesOf 4 n) x out m₂ m₃ u g k (omega arith) ∙ rw (append-assoc (markBytes ST) (bytesOf 4 n) x)
 
 -- ITEMS AND FIELDS, ONE BY ONE
 
@@ -455,9 +455,17 @@ module _ (t : List ℕ) (l : ℕ) (b : List ℕ) (scope : Scope) where
   unfolding endOf
   end-fields g e = rw e (λ s r. r)
 
-pub head-whole : (scope : Scope) (a : ℕ) → scope ≡ Whole a → headOf scope ≡ 16
-unfolding headOf
-head-whole scope a e = rw e
+module _ (scope : Scope) (a : ℕ) (e : scope ≡ Whole a) where
+  pub head-whole : headOf scope ≡ 16
+  unfolding headOf
+  head-whole = rw e
+
+  pub id-whole : (b : List ℕ) → idOf scope b ≡ part 8 4 b
+  unfolding idOf
+  id-whole b = rw e
+
+  pub id-length : (b : List ℕ) → 16 ≤ length b → length (idOf scope b) ≡ 8
+  id-length b h = rw (id-whole b) (length-part 8 4 b (omega arith))
 
 -- what is asked to read the head of a group and the fields of its number g
 pub record Readable (t : List ℕ) (l d : ℕ) (b : List ℕ) (at : ℕ) (scope : Scope) (g : ℕ) : Type 0 where

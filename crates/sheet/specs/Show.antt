@@ -27,7 +27,7 @@ passage R b at base area m = R (here strict b base area) at m
 abbrev pub whole : List ℕ → ℕ → ℕ → List ℕ → Passage
 whole t levels allowed b base area m = groupR strict (schema t) levels allowed base b
 
--- fixed bytes; one passage and then another
+-- Fixed bytes; one passage and then another.
 abbrev pub just : List ℕ → Passage
 just x base area m = done x m
 

@@ -51,9 +51,8 @@ fn show_bytes(mark: [u8; 2], bytes: &[u8], at: usize, n: usize, out: &mut [u8], 
     requires { ⌜ (at + n ≤ length (now bytes)) × (pos + (2 + n) ≤ length (now out)) ⌝ }
     ensures { λ r. ⌜ (now (out .exit) ≡ splice (2 + n) pos (mark ++ part n at (now (bytes .entry))) (now (out .entry))) × (r ≡ pos + (2 + n)) ⌝ }
 {
-    let end = at + n;
     wire::write_mark(out, pos, mark);
-    wire::copy(out, pos + 2, &bytes[at..end]);
+    wire::copy_value(out, pos + 2, bytes, at, n);
     pos + (2 + n)
 }
 
@@ -63,11 +62,9 @@ fn show_inline(bytes: &[u8], at: usize, out: &mut [u8], pos: usize) -> usize
     ensures { λ r. ⌜ (now (out .exit) ≡ splice (6 + byte at (now (bytes .entry))) pos (markBytes ST ++ (bytesOf 4 (byte at (now (bytes .entry))) ++ part (byte at (now (bytes .entry))) (at + 1) (now (bytes .entry)))) (now (out .entry))) × (r ≡ pos + (6 + byte at (now (bytes .entry)))) ⌝ }
 {
     let count = wire::wide(bytes[at]);
-    let start = at + 1;
-    let end = start + count;
     wire::write_mark(out, pos, ST);
     wire::write_u32(out, pos + 2, count);
-    wire::copy(out, pos + 6, &bytes[start..end]);
+    wire::copy(out, pos + 6, bytes, at + 1, count);
     pos + (6 + count)
 }
 
@@ -120,7 +117,7 @@ fn open_group(
         schema::Scope::Whole { allowed } => {
             let total = schema::group_total(index);
             let group = schema::find(table, index, total, wire::read_u64(bytes, 4));
-            wire::copy(out, pos, &bytes[4..12]);
+            wire::copy_value(out, pos, bytes, 4, 8);
             Opened {
                 group,
                 levels: levels - 1,

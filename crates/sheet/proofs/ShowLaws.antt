@@ -11,7 +11,7 @@ use Rattle.schema.specs.Faults.{need}
 use Rattle.message.specs.Sheet.{Mark, markBytes}
 use Rattle.message.specs.Walk.{Reading, refused, done, prefixed, next}
 use Rattle.message.proofs.Count.{length-mark}
-use Rattle.sheet.specs.Show.{Passage, Reads, Fits, Shown}
+use Rattle.sheet.specs.Show.{Passage, just, then, Reads, Fits, Shown}
 
 -- WHAT IS READ BEHIND A TEST, AND IN TWO PARTS
 
@@ -40,13 +40,6 @@ next-done (done x i) f s m e = go (f i) refl
         record { first = x; marks = i; second = y; reads = refl; goes-on = o ∙ (let v : done y j ≡ done y m = cc in v); joined = cc }
 
 -- PASSAGES
-
--- fixed bytes; one passage and then another
-abbrev pub just : List ℕ → Passage
-just x base area m = done x m
-
-abbrev pub then : Passage → Passage → Passage
-then F G base area m = next (F base area m) (λ m′. G base area m′)
 
 -- whatever is read as F is read as G
 abbrev pub Opens : Passage → Passage → Type 0
@@ -149,9 +142,9 @@ just-room x pos out f = let e = just-is x _ (f .reads) in rw e at (f .room)
 pub fits-opens : (F G : Passage) (pos : ℕ) (out : List ℕ) → Opens F G → Fits F pos out → Fits G pos out
 fits-opens F G pos out o f = record { sheet = f .sheet; reads = o _ (f .reads); room = f .room }
 
--- two writes in a row; the second of k bytes
-pub written : (m n k pos : ℕ) (x y out mid left : List ℕ) → mid ≡ splice m pos x out → left ≡ splice n (pos + m) y mid → length x ≡ m → pos + m ≤ length out → n ≡ k → left ≡ splice (m + k) pos (x ++ y) out
-written m n k pos x y out mid left e f l h q = f ∙ rw (q, e) (splice-append m k pos x y out l h)
+-- two writes in a row
+pub written : (m n pos : ℕ) (x y out mid left : List ℕ) → mid ≡ splice m pos x out → left ≡ splice n (pos + m) y mid → length x ≡ m → pos + m ≤ length out → left ≡ splice (m + n) pos (x ++ y) out
+written m n pos x y out mid left e f l h = f ∙ rw e (splice-append m n pos x y out l h)
 
 -- MARKS, AND BYTES OF THE MESSAGE BEHIND THEM
 

@@ -4,28 +4,31 @@ use mathlib.Core.Path.{_≡_, refl, sym, ap, _∙_}
 use mathlib.Core.Bool.{Bool, true, false}
 use mathlib.Core.List.{List, [], _∷_, _++_, append-nil, append-assoc}
 use native.Mathlib.Omega.{arith}
-use native.Mathlib.Nat.{mul-one}
+use native.Mathlib.Nat.{mul-one, sub-zero}
 use lib.ListN.{length, drop, replicate, length-append}
 use borrow.Author.Tests.{leb-true, ltb-true, eq-eqb, ne-eqb}
 use Rattle.wire.specs.Bytes.{part, splice, bytesOf, le}
 use Rattle.wire.proofs.Laws.{length-bytes, length-part}
 use Rattle.schema.specs.Faults.{need}
-use Rattle.schema.specs.Schema.{Test, Kind, any, Field, Group, kindWidth, fieldWidth, width, find, known}
+use Rattle.schema.specs.Schema.{Test, Kind, any, Field, Group, kindWidth, fieldWidth, width, shallow, find, known}
 use Rattle.schema.specs.Table.{fieldAt, fieldsAt, schema}
+use Rattle.schema.specs.Layout.{Layout}
 use Rattle.schema.specs.FieldKinds.{kindFrom, testedKind, plainField}
 use Rattle.schema.specs.declared.FieldKind.{FieldKind}
 use Rattle.schema.specs.declared.FieldKind.the-variants.{Plain, Number, Inline, Indirect, Static, Dynamic}
 use Rattle.schema.specs.declared.Tested.{Tested}
+use Rattle.schema.specs.declared.Scope.{Scope}
+use Rattle.schema.specs.declared.Scope.the-variants.{Whole, Fields}
 use Rattle.schema.proofs.Records.{fields-more, fields-none}
 use Rattle.message.specs.Marks.{mark}
 use Rattle.message.specs.Sheet.{Mark, VA, ST, SG, SQ, GB, XT, XU, markBytes, NO, GE, kindMark, fieldMark}
 use Rattle.message.specs.Walk.{Reading, refused, done, prefixed, next, Here, here, strict, Reader, Inner, byte, word, Place, lost, locate, onward, noneR, thenR, markedR, optionalR, plainR, inlineR, indirectR, textR, innerR, itemsR, listR, kindR, valueR, fieldR, fieldsR, extendingR, groupsR, extensionR, extensionIn, behindR, padded, bodyR, headR, groupR, walk}
-use Rattle.message.specs.Check.{itemR, markedValueR, innerOf, staticOf}
+use Rattle.message.specs.Check.{itemR, markedValueR, innerOf, widthOf, staticOf}
 use Rattle.message.proofs.Count.{length-mark, items-one}
 use Rattle.message.proofs.CheckFields.{field-required, field-optional, field-there, value-one}
-use Rattle.sheet.specs.Show.{Passage, passage, whole, bodyOf, Reads, Fits, Shown}
+use Rattle.sheet.specs.Show.{Passage, passage, whole, just, then, extensionOf, groupOf, takes, headOf, numberOf, idOf, endOf, Lies, Reads, Fits, Shown}
 use Rattle.sheet.proofs.Writers.{tested-plain}
-use Rattle.sheet.proofs.ShowLaws.{need-done, next-done, just, then, Opens, alike, Left, shown-none, shown-opens, opened, first-fits, called, written}
+use Rattle.sheet.proofs.ShowLaws.{need-done, next-done, Opens, alike, Left, shown-none, shown-opens, opened, first-fits, called, written}
 
 -- THE MARKS, AS THE CODE HAS THEM
 
@@ -68,6 +71,21 @@ prefixed-twice : (x y : List ℕ) (r : Reading) → prefixed x (prefixed y r) �
 unfolding prefixed
 prefixed-twice x y (refused n p) = refl
 prefixed-twice x y (done s m) = ap (λ (t : List ℕ). done t m) (sym (append-assoc x y s))
+
+-- three readings in a row; one with nothing before it and nothing behind it
+next-next : (r : Reading) (f g : List ℕ → Reading) → next (next r f) g ≡ next r (λ m. next (f m) g)
+unfolding next prefixed
+next-next (refused n p) f g = refl
+next-next (done x i) f g = go (f i)
+  where
+    go : (q : Reading) → next (prefixed x q) g ≡ prefixed x (next q g)
+    go (refused n p) = refl
+    go (done y j) = sym (prefixed-twice x y (g j))
+
+next-alone : (r : Reading) → prefixed [] (next r (λ m. done [] m)) ≡ r
+unfolding next prefixed
+next-alone (refused n p) = refl
+next-alone (done s m) = ap (λ (t : List ℕ). done t m) (append-nil s)
 
 -- a reading of an inner group, whose marks do not matter
 inner-done : (x : List ℕ) (r : Reading) (i s m : List ℕ) → prefixed x (next r (λ _. done [] i)) ≡ done s m → (j : List ℕ) × (prefixed x r ≡ done s j)
@@ -168,12 +186,12 @@ inline-length n at b h =
     length-append (markBytes ST) (bytesOf 4 n ++ part n (at + 1) b) ∙ rw (length-append (bytesOf 4 n) (part n (at + 1) b), length-mark ST, length-bytes 4 n, length-part n (at + 1) b h) (omega arith)
 
 -- inline text, as it is written
-pub inline-written : (n pos : ℕ) (x out m₁ m₂ m₃ : List ℕ) → m₁ ≡ splice 2 pos (markBytes ST) out → m₂ ≡ splice 4 (pos + 2) (bytesOf 4 n) m₁ → m₃ ≡ splice (length x) (pos + 6) x m₂ → length x ≡ n → pos + (6 + n) ≤ length out
+pub inline-written : (n pos : ℕ) (x out m₁ m₂ m₃ : List ℕ) → m₁ ≡ splice 2 pos (markBytes ST) out → m₂ ≡ splice 4 (pos + 2) (bytesOf 4 n) m₁ → m₃ ≡ splice n (pos + 6) x m₂ → pos + (6 + n) ≤ length out
     → m₃ ≡ splice (6 + n) pos (markBytes ST ++ (bytesOf 4 n ++ x)) out
-inline-written n pos x out m₁ m₂ m₃ e f g l h =
-    let u : m₂ ≡ splice 6 pos (markBytes ST ++ bytesOf 4 n) out = written 2 4 4 pos (markBytes ST) (bytesOf 4 n) out m₁ m₂ e f (length-mark ST) (omega arith) refl in
+inline-written n pos x out m₁ m₂ m₃ e f g h =
+    let u : m₂ ≡ splice 6 pos (markBytes ST ++ bytesOf 4 n) out = written 2 4 pos (markBytes ST) (bytesOf 4 n) out m₁ m₂ e f (length-mark ST) (omega arith) in
     let k : length (markBytes ST ++ bytesOf 4 n) ≡ 6 = length-append (markBytes ST) (bytesOf 4 n) ∙ rw (length-mark ST, length-bytes 4 n) in
-    written 6 (length x) n pos (markBytes ST ++ bytesOf 4 n) x out m₂ m₃ u g k (omega arith) l ∙ rw (append-assoc (markBytes ST) (bytesOf 4 n) x)
+    written 6 n pos (markBytes ST ++ bytesOf 4 n) x out m₂ m₃ u g k (omega arith) ∙ rw (append-assoc (markBytes ST) (bytesOf 4 n) x)
 
 -- ITEMS AND FIELDS, ONE BY ONE
 
@@ -373,33 +391,39 @@ unfolding padded
 padded-done h (refused n p) s m e = absurd (let z : _≡_ {A = ℕ} 0 1 = cc in omega arith)
 padded-done h (done t i) s m e = let q = need-done _ _ _ _ _ _ e .1 in (i, cc)
 
+-- b, as the group g with so many levels left below it
+abbrev bodyOf : List ℕ → ℕ → ℕ → List ℕ → Passage
+bodyOf t l g b base area m = bodyR strict (schema t) (innerOf t l) g base b
+
 -- a group's bytes, once it is known which group it is: its width, and its parts
 module _ (t : List ℕ) (l g : ℕ) (b s : List ℕ) (r : Reads (bodyOf t l g b) s) where
-  pub body-wide : 16 + width (schema t) 5 g ≤ length b
+  body-wide : 16 + width (schema t) 5 g ≤ length b
   unfolding bodyR
   body-wide = leb-true _ _ (need-done _ _ _ _ _ _ (r .is) .0)
 
-  pub body-opens : Reads (then (just (part 8 4 b)) (then (then (passage (staticOf t l 5 g) b 16) (passage (extensionR (schema t) (innerOf t l)) b 12)) (just GE))) s
+  body-opens : Reads (then (just (part 8 4 b)) (then (passage (staticOf t l 5 g) b 16) (then (passage (extensionOf t l) b 12) (just GE)))) s
   unfolding bodyR behindR next
   body-opens =
       let h : Here = here strict b (r .base) (16 + width (schema t) 5 g) in
       let o : List ℕ = replicate (length b) 0 in
-      let K : Reading = next (staticOf t l 5 g h 16 o) (λ m′. extensionR (schema t) (innerOf t l) h 12 m′) in
-      let B : Reading = behindR (staticOf t l 5 g) (extensionR (schema t) (innerOf t l)) h 12 o in
+      let E : List ℕ → Reading = λ m. extensionOf t l h 12 m in
+      let K : Reading = next (staticOf t l 5 g h 16 o) E in
+      let B : Reading = behindR (staticOf t l 5 g) (extensionOf t l) h 12 o in
       let u = padded-done h (prefixed (part 8 4 b) (next B (λ m. done GE m))) s (r .taken) (need-done _ _ _ _ _ _ (r .is) .1) in
       let v = prefixed-done (part 8 4 b) (next B (λ m. done GE m)) s (u .0) (u .1) in
       let w = next-done B (λ m. done GE m) (v .0) (u .0) (v .1) in
       let q : B ≡ K = w .reads ∙ sym (need-done (extensionIn h 12) 3 (r .base + 12) K (w .first) (w .marks) (w .reads) .1) in
-      record { base = r .base; area = h .area; marks = o; taken = u .0; is = ap (λ (x : Reading). prefixed (part 8 4 b) (next x (λ m. done GE m))) (sym q) ∙ u .1 }
+      let a = sym (next-next (staticOf t l 5 g h 16 o) E (λ m. done GE m)) ∙ ap (λ (x : Reading). next x (λ m. done GE m)) (sym q) in
+      record { base = r .base; area = h .area; marks = o; taken = u .0; is = ap (prefixed (part 8 4 b)) a ∙ u .1 }
 
--- what a group's reading tells before its body
-pub record Head (t : List ℕ) (l : ℕ) (b s : List ℕ) : Type 0 where
-  pub some : 0 < l
-  pub long : 16 ≤ length b
-  pub inside : find (schema t) (le (part 8 4 b)) < length (schema t)
-  pub body : Reads (bodyOf t (l - 1) (find (schema t) (le (part 8 4 b))) b) s
+-- what a dynamic group's reading tells before its body
+record Head (t : List ℕ) (l : ℕ) (b s : List ℕ) : Type 0 where
+  some : 0 < l
+  long : 16 ≤ length b
+  inside : find (schema t) (le (part 8 4 b)) < length (schema t)
+  body : Reads (bodyOf t (l - 1) (find (schema t) (le (part 8 4 b))) b) s
 
-pub head : (t : List ℕ) (l a : ℕ) (b s : List ℕ) → Reads (whole t l a b) s → Head t l b s
+head : (t : List ℕ) (l a : ℕ) (b s : List ℕ) → Reads (whole t l a b) s → Head t l b s
 unfolding groupR headR known
 head t zero a b s r = absurd (
     let x = need-done _ _ _ _ _ _ (r .is) in
@@ -420,9 +444,51 @@ head t (suc l) a b s r =
       body = rw q (record { base = r .base; area = r .area; marks = r .marks; taken = r .taken; is = e });
     }
 
-module _ (t : List ℕ) (l a : ℕ) (b : List ℕ) (g : ℕ) (ig : g ≡ find (schema t) (le (part 8 4 b))) where
-  pub group-opens : Opens (whole t l a b) (bodyOf t (l - 1) g b)
-  group-opens s r = rw ig (head t l a b s r .body)
+-- BY ITS SCOPE
+
+module _ (t : List ℕ) (l : ℕ) (b : List ℕ) (scope : Scope) where
+  pub end-whole : (a : ℕ) → scope ≡ Whole a → Opens (endOf t l scope b) (then (passage (extensionOf t l) b 12) (just GE))
+  unfolding endOf
+  end-whole a e = rw e (λ s r. r)
+
+  pub end-fields : (g : ℕ) → scope ≡ Fields g → Opens (endOf t l scope b) (just [])
+  unfolding endOf
+  end-fields g e = rw e (λ s r. r)
+
+module _ (scope : Scope) (a : ℕ) (e : scope ≡ Whole a) where
+  pub head-whole : headOf scope ≡ 16
+  unfolding headOf
+  head-whole = rw e
+
+  pub id-whole : (b : List ℕ) → idOf scope b ≡ part 8 4 b
+  unfolding idOf
+  id-whole b = rw e
+
+  pub id-length : (b : List ℕ) → 16 ≤ length b → length (idOf scope b) ≡ 8
+  id-length b h = rw (id-whole b) (length-part 8 4 b (omega arith))
+
+-- what is asked to read the head of a group and the fields of its number g
+pub record Readable (t : List ℕ) (l d : ℕ) (b : List ℕ) (at : ℕ) (scope : Scope) (g : ℕ) : Type 0 where
+  pub some : takes scope ≤ l
+  pub long : headOf scope ≤ length b
+  pub wide : at + widthOf t d g ≤ length b
+  pub inside : g < length (schema t)
+  pub flat : shallow (schema t) d g ≡ true
+
+module _ (t : List ℕ) (l d : ℕ) (b : List ℕ) (at : ℕ) where
+  pub group-parts : (scope : Scope) → Lies t d scope b at → (g n : ℕ) → g ≡ numberOf t scope b → n ≡ l - takes scope
+      → Opens (groupOf t l d scope b at) (then (just (idOf scope b)) (then (passage (staticOf t n d g) b at) (endOf t n scope b)))
+  unfolding Lies groupOf takes numberOf idOf endOf next
+  group-parts (Whole a) h g n ig in′ s r = rw (ig, in′, h .0, h .1) (body-opens t (l - 1) _ b s (head t l a b s r .body))
+  group-parts (Fields g′) h g n ig in′ s r = let q = in′ ∙ sub-zero l in rw (ig, q) (record { base = r .base; area = r .area; marks = r .marks; taken = r .taken; is = next-alone _ ∙ r .is })
+
+  pub group-readable : (k : List ℕ) → Layout t k → (scope : Scope) → Lies t d scope b at → (g : ℕ) → g ≡ numberOf t scope b
+      → (s : List ℕ) → Reads (groupOf t l d scope b at) s → Readable t l d b at scope g
+  unfolding Lies groupOf takes headOf numberOf
+  group-readable k P (Whole a) h g ig s r =
+      let H = head t l a b s r in
+      rw (ig, h .0, h .1) (record { some = H .some; long = H .long; wide = body-wide t (l - 1) _ b s (H .body); inside = H .inside; flat = P .shallows _ })
+  group-readable k P (Fields g′) h g ig s r = rw ig (record { some = omega arith; long = omega arith; wide = h .0; inside = h .1; flat = h .2 })
 
 -- THE MESSAGE
 

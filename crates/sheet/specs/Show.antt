@@ -1,16 +1,19 @@
 -- What the code that writes a sheet asks of its callers and what it leaves. It walks a message that the check accepted, so it tests nothing and keeps no marks:
 -- it speaks of what a reader gives for some marks, wherever its group starts in the message.
 use mathlib.Core.Path.{_≡_}
-use mathlib.Core.List.{List}
-use Prim.Native.Nat.{ℕ, _+_, _≤_}
+use mathlib.Core.Bool.{true}
+use mathlib.Core.List.{List, []}
+use Prim.Native.Nat.{ℕ, _+_, _<_, _≤_}
 use lib.ListN.{length, drop}
-use Rattle.wire.specs.Bytes.{splice}
-use Rattle.schema.specs.Schema.{any}
+use Rattle.wire.specs.Bytes.{part, splice, le}
+use Rattle.schema.specs.Schema.{any, find, shallow}
 use Rattle.schema.specs.Table.{fieldAt, enums, schema}
 use Rattle.schema.specs.FieldKinds.{kindFrom}
 use Rattle.schema.specs.declared.FieldKind.{FieldKind}
-use Rattle.message.specs.Sheet.{VA, GB}
-use Rattle.message.specs.Walk.{Reading, done, here, strict, Reader, markedR, plainR, indirectR, innerR, fieldR, extendingR, extensionR, bodyR, groupR}
+use Rattle.schema.specs.declared.Scope.{Scope}
+use Rattle.schema.specs.declared.Scope.the-variants.{Whole, Fields}
+use Rattle.message.specs.Sheet.{VA, GB, GE}
+use Rattle.message.specs.Walk.{Reading, done, next, here, strict, Reader, markedR, plainR, indirectR, innerR, fieldR, extendingR, extensionR, groupR}
 use Rattle.message.specs.Check.{itemR, markedValueR, innerOf, widthOf, staticOf}
 
 -- What is read at one place of a message, by the start of its group, the group's data area and its marks.
@@ -24,9 +27,12 @@ passage R b at base area m = R (here strict b base area) at m
 abbrev pub whole : List ℕ → ℕ → ℕ → List ℕ → Passage
 whole t levels allowed b base area m = groupR strict (schema t) levels allowed base b
 
--- b, as the group g with so many levels left below it
-abbrev pub bodyOf : List ℕ → ℕ → ℕ → List ℕ → Passage
-bodyOf t levels g b base area m = bodyR strict (schema t) (innerOf t levels) g base b
+-- Fixed bytes; one passage and then another.
+abbrev pub just : List ℕ → Passage
+just x base area m = done x m
+
+abbrev pub then : Passage → Passage → Passage
+then F G base area m = next (F base area m) (λ m′. G base area m′)
 
 -- READERS, AS THE CODE CALLS THEM
 -- by the table t, the levels left below the group, the static depth below which it lies, and where the field's record stands
@@ -52,6 +58,40 @@ extensionOf t levels = extensionR (schema t) (innerOf t levels)
 
 abbrev pub extendingOf : List ℕ → ℕ → Reader
 extendingOf t levels = indirectR 26 1 (extendingR (schema t) (innerOf t levels))
+
+-- A GROUP, BY ITS SCOPE
+
+-- What of it is shown: all of b, or a static group's fields at `at`.
+unfoldable pub groupOf : List ℕ → ℕ → ℕ → Scope → List ℕ → ℕ → Passage
+groupOf t levels depth (Whole allowed) b at = whole t levels allowed b
+groupOf t levels depth (Fields group) b at = passage (staticOf t levels depth group) b at
+
+-- How many levels it takes, and how many bytes it has before its fields.
+unfoldable pub takes : Scope → ℕ
+takes (Whole allowed) = 1
+takes (Fields group) = 0
+
+unfoldable pub headOf : Scope → ℕ
+headOf (Whole allowed) = 16
+headOf (Fields group) = 0
+
+-- Its number; what stands before its fields in the sheet, and behind them.
+unfoldable pub numberOf : List ℕ → Scope → List ℕ → ℕ
+numberOf t (Whole allowed) b = find (schema t) (le (part 8 4 b))
+numberOf t (Fields group) b = group
+
+unfoldable pub idOf : Scope → List ℕ → List ℕ
+idOf (Whole allowed) b = part 8 4 b
+idOf (Fields group) b = []
+
+unfoldable pub endOf : List ℕ → ℕ → Scope → List ℕ → Passage
+endOf t levels (Whole allowed) b = then (passage (extensionOf t levels) b 12) (just GE)
+endOf t levels (Fields group) b = just []
+
+-- Its fields stand at `at` of b. Of a dynamic group the reading tells the rest.
+unfoldable pub Lies : List ℕ → ℕ → Scope → List ℕ → ℕ → Type 0
+Lies t depth (Whole allowed) b at = (depth ≡ 5) × (at ≡ 16)
+Lies t depth (Fields group) b at = (at + widthOf t depth group ≤ length b) × (group < length (schema t)) × (shallow (schema t) depth group ≡ true)
 
 -- WHAT IS WRITTEN
 

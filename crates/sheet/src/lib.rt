@@ -5,7 +5,7 @@
 ghost use mathlib.Core.Path.{_≡_};
 ghost use mathlib.Core.Bool.{true};
 ghost use mathlib.Core.List.{List, _++_};
-ghost use Prim.Native.Nat.{ℕ, _+_, _*_, _<_, _≤_};
+ghost use Prim.Native.Nat.{ℕ, _+_, _-_, _*_, _<_, _≤_};
 ghost use lib.ListN.{length, drop};
 ghost use Rattle.wire.specs.Bytes.{part, splice, bytesOf};
 ghost use Rattle.schema.specs.Schema.{kindWidth, valueWidth, fieldWidth, shallowKind, shallow};
@@ -15,7 +15,7 @@ ghost use Rattle.schema.specs.FieldKinds.{kindFrom};
 ghost use Rattle.message.specs.Sheet.{ST, markBytes};
 ghost use Rattle.message.specs.Walk.{done, byte, word, strict, itemsR, walk};
 ghost use Rattle.message.specs.Check.{widthOf, staticOf};
-ghost use Rattle.sheet.specs.Show.{passage, whole, bodyOf, plainOf, itemOf, valueOf, fieldOf, nestedOf, extensionOf, extendingOf, Fits, Shown};
+ghost use Rattle.sheet.specs.Show.{passage, takes, headOf, idOf, numberOf, endOf, groupOf, Lies, plainOf, itemOf, valueOf, fieldOf, nestedOf, extensionOf, extendingOf, Fits, Shown};
 
 const VA: [u8; 2] = *b"VA";
 
@@ -51,9 +51,8 @@ fn show_bytes(mark: [u8; 2], bytes: &[u8], at: usize, n: usize, out: &mut [u8], 
     requires { ⌜ (at + n ≤ length (now bytes)) × (pos + (2 + n) ≤ length (now out)) ⌝ }
     ensures { λ r. ⌜ (now (out .exit) ≡ splice (2 + n) pos (mark ++ part n at (now (bytes .entry))) (now (out .entry))) × (r ≡ pos + (2 + n)) ⌝ }
 {
-    let end = at + n;
     wire::write_mark(out, pos, mark);
-    wire::copy(out, pos + 2, &bytes[at..end]);
+    wire::copy_value(out, pos + 2, bytes, at, n);
     pos + (2 + n)
 }
 
@@ -63,11 +62,9 @@ fn show_inline(bytes: &[u8], at: usize, out: &mut [u8], pos: usize) -> usize
     ensures { λ r. ⌜ (now (out .exit) ≡ splice (6 + byte at (now (bytes .entry))) pos (markBytes ST ++ (bytesOf 4 (byte at (now (bytes .entry))) ++ part (byte at (now (bytes .entry))) (at + 1) (now (bytes .entry)))) (now (out .entry))) × (r ≡ pos + (6 + byte at (now (bytes .entry)))) ⌝ }
 {
     let count = wire::wide(bytes[at]);
-    let start = at + 1;
-    let end = start + count;
     wire::write_mark(out, pos, ST);
     wire::write_u32(out, pos + 2, count);
-    wire::copy(out, pos + 6, &bytes[start..end]);
+    wire::copy(out, pos + 6, bytes, at + 1, count);
     pos + (6 + count)
 }
 
@@ -96,40 +93,92 @@ fn show_plain(
 
 // GROUPS, FIELDS AND ITEMS
 
-// The group that `bytes` are, with `levels` left for it, and behind it the mark that closes it.
+// A group that is opened: its number, the levels left below it, and where the sheet goes on.
+struct Opened {
+    group: usize,
+    levels: usize,
+    pos: usize,
+}
+
+// What stands before the fields: a dynamic group begins with its type id.
+fn open_group(
+    table: &[u8],
+    index: &[u16],
+    bytes: &[u8],
+    levels: usize,
+    scope: schema::Scope,
+    out: &mut [u8],
+    pos: usize,
+) -> Opened
+    requires { ⌜ (Layout (now table) (now index)) × (takes scope ≤ levels) × (headOf scope ≤ length (now bytes)) × (pos + length (idOf scope (now bytes)) ≤ length (now out)) ⌝ }
+    ensures { λ r. ⌜ (r .group ≡ numberOf (now (table .entry)) scope (now (bytes .entry))) × (r .levels ≡ levels - takes scope) × (now (out .exit) ≡ splice (length (idOf scope (now (bytes .entry)))) pos (idOf scope (now (bytes .entry))) (now (out .entry))) × (r .pos ≡ pos + length (idOf scope (now (bytes .entry)))) ⌝ }
+{
+    match scope {
+        schema::Scope::Whole { allowed } => {
+            let total = schema::group_total(index);
+            let group = schema::find(table, index, total, wire::read_u64(bytes, 4));
+            wire::copy_value(out, pos, bytes, 4, 8);
+            Opened {
+                group,
+                levels: levels - 1,
+                pos: pos + 8,
+            }
+        }
+        schema::Scope::Fields { group } => Opened { group, levels, pos },
+    }
+}
+
+// A group whose fields stand at `at`. One function shows dynamic and static groups, so that a level is
+// one call: each call passes its slices through memory.
 fn show_group(
     table: &[u8],
     index: &[u16],
     bytes: &[u8],
     levels: usize,
+    depth: usize,
+    scope: schema::Scope,
+    at: usize,
     out: &mut [u8],
     pos: usize,
 ) -> usize
-    requires { ⌜ (Layout (now table) (now index)) × (length (now bytes) ≤ 65536) × ((allowed : ℕ) × Fits (whole (now table) levels allowed (now bytes)) pos (now out)) ⌝ }
-    ensures { λ r. ⌜ ((allowed : ℕ) → Shown (whole (now (table .entry)) levels allowed (now (bytes .entry))) pos (now (out .entry)) (now (out .exit)) r) ⌝ }
+    requires { ⌜ (Layout (now table) (now index)) × (length (now bytes) ≤ 65536) × (Lies (now table) depth scope (now bytes) at) × (Fits (groupOf (now table) levels depth scope (now bytes) at) pos (now out)) ⌝ }
+    ensures { λ r. ⌜ Shown (groupOf (now (table .entry)) levels depth scope (now (bytes .entry)) at) pos (now (out .entry)) (now (out .exit)) r ⌝ }
 {
-    let total = schema::group_total(index);
-    let group = schema::find(table, index, total, wire::read_u64(bytes, 4));
-    show_body(table, index, bytes, levels - 1, group, out, pos)
+    let open = open_group(table, index, bytes, levels, scope, out, pos);
+    let fields = show_fields(
+        table,
+        index,
+        bytes,
+        open.levels,
+        depth,
+        open.group,
+        at,
+        out,
+        open.pos,
+    );
+    close_group(table, index, bytes, open.levels, scope, out, fields)
 }
 
-// The type id, the fields, the extension and the end of a group, with `levels` left below it.
-fn show_body(
+// What stands behind them: a dynamic group ends with its extension and a mark.
+fn close_group(
     table: &[u8],
     index: &[u16],
     bytes: &[u8],
     levels: usize,
-    group: usize,
+    scope: schema::Scope,
     out: &mut [u8],
     pos: usize,
 ) -> usize
-    requires { ⌜ (Layout (now table) (now index)) × (length (now bytes) ≤ 65536) × (group < length (schema (now table))) × (Fits (bodyOf (now table) levels group (now bytes)) pos (now out)) ⌝ }
-    ensures { λ r. ⌜ Shown (bodyOf (now (table .entry)) levels group (now (bytes .entry))) pos (now (out .entry)) (now (out .exit)) r ⌝ }
+    requires { ⌜ (Layout (now table) (now index)) × (length (now bytes) ≤ 65536) × (headOf scope ≤ length (now bytes)) × (Fits (endOf (now table) levels scope (now bytes)) pos (now out)) ⌝ }
+    ensures { λ r. ⌜ Shown (endOf (now (table .entry)) levels scope (now (bytes .entry))) pos (now (out .entry)) (now (out .exit)) r ⌝ }
 {
-    wire::copy(out, pos, &bytes[4..12]);
-    let fields = show_fields(table, index, bytes, levels, 5, group, 16, out, pos + 8);
-    let extension = show_extension(table, index, bytes, levels, out, fields);
-    show_mark(GE, out, extension)
+    match scope {
+        schema::Scope::Whole { allowed } => {
+            let extension = show_extension(table, index, bytes, levels, out, pos);
+            show_mark(GE, out, extension)
+        }
+        schema::Scope::Fields { group } => pos,
+    }
 }
 
 // The fields of a group whose static depth is below `depth`. Required plain values are written here,
@@ -304,11 +353,21 @@ fn show_item(
         }
         schema::FieldKind::Static { group } => {
             let next = show_mark(SG, out, pos);
-            show_fields(table, index, bytes, levels, depth, group, at, out, next)
+            show_group(
+                table,
+                index,
+                bytes,
+                levels,
+                depth,
+                schema::Scope::Fields { group },
+                at,
+                out,
+                next,
+            )
         }
         schema::FieldKind::Dynamic { allowed } => {
             let place = at + wire::read_u32(bytes, at);
-            show_nested(table, index, bytes, levels, place, out, pos)
+            show_nested(table, index, bytes, levels, allowed, place, out, pos)
         }
     }
 }
@@ -319,16 +378,27 @@ fn show_nested(
     index: &[u16],
     bytes: &[u8],
     levels: usize,
+    allowed: usize,
     place: usize,
     out: &mut [u8],
     pos: usize,
 ) -> usize
-    requires { ⌜ (Layout (now table) (now index)) × (length (now bytes) ≤ 65536) × (place + (4 + word place (now bytes)) ≤ length (now bytes)) × ((allowed : ℕ) × Fits (passage (nestedOf (now table) levels allowed (word place (now bytes))) (now bytes) place) pos (now out)) ⌝ }
-    ensures { λ r. ⌜ ((allowed : ℕ) → Shown (passage (nestedOf (now (table .entry)) levels allowed (word place (now (bytes .entry)))) (now (bytes .entry)) place) pos (now (out .entry)) (now (out .exit)) r) ⌝ }
+    requires { ⌜ (Layout (now table) (now index)) × (length (now bytes) ≤ 65536) × (place + (4 + word place (now bytes)) ≤ length (now bytes)) × (Fits (passage (nestedOf (now table) levels allowed (word place (now bytes))) (now bytes) place) pos (now out)) ⌝ }
+    ensures { λ r. ⌜ Shown (passage (nestedOf (now (table .entry)) levels allowed (word place (now (bytes .entry)))) (now (bytes .entry)) place) pos (now (out .entry)) (now (out .exit)) r ⌝ }
 {
     let end = place + (4 + wire::read_u32(bytes, place));
     let next = show_mark(GB, out, pos);
-    show_group(table, index, &bytes[place..end], levels, out, next)
+    show_group(
+        table,
+        index,
+        &bytes[place..end],
+        levels,
+        5,
+        schema::Scope::Whole { allowed },
+        16,
+        out,
+        next,
+    )
 }
 
 // "An extension is a sequence of any groups", and one of no groups means the same as none.
@@ -395,7 +465,7 @@ fn show_extending(
 {
     let place = at + wire::read_u32(bytes, at);
     if schema::is_known(table, index, wire::read_u64(bytes, place + 4)) {
-        return show_nested(table, index, bytes, levels, place, out, pos);
+        return show_nested(table, index, bytes, levels, 0, place, out, pos);
     }
     let count = wire::read_u32(bytes, place);
     show_bytes(XU, bytes, place, 4 + count, out, pos)
@@ -410,5 +480,15 @@ pub fn write_sheet(table: &[u8], index: &[u16], message: &[u8], sheet: &mut [u8]
     ensures { λ r. ⌜ ((s m : List ℕ) → walk strict (schema (now (table .entry))) (now (message .entry)) ≡ done s m → (now (sheet .exit) ≡ splice (length s) 0 s (now (sheet .entry))) × (r ≡ length s)) ⌝ }
 {
     let next = show_mark(GB, sheet, 0);
-    show_group(table, index, message, 8, sheet, next)
+    show_group(
+        table,
+        index,
+        message,
+        8,
+        5,
+        schema::Scope::Whole { allowed: 0 },
+        16,
+        sheet,
+        next,
+    )
 }

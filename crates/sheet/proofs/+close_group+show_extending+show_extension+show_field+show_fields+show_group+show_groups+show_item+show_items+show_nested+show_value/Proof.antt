@@ -7,63 +7,59 @@ use mathlib.Core.Bool.{true}
 use mathlib.Core.Logic.{⊎-elim}
 use lib.ListN.{length, drop}
 use lib.Dec.{leb}
-use Rattle.wire.specs.Bytes.{part}
-use Rattle.schema.specs.Schema.{kindWidth, valueWidth, fieldsWidth, shallowFields, shallow, find}
+use Rattle.schema.specs.Schema.{kindWidth, valueWidth, fieldsWidth, shallowFields, shallow}
 use Rattle.schema.specs.Table.{fieldAt, fieldsAt, enums, schema}
 use Rattle.schema.proofs.Records.{fields-more}
 use Rattle.schema.proofs.Types.{width-sequence, width-one, width-optional, width-required}
-use Rattle.schema.proofs.Groups.{static-inside, placed-inside, find-whole}
+use Rattle.schema.proofs.Groups.{static-inside, placed-inside}
 use Rattle.schema.proofs.Depth.{and-both, shallow-some, width-cons, shallow-cons, wide-kind, wide-field}
 use Rattle.message.specs.Sheet.{VA, ST, SG, SQ, GB, XT, XU, NO, GE}
-use Rattle.wire.proofs.Laws.{length-part}
 use Rattle.schema.specs.declared.FieldKind.the-variants.{Plain}
 use Rattle.message.specs.Walk.{byte, word, here, strict, itemsR, fieldsR}
 use Rattle.message.specs.Check.{innerOf, widthOf, staticOf}
 use Rattle.message.proofs.CheckFields.{plain-wide, items-left, wide-number, wide-inline, wide-indirect, wide-static, wide-dynamic, kind-static, start-inside, start-static, start-width, start-shallow}
-use Rattle.sheet.specs.Show.{passage, bodyOf, itemOf, valueOf, fieldOf, extensionOf, extendingOf}
-use Rattle.sheet.proofs.ShowLaws.{just, then, Opens, Left, begun, opened, first-fits, called, fits-opens, shown-opens, shown-none, shown-just, shown-mark, shown-bytes, mark-room, bytes-room, just-room, alike, shown-then}
-use Rattle.sheet.proofs.ShowReaders.{is-VA, is-ST, is-SG, is-SQ, is-GB, is-XT, is-XU, marked-inline, inline-count, inline-length, marked-inner, item-fits, items-next, items-done, field-fits, fields-next, fields-done, field-plain, field-absent, field-present, field-always, value-item, sequence-inside, sequence-opens, wide-plain, item-plain, item-number, item-inline, item-static, item-text, text-inside, item-group, group-inside, items-plain, extension-none, extension-inside, extension-empty, extension-some, extending-inside, extending-known, extending-kept, body-wide, body-opens, head, group-opens}
+use Rattle.sheet.specs.Show.{passage, just, then, itemOf, valueOf, fieldOf, extensionOf, extendingOf, groupOf, takes, endOf, Lies}
+use Rattle.sheet.proofs.ShowLaws.{Opens, Left, begun, opened, first-fits, called, fits-opens, shown-opens, shown-none, shown-just, shown-mark, shown-bytes, mark-room, bytes-room, just-room, alike, shown-then}
+use Rattle.sheet.proofs.ShowReaders.{is-VA, is-ST, is-SG, is-SQ, is-GB, is-XT, is-XU, marked-inline, inline-count, inline-length, marked-inner, item-fits, items-next, items-done, field-fits, fields-next, fields-done, field-plain, field-absent, field-present, field-always, value-item, sequence-inside, sequence-opens, wide-plain, item-plain, item-number, item-inline, item-static, item-text, text-inside, item-group, group-inside, items-plain, extension-none, extension-inside, extension-empty, extension-some, extending-inside, extending-known, extending-kept, end-whole, end-fields, head-whole, group-parts, Readable, group-readable}
 use Prim.Native.Nat.{ℕ}
 use borrow.Fn.Kinds.{In}
 use borrow.Fn.PlainCycle.{Measures, is, falls, and}
-use Rattle.sheet.proofs.show_body.Reads as show-body
-use Rattle.sheet.proofs.show_body.Kinds as show-body-kinds
-use Rattle.sheet.proofs.+show_body+show_extending+show_extension+show_field+show_fields+show_group+show_groups+show_item+show_items+show_nested+show_value.Lts-show_body as show-body-lts
+use Rattle.sheet.proofs.close_group.Reads as close-group
+use Rattle.sheet.proofs.close_group.Kinds as close-group-kinds
+use Rattle.sheet.proofs.+close_group+show_extending+show_extension+show_field+show_fields+show_group+show_groups+show_item+show_items+show_nested+show_value.Lts-close_group as close-group-lts
 use Rattle.sheet.proofs.show_extending.Reads as show-extending
 use Rattle.sheet.proofs.show_extending.Kinds as show-extending-kinds
-use Rattle.sheet.proofs.+show_body+show_extending+show_extension+show_field+show_fields+show_group+show_groups+show_item+show_items+show_nested+show_value.Lts-show_extending as show-extending-lts
+use Rattle.sheet.proofs.+close_group+show_extending+show_extension+show_field+show_fields+show_group+show_groups+show_item+show_items+show_nested+show_value.Lts-show_extending as show-extending-lts
 use Rattle.sheet.proofs.show_extension.Reads as show-extension
 use Rattle.sheet.proofs.show_extension.Kinds as show-extension-kinds
-use Rattle.sheet.proofs.+show_body+show_extending+show_extension+show_field+show_fields+show_group+show_groups+show_item+show_items+show_nested+show_value.Lts-show_extension as show-extension-lts
+use Rattle.sheet.proofs.+close_group+show_extending+show_extension+show_field+show_fields+show_group+show_groups+show_item+show_items+show_nested+show_value.Lts-show_extension as show-extension-lts
 use Rattle.sheet.proofs.show_field.Reads as show-field
 use Rattle.sheet.proofs.show_field.Kinds as show-field-kinds
-use Rattle.sheet.proofs.+show_body+show_extending+show_extension+show_field+show_fields+show_group+show_groups+show_item+show_items+show_nested+show_value.Lts-show_field as show-field-lts
+use Rattle.sheet.proofs.+close_group+show_extending+show_extension+show_field+show_fields+show_group+show_groups+show_item+show_items+show_nested+show_value.Lts-show_field as show-field-lts
 use Rattle.sheet.proofs.show_fields.Reads as show-fields
 use Rattle.sheet.proofs.show_fields.Kinds as show-fields-kinds
-use Rattle.sheet.proofs.+show_body+show_extending+show_extension+show_field+show_fields+show_group+show_groups+show_item+show_items+show_nested+show_value.Lts-show_fields as show-fields-lts
+use Rattle.sheet.proofs.+close_group+show_extending+show_extension+show_field+show_fields+show_group+show_groups+show_item+show_items+show_nested+show_value.Lts-show_fields as show-fields-lts
 use Rattle.sheet.proofs.show_group.Reads as show-group
 use Rattle.sheet.proofs.show_group.Kinds as show-group-kinds
-use Rattle.sheet.proofs.+show_body+show_extending+show_extension+show_field+show_fields+show_group+show_groups+show_item+show_items+show_nested+show_value.Lts-show_group as show-group-lts
+use Rattle.sheet.proofs.+close_group+show_extending+show_extension+show_field+show_fields+show_group+show_groups+show_item+show_items+show_nested+show_value.Lts-show_group as show-group-lts
 use Rattle.sheet.proofs.show_groups.Reads as show-groups
 use Rattle.sheet.proofs.show_groups.Kinds as show-groups-kinds
-use Rattle.sheet.proofs.+show_body+show_extending+show_extension+show_field+show_fields+show_group+show_groups+show_item+show_items+show_nested+show_value.Lts-show_groups as show-groups-lts
+use Rattle.sheet.proofs.+close_group+show_extending+show_extension+show_field+show_fields+show_group+show_groups+show_item+show_items+show_nested+show_value.Lts-show_groups as show-groups-lts
 use Rattle.sheet.proofs.show_item.Reads as show-item
 use Rattle.sheet.proofs.show_item.Kinds as show-item-kinds
-use Rattle.sheet.proofs.+show_body+show_extending+show_extension+show_field+show_fields+show_group+show_groups+show_item+show_items+show_nested+show_value.Lts-show_item as show-item-lts
+use Rattle.sheet.proofs.+close_group+show_extending+show_extension+show_field+show_fields+show_group+show_groups+show_item+show_items+show_nested+show_value.Lts-show_item as show-item-lts
 use Rattle.sheet.proofs.show_items.Reads as show-items
 use Rattle.sheet.proofs.show_items.Kinds as show-items-kinds
-use Rattle.sheet.proofs.+show_body+show_extending+show_extension+show_field+show_fields+show_group+show_groups+show_item+show_items+show_nested+show_value.Lts-show_items as show-items-lts
+use Rattle.sheet.proofs.+close_group+show_extending+show_extension+show_field+show_fields+show_group+show_groups+show_item+show_items+show_nested+show_value.Lts-show_items as show-items-lts
 use Rattle.sheet.proofs.show_nested.Reads as show-nested
 use Rattle.sheet.proofs.show_nested.Kinds as show-nested-kinds
-use Rattle.sheet.proofs.+show_body+show_extending+show_extension+show_field+show_fields+show_group+show_groups+show_item+show_items+show_nested+show_value.Lts-show_nested as show-nested-lts
+use Rattle.sheet.proofs.+close_group+show_extending+show_extension+show_field+show_fields+show_group+show_groups+show_item+show_items+show_nested+show_value.Lts-show_nested as show-nested-lts
 use Rattle.sheet.proofs.show_value.Reads as show-value
 use Rattle.sheet.proofs.show_value.Kinds as show-value-kinds
-use Rattle.sheet.proofs.+show_body+show_extending+show_extension+show_field+show_fields+show_group+show_groups+show_item+show_items+show_nested+show_value.Lts-show_value as show-value-lts
+use Rattle.sheet.proofs.+close_group+show_extending+show_extension+show_field+show_fields+show_group+show_groups+show_item+show_items+show_nested+show_value.Lts-show_value as show-value-lts
 use Rattle.schema.proofs.field_count.Reads as field-count-reads
 use Rattle.schema.proofs.field_width.Reads as field-width-reads
-use Rattle.schema.proofs.find.Reads as find-reads
 use Rattle.schema.proofs.group_place.Reads as group-place-reads
-use Rattle.schema.proofs.group_total.Reads as group-total-reads
 use Rattle.schema.proofs.is_optional.Reads as is-optional-reads
 use Rattle.schema.proofs.is_sequence.Reads as is-sequence-reads
 use Rattle.schema.proofs.kind_at.Reads as kind-at-reads
@@ -71,23 +67,23 @@ use Rattle.schema.proofs.kind_width.Reads as kind-width-reads
 use Rattle.schema.proofs.plain_width.Reads as plain-width-reads
 use Rattle.schema.proofs.tested_width.Reads as tested-width-reads
 use Rattle.schema.proofs.is_known.Reads as is-known-reads
+use Rattle.sheet.proofs.open_group.Reads as open-group-reads
 use Rattle.sheet.proofs.show_bytes.Reads as show-bytes-reads
 use Rattle.sheet.proofs.show_inline.Reads as show-inline-reads
 use Rattle.sheet.proofs.show_mark.Reads as show-mark-reads
 use Rattle.sheet.proofs.show_plain.Reads as show-plain-reads
 use Rattle.wire.proofs.wide.Reads as wide-reads
-use Rattle.wire.proofs.copy.Reads as copy-reads
 use Rattle.wire.proofs.read_u32.Reads as read-u32-reads
 use Rattle.wire.proofs.read_u64.Reads as read-u64-reads
-use Rattle.sheet.proofs.+show_body+show_extending+show_extension+show_field+show_fields+show_group+show_groups+show_item+show_items+show_nested+show_value.{
+use Rattle.sheet.proofs.+close_group+show_extending+show_extension+show_field+show_fields+show_group+show_groups+show_item+show_items+show_nested+show_value.{
   statement,
 }
-use Rattle.sheet.proofs.+show_body+show_extending+show_extension+show_field+show_fields+show_group+show_groups+show_item+show_items+show_nested+show_value.Tie.{
+use Rattle.sheet.proofs.+close_group+show_extending+show_extension+show_field+show_fields+show_group+show_groups+show_item+show_items+show_nested+show_value.Tie.{
   close,
 }
 
-abbrev μ-show-body : Measures 4 show-body-kinds.ps ℕ
-μ-show-body κs a = 64 * a .1 .1 .1 .0 + 60
+abbrev μ-close-group : Measures 4 close-group-kinds.ps ℕ
+μ-close-group κs a = 64 * a .1 .1 .1 .0 + 9
 
 abbrev μ-show-extending : Measures 4 show-extending-kinds.ps ℕ
 μ-show-extending κs a = 64 * a .1 .1 .1 .0 + 6
@@ -102,7 +98,7 @@ abbrev μ-show-fields : Measures 4 show-fields-kinds.ps ℕ
 μ-show-fields κs a = 64 * a .1 .1 .1 .0 + 10 * a .1 .1 .1 .1 .0
 
 abbrev μ-show-group : Measures 4 show-group-kinds.ps ℕ
-μ-show-group κs a = 64 * a .1 .1 .1 .0 + 1
+μ-show-group κs a = 64 * a .1 .1 .1 .0 + 10 * a .1 .1 .1 .1 .0 + 1 - 64 * takes (a .1 .1 .1 .1 .1 .0)
 
 abbrev μ-show-groups : Measures 4 show-groups-kinds.ps ℕ
 μ-show-groups κs a = 64 * a .1 .1 .1 .0 + 7
@@ -119,12 +115,12 @@ abbrev μ-show-nested : Measures 4 show-nested-kinds.ps ℕ
 abbrev μ-show-value : Measures 4 show-value-kinds.ps ℕ
 μ-show-value κs a = 64 * a .1 .1 .1 .0 + 10 * a .1 .1 .1 .1 .0 + 8
 
-abbrev show-body-at : ℕ → In 4 show-body-kinds.ps
-show-body-at t = and 4 show-body-kinds.ps (is 4 show-body-kinds.ps μ-show-body t) show-body.Pre
+abbrev close-group-at : ℕ → In 4 close-group-kinds.ps
+close-group-at t = and 4 close-group-kinds.ps (is 4 close-group-kinds.ps μ-close-group t) close-group.Pre
 
-abbrev show-body-below : ℕ → In 4 show-body-kinds.ps
-show-body-below t =
-    and 4 show-body-kinds.ps (falls 4 show-body-kinds.ps _<_ μ-show-body t) show-body.Pre
+abbrev close-group-below : ℕ → In 4 close-group-kinds.ps
+close-group-below t =
+    and 4 close-group-kinds.ps (falls 4 close-group-kinds.ps _<_ μ-close-group t) close-group.Pre
 
 abbrev show-extending-at : ℕ → In 4 show-extending-kinds.ps
 show-extending-at t =
@@ -221,37 +217,29 @@ abbrev show-value-below : ℕ → In 4 show-value-kinds.ps
 show-value-below t =
     and 4 show-value-kinds.ps (falls 4 show-value-kinds.ps _<_ μ-show-value t) show-value.Pre
 
-abbrev show-body-claims : ℕ → show-body-lts.Claims
-show-body-claims t = (copy-reads.Asked, copy-reads.Learnt, show-fields-below t, show-fields.Post, show-extension-below t, show-extension.Post, show-mark-reads.Asked, show-mark-reads.Learnt)
+abbrev close-group-claims : ℕ → close-group-lts.Claims
+close-group-claims t = (show-extension-below t, show-extension.Post, show-mark-reads.Asked, show-mark-reads.Learnt)
 
-show-body-part-copy-end : (t : ℕ) → show-body-lts.Need-part-copy-end (show-body-claims t) (show-body-at t) show-body.Post
-show-body-part-copy-end t c = let a = c .before .before .before .before .before .args in let R = c .before .before .before .before .before .pre .1 in let t = a .table .now in let b = a .bytes .now in omega (arith, body-wide t (a .levels) (a .group) b _ (R .3 .reads))
+-- the extension and the end of a dynamic group
+close-group-whole : (t : ℕ) (c : close-group-lts.After-known-told (close-group-claims t) (close-group-at t) close-group.Post) → let a = c .before .before .before .before .before .before .before .args in let t = a .table .now in let b = a .bytes .now in
+    Left (endOf t (a .levels) (a .scope) b) (a .pos) (a .out .now) (then (passage (extensionOf t (a .levels)) b 12) (just GE)) (a .pos) (a .out .now)
+close-group-whole t c = let a = c .before .before .before .before .before .before .before .args in opened _ _ _ _ _ _ _ (end-whole (a .table .now) (a .levels) (a .bytes .now) (a .scope) _ (c .before .scope .given .1)) (begun _ _ _ (c .before .before .before .before .before .before .before .pre .1 .3))
 
-show-body-copy-requires : (t : ℕ) → show-body-lts.Need-copy-requires (show-body-claims t) (show-body-at t) show-body.Post
-show-body-copy-requires t c κs = let a = c .before .before .before .before .before .before .args in let R = c .before .before .before .before .before .before .pre .1 in let t = a .table .now in let b = a .bytes .now in
-    just-room (part 8 4 b) _ _ (first-fits _ _ _ _ _ _ _ (opened _ _ _ _ _ _ _ (body-opens t (a .levels) (a .group) b) (begun _ _ _ (R .3))))
+close-group-show-extension-requires : (t : ℕ) → close-group-lts.Need-show-extension-requires (close-group-claims t) (close-group-at t) close-group.Post
+close-group-show-extension-requires t c κs = let L = close-group-whole t (c .before) in let R = c .before .before .before .before .before .before .before .before .pre .1 in
+    (search needs, (R .0, R .1, omega (arith, head-whole _ _ (c .before .before .scope .given .1), R .2), first-fits _ _ _ _ _ _ _ L))
 
--- what is left behind the type id
-show-body-copied : (t : ℕ) (c : show-body-lts.After-copy (show-body-claims t) (show-body-at t) show-body.Post) → let a = c .before .before .before .before .before .before .before .args in let t = a .table .now in let b = a .bytes .now in
-    Left (bodyOf t (a .levels) (a .group) b) (a .pos) (a .out .now) (then (then (passage (staticOf t (a .levels) 5 (a .group)) b 16) (passage (extensionOf t (a .levels)) b 12)) (just GE)) (a .pos + 8) (c .copy .last .0)
-show-body-copied t c = let a = c .before .before .before .before .before .before .before .args in let R = c .before .before .before .before .before .before .before .pre .1 in let t = a .table .now in let b = a .bytes .now in let W = body-wide t (a .levels) (a .group) b _ (R .3 .reads) in
-    called _ _ _ _ _ _ _ (opened _ _ _ _ _ _ _ (body-opens t (a .levels) (a .group) b) (begun _ _ _ (R .3))) _ _ (shown-just (part 8 4 b) _ _ _ _ _ (c .copy .ensures) refl (ap (λ (n : ℕ). a .pos + n) (sym (length-part 8 4 b (omega (arith, W))))))
+close-group-show-mark-requires : (t : ℕ) → close-group-lts.Need-show-mark-requires (close-group-claims t) (close-group-at t) close-group.Post
+close-group-show-mark-requires t c κs = let L = close-group-whole t (c .before .before .before .before .before) in
+    just-room GE _ _ (called _ _ _ _ _ _ _ L _ _ (c .before .before .before .show-extension .ensures) .fits)
 
-show-body-show-fields-requires : (t : ℕ) → show-body-lts.Need-show-fields-requires (show-body-claims t) (show-body-at t) show-body.Post
-show-body-show-fields-requires t c κs = let L = show-body-copied t (c .before .before .before) in let a = c .before .before .before .before .before .before .before .before .before .before .args in let R = c .before .before .before .before .before .before .before .before .before .before .pre .1 in let t = a .table .now in let b = a .bytes .now in let W = body-wide t (a .levels) (a .group) b _ (R .3 .reads) in
-    (search needs, (R .0, R .1, W, R .2, R .0 .shallows _, first-fits _ _ _ _ _ _ _ (begun _ _ _ (first-fits _ _ _ _ _ _ _ L))))
+close-group-returns : (t : ℕ) → close-group-lts.Need-returns (close-group-claims t) (close-group-at t) close-group.Post
+close-group-returns t c = let L = close-group-whole t (c .before .before .before .before .before .before .before .before) in
+    called _ _ _ _ _ _ _ L _ _ (c .before .before .before .before .before .before .show-extension .ensures) .whole _ _ (shown-just GE 2 _ _ _ _ (c .before .before .show-mark .ensures .0) refl (c .before .before .show-mark .ensures .1))
 
-show-body-show-extension-requires : (t : ℕ) → show-body-lts.Need-show-extension-requires (show-body-claims t) (show-body-at t) show-body.Post
-show-body-show-extension-requires t c κs = let L = show-body-copied t (c .before .before .before .before .before .before .before) in let a = c .before .before .before .before .before .before .before .before .before .before .before .before .before .before .args in let R = c .before .before .before .before .before .before .before .before .before .before .before .before .before .before .pre .1 in let t = a .table .now in let b = a .bytes .now in let W = body-wide t (a .levels) (a .group) b _ (R .3 .reads) in
-    (search needs, (R .0, R .1, omega (arith, W), called _ _ _ _ _ _ _ (begun _ _ _ (first-fits _ _ _ _ _ _ _ L)) _ _ (c .before .before .before .show-fields .ensures) .fits))
-
-show-body-show-mark-requires : (t : ℕ) → show-body-lts.Need-show-mark-requires (show-body-claims t) (show-body-at t) show-body.Post
-show-body-show-mark-requires t c κs = let L = show-body-copied t (c .before .before .before .before .before .before .before .before .before .before .before) in
-    just-room GE _ _ (called _ _ _ _ _ _ _ L _ _ (shown-then _ _ _ _ _ _ _ _ (c .before .before .before .before .before .before .before .show-fields .ensures) (c .before .before .before .show-extension .ensures)) .fits)
-
-show-body-returns : (t : ℕ) → show-body-lts.Need-returns (show-body-claims t) (show-body-at t) show-body.Post
-show-body-returns t c = let L = show-body-copied t (c .before .before .before .before .before .before .before .before .before .before .before .before .before .before) in
-    called _ _ _ _ _ _ _ L _ _ (shown-then _ _ _ _ _ _ _ _ (c .before .before .before .before .before .before .before .before .before .before .show-fields .ensures) (c .before .before .before .before .before .before .show-extension .ensures)) .whole _ _ (shown-just GE 2 _ _ _ _ (c .before .before .show-mark .ensures .0) refl (c .before .before .show-mark .ensures .1))
+close-group-returns-2 : (t : ℕ) → close-group-lts.Need-returns-2 (close-group-claims t) (close-group-at t) close-group.Post
+close-group-returns-2 t c = let a = c .before .before .before .before .before .before .before .args in
+    shown-opens _ _ _ _ _ _ (end-fields (a .table .now) (a .levels) (a .bytes .now) (a .scope) _ (c .before .scope2 .given .1)) (shown-none _ _)
 
 abbrev show-extending-claims : ℕ → show-extending-lts.Claims
 show-extending-claims t = (read-u32-reads.Asked, read-u32-reads.Learnt, read-u64-reads.Asked, read-u64-reads.Learnt, is-known-reads.Asked, is-known-reads.Learnt, show-nested-below t, show-nested.Post, show-bytes-reads.Asked, show-bytes-reads.Learnt)
@@ -264,12 +252,12 @@ show-extending-show-nested-requires : (t : ℕ) → show-extending-lts.Need-show
 show-extending-show-nested-requires t c κs = let a = c .before .before .before .before .before .before .before .before .before .args in let R = c .before .before .before .before .before .before .before .before .before .pre .1 in let t = a .table .now in let b = a .bytes .now in let I = innerOf t (a .levels) in let ip = ap (λ (n : ℕ). a .at + n) (c .before .before .before .before .read-u32 .ensures .0) in
     let q = extending-inside (schema t) I b (a .at) _ _ ip refl _ (R .3 .reads) in
     let k = rw (c .before .before .before .read-u64 .ensures) at (sym (c .before .before .is-known .ensures)) ∙ c .before .if1 .taken in
-    (search needs, (R .0, R .1, q .1, (0, fits-opens _ _ _ _ (extending-known (schema t) I b (a .at) _ _ ip refl k) (R .3))))
+    (search needs, (R .0, R .1, q .1, fits-opens _ _ _ _ (extending-known (schema t) I b (a .at) _ _ ip refl k) (R .3)))
 
 show-extending-returns : (t : ℕ) → show-extending-lts.Need-returns (show-extending-claims t) (show-extending-at t) show-extending.Post
 show-extending-returns t c = let a = c .before .before .before .before .before .before .before .before .before .before .before .before .args in let t = a .table .now in let b = a .bytes .now in let I = innerOf t (a .levels) in let ip = ap (λ (n : ℕ). a .at + n) (c .before .before .before .before .before .before .before .read-u32 .ensures .0) in
     let k = rw (c .before .before .before .before .before .before .read-u64 .ensures) at (sym (c .before .before .before .before .before .is-known .ensures)) ∙ c .before .before .before .before .if1 .taken in
-    shown-opens _ _ _ _ _ _ (extending-known (schema t) I b (a .at) _ _ ip refl k) (c .before .before .show-nested .ensures 0)
+    shown-opens _ _ _ _ _ _ (extending-known (schema t) I b (a .at) _ _ ip refl k) (c .before .before .show-nested .ensures)
 
 show-extending-read-u32-requires-2 : (t : ℕ) → show-extending-lts.Need-read-u32-requires-2 (show-extending-claims t) (show-extending-at t) show-extending.Post
 show-extending-read-u32-requires-2 t c κs = let a = c .before .before .before .before .before .before .before .before .args in let R = c .before .before .before .before .before .before .before .before .pre .1 in let t = a .table .now in let b = a .bytes .now in let I = innerOf t (a .levels) in let ip = ap (λ (n : ℕ). a .at + n) (c .before .before .before .read-u32 .ensures .0) in
@@ -422,27 +410,32 @@ show-fields-returns t c = let a = c .before .before .before .before .before .bef
     fields-done _ _ _ b (c .before .before .field-count .result) (c .before .loop .i) (c .before .loop .place) _ _ I sw S es t (c .before .loop .field) (c .before .loop .inv .5) (c .loop-test .left)
 
 abbrev show-group-claims : ℕ → show-group-lts.Claims
-show-group-claims t = (group-total-reads.Asked, group-total-reads.Learnt, read-u64-reads.Asked, read-u64-reads.Learnt, find-reads.Asked, find-reads.Learnt, show-body-below t, show-body.Post)
+show-group-claims t = (open-group-reads.Asked, open-group-reads.Learnt, show-fields-below t, show-fields.Post, close-group-below t, close-group.Post)
 
-show-group-read-u64-requires : (t : ℕ) → show-group-lts.Need-read-u64-requires (show-group-claims t) (show-group-at t) show-group.Post
-show-group-read-u64-requires t c κs = let a = c .before .before .before .before .before .args in let R = c .before .before .before .before .before .pre .1 in omega (arith, head (a .table .now) (a .levels) (R .2 .0) (a .bytes .now) _ (R .2 .1 .reads) .long)
+show-group-open-group-requires : (t : ℕ) → show-group-lts.Need-open-group-requires (show-group-claims t) (show-group-at t) show-group.Post
+show-group-open-group-requires t c κs = let a = c .before .before .before .before .before .args in let R = c .before .before .before .before .before .pre .1 in let t = a .table .now in let b = a .bytes .now in let S = group-readable t (a .levels) (a .depth) b (a .at) _ (R .0) (a .scope) (R .2) _ refl _ (R .3 .reads) in
+    (R .0, S .some, S .long, just-room _ _ _ (first-fits _ _ _ _ _ _ _ (opened _ _ _ _ _ _ _ (group-parts t (a .levels) (a .depth) b (a .at) (a .scope) (R .2) _ _ refl refl) (begun _ _ _ (R .3)))))
 
-show-group-find-requires : (t : ℕ) → show-group-lts.Need-find-requires (show-group-claims t) (show-group-at t) show-group.Post
-show-group-find-requires t c κs = let P = c .before .before .before .before .before .before .pre .1 .0 in
-    (rw (sym (c .before .group-total .ensures .0 ∙ P .total)) at (P .placed), P .long, omega (arith, c .before .group-total .ensures .0, P .total, P .few), P .small)
+-- what is left behind its head, and what is asked for its fields
+show-group-opened : (t : ℕ) (c : show-group-lts.After-open-group (show-group-claims t) (show-group-at t) show-group.Post) → let a = c .before .before .before .before .before .before .args in let t = a .table .now in let b = a .bytes .now in let o = c .open-group .result in
+    Left (groupOf t (a .levels) (a .depth) (a .scope) b (a .at)) (a .pos) (a .out .now) (then (passage (staticOf t (o .levels) (a .depth) (o .group)) b (a .at)) (endOf t (o .levels) (a .scope) b)) (o .pos) (c .open-group .last .1 .1 .1 .1 .1 .0)
+    × Readable t (a .levels) (a .depth) b (a .at) (a .scope) (o .group)
+show-group-opened t c = let a = c .before .before .before .before .before .before .args in let R = c .before .before .before .before .before .before .pre .1 in let t = a .table .now in let b = a .bytes .now in let o = c .open-group .ensures in (
+  called _ _ _ _ _ _ _ (opened _ _ _ _ _ _ _ (group-parts t (a .levels) (a .depth) b (a .at) (a .scope) (R .2) _ _ (o .0) (o .1)) (begun _ _ _ (R .3))) _ _ (shown-just _ _ _ _ _ _ (o .2) refl (o .3)),
+  group-readable t (a .levels) (a .depth) b (a .at) _ (R .0) (a .scope) (R .2) _ (o .0) _ (R .3 .reads),
+)
 
-show-group-sub-show-body : (t : ℕ) → show-group-lts.Need-sub-show-body (show-group-claims t) (show-group-at t) show-group.Post
-show-group-sub-show-body t c = let a = c .before .before .before .before .before .before .before .args in let R = c .before .before .before .before .before .before .before .pre .1 in omega (arith, head (a .table .now) (a .levels) (R .2 .0) (a .bytes .now) _ (R .2 .1 .reads) .some)
+show-group-show-fields-requires : (t : ℕ) → show-group-lts.Need-show-fields-requires (show-group-claims t) (show-group-at t) show-group.Post
+show-group-show-fields-requires t c κs = let o = show-group-opened t (c .before .before .before) in let S = o .1 in let R = c .before .before .before .before .before .before .before .before .before .pre .1 in
+    (omega (arith, S .some), (R .0, R .1, S .wide, S .inside, S .flat, first-fits _ _ _ _ _ _ _ (o .0)))
 
-show-group-show-body-requires : (t : ℕ) → show-group-lts.Need-show-body-requires (show-group-claims t) (show-group-at t) show-group.Post
-show-group-show-body-requires t c κs = let a = c .before .before .before .before .before .before .before .before .args in let R = c .before .before .before .before .before .before .before .before .pre .1 in let t = a .table .now in let b = a .bytes .now in let H = head t (a .levels) (R .2 .0) b _ (R .2 .1 .reads) in
-    let g = c .before .find .ensures .0 ∙ find-whole (schema t) _ _ (c .before .before .before .group-total .ensures .0 ∙ c .before .before .before .before .before .before .before .before .pre .1 .0 .total) ∙ ap (find (schema t)) (c .before .before .read-u64 .ensures) in
-    (omega (arith, H .some), (R .0, R .1, rw (sym g) at (H .inside), fits-opens _ _ _ _ (group-opens t (a .levels) (R .2 .0) b _ g) (R .2 .1)))
+show-group-close-group-requires : (t : ℕ) → show-group-lts.Need-close-group-requires (show-group-claims t) (show-group-at t) show-group.Post
+show-group-close-group-requires t c κs = let o = show-group-opened t (c .before .before .before .before .before .before .before) in let S = o .1 in let a = c .before .before .before .before .before .before .before .before .before .before .before .before .before .args in let R = c .before .before .before .before .before .before .before .before .before .before .before .before .before .pre .1 in
+    (omega (arith, S .some, shallow-some (schema (a .table .now)) _ _ (S .flat)), (R .0, R .1, S .long, called _ _ _ _ _ _ _ (o .0) _ _ (c .before .before .before .show-fields .ensures) .fits))
 
 show-group-returns : (t : ℕ) → show-group-lts.Need-returns (show-group-claims t) (show-group-at t) show-group.Post
-show-group-returns t c = let a = c .before .before .before .before .before .before .before .before .before .before .before .args in let t = a .table .now in
-    let g = c .before .before .before .before .find .ensures .0 ∙ find-whole (schema t) _ _ (c .before .before .before .before .before .before .group-total .ensures .0 ∙ c .before .before .before .before .before .before .before .before .before .before .before .pre .1 .0 .total) ∙ ap (find (schema t)) (c .before .before .before .before .before .read-u64 .ensures) in
-    λ allowed. shown-opens _ _ _ _ _ _ (group-opens t (a .levels) allowed (a .bytes .now) _ g) (c .before .before .show-body .ensures)
+show-group-returns t c = let o = show-group-opened t (c .before .before .before .before .before .before .before .before .before .before) in
+    called _ _ _ _ _ _ _ (o .0) _ _ (c .before .before .before .before .before .before .show-fields .ensures) .whole _ _ (c .before .before .close-group .ensures)
 
 abbrev show-groups-Inv-loop : show-groups-lts.InvT-loop
 show-groups-Inv-loop table index bytes levels total at out₀ pos i₀ place₀ next₀ out i place next =
@@ -470,7 +463,7 @@ show-groups-returns : (t : ℕ) → show-groups-lts.Need-returns (show-groups-cl
 show-groups-returns t c = items-done _ _ _ _ _ _ _ _ _ _ _ (c .before .loop .inv .3) (c .loop-test .left)
 
 abbrev show-item-claims : ℕ → show-item-lts.Claims
-show-item-claims t = (wide-reads.Asked, wide-reads.Learnt, show-bytes-reads.Asked, show-bytes-reads.Learnt, tested-width-reads.Asked, tested-width-reads.Learnt, show-inline-reads.Asked, show-inline-reads.Learnt, read-u32-reads.Asked, read-u32-reads.Learnt, show-mark-reads.Asked, show-mark-reads.Learnt, show-fields-below t, show-fields.Post, show-nested-below t, show-nested.Post)
+show-item-claims t = (wide-reads.Asked, wide-reads.Learnt, show-bytes-reads.Asked, show-bytes-reads.Learnt, tested-width-reads.Asked, tested-width-reads.Learnt, show-inline-reads.Asked, show-inline-reads.Learnt, read-u32-reads.Asked, read-u32-reads.Learnt, show-mark-reads.Asked, show-mark-reads.Learnt, show-group-below t, show-group.Post, show-nested-below t, show-nested.Post)
 
 show-item-show-bytes-requires : (t : ℕ) → show-item-lts.Need-show-bytes-requires (show-item-claims t) (show-item-at t) show-item.Post
 show-item-show-bytes-requires t c κs = let a = c .before .before .before .before .before .before .before .before .before .args in let R = c .before .before .before .before .before .before .before .before .before .pre .1 in let t = a .table .now in let b = a .bytes .now in let I = innerOf t (a .levels) in let es = enums t in let sw = widthOf t (a .depth) in let S = staticOf t (a .levels) (a .depth) in let e = c .before .before .before .kind .given .1 ∙ ap Plain (sym (c .before .wide .ensures .0)) in let h : a .at + c .before .wide .result ≤ length b = omega (arith, wide-plain sw es (a .kind) _ e, R .2) in
@@ -500,18 +493,19 @@ show-item-show-bytes-requires-3 t c κs = let a = c .before .before .before .bef
 show-item-show-mark-requires : (t : ℕ) → show-item-lts.Need-show-mark-requires (show-item-claims t) (show-item-at t) show-item.Post
 show-item-show-mark-requires t c κs = let a = c .before .before .before .before .before .before .before .before .args in let R = c .before .before .before .before .before .before .before .before .pre .1 in let t = a .table .now in let b = a .bytes .now in let I = innerOf t (a .levels) in let es = enums t in let S = staticOf t (a .levels) (a .depth) in let e = c .before .before .kind5 .given .1 in let L = opened _ _ _ _ _ _ _ (item-static I S es b (a .at) (a .kind) _ e) (begun _ _ _ (R .4)) in mark-room SG _ _ (first-fits _ _ _ _ _ _ _ L)
 
-show-item-show-fields-requires : (t : ℕ) → show-item-lts.Need-show-fields-requires (show-item-claims t) (show-item-at t) show-item.Post
-show-item-show-fields-requires t c κs = let a = c .before .before .before .before .before .before .before .before .before .before .before .before .args in let R = c .before .before .before .before .before .before .before .before .before .before .before .before .pre .1 in let t = a .table .now in let b = a .bytes .now in let I = innerOf t (a .levels) in let es = enums t in let sw = widthOf t (a .depth) in let S = staticOf t (a .levels) (a .depth) in let e = c .before .before .before .before .before .before .kind5 .given .1 in let L = opened _ _ _ _ _ _ _ (item-static I S es b (a .at) (a .kind) _ e) (begun _ _ _ (R .4)) in
+show-item-show-group-requires : (t : ℕ) → show-item-lts.Need-show-group-requires (show-item-claims t) (show-item-at t) show-item.Post
+unfolding groupOf takes Lies
+show-item-show-group-requires t c κs = let a = c .before .before .before .before .before .before .before .before .before .before .before .before .args in let R = c .before .before .before .before .before .before .before .before .before .before .before .before .pre .1 in let t = a .table .now in let b = a .bytes .now in let I = innerOf t (a .levels) in let es = enums t in let sw = widthOf t (a .depth) in let S = staticOf t (a .levels) (a .depth) in let e = c .before .before .before .before .before .before .kind5 .given .1 in let L = opened _ _ _ _ _ _ _ (item-static I S es b (a .at) (a .kind) _ e) (begun _ _ _ (R .4)) in
     let w = wide-static sw es (a .kind) _ e in
     let q = and-both (leb 1 (sw _)) (shallow (schema t) (a .depth) _) (sym (kind-static sw es (a .kind) (shallow (schema t) (a .depth)) _ e) ∙ R .3) in
-    (search needs, (R .0, R .1, omega (arith, w, R .2), static-inside (schema t) (a .depth) _ (q .0), q .1, called _ _ _ _ _ _ _ L _ _ (shown-mark SG _ is-SG _ _ _ _ (c .before .before .before .show-mark .ensures .0) (c .before .before .before .show-mark .ensures .1)) .fits))
+    (search needs, (R .0, R .1, (omega (arith, w, R .2), static-inside (schema t) (a .depth) _ (q .0), q .1), called _ _ _ _ _ _ _ L _ _ (shown-mark SG _ is-SG _ _ _ _ (c .before .before .before .show-mark .ensures .0) (c .before .before .before .show-mark .ensures .1)) .fits))
 
 show-item-read-u32-requires-3 : (t : ℕ) → show-item-lts.Need-read-u32-requires-3 (show-item-claims t) (show-item-at t) show-item.Post
 show-item-read-u32-requires-3 t c κs = let a = c .before .before .before .before .before .before .before .args in let R = c .before .before .before .before .before .before .before .pre .1 in let t = a .table .now in let es = enums t in let sw = widthOf t (a .depth) in omega (arith, wide-dynamic sw es (a .kind) _ (c .before .kind6 .given .1), R .2)
 
 show-item-show-nested-requires : (t : ℕ) → show-item-lts.Need-show-nested-requires (show-item-claims t) (show-item-at t) show-item.Post
 show-item-show-nested-requires t c κs = let a = c .before .before .before .before .before .before .before .before .before .args in let R = c .before .before .before .before .before .before .before .before .before .pre .1 in let t = a .table .now in let b = a .bytes .now in let I = innerOf t (a .levels) in let es = enums t in let S = staticOf t (a .levels) (a .depth) in let e = c .before .before .before .kind6 .given .1 in let ip = ap (λ (n : ℕ). a .at + n) (c .before .read-u323 .ensures .0) in
-    (search needs, (R .0, R .1, group-inside I S es b (a .at) (a .kind) _ _ ip refl _ e _ (R .4 .reads), (_, fits-opens _ _ _ _ (item-group I S es b (a .at) (a .kind) _ _ ip refl _ e) (R .4))))
+    (search needs, (R .0, R .1, group-inside I S es b (a .at) (a .kind) _ _ ip refl _ e _ (R .4 .reads), fits-opens _ _ _ _ (item-group I S es b (a .at) (a .kind) _ _ ip refl _ e) (R .4)))
 
 show-item-returns : (t : ℕ) → show-item-lts.Need-returns (show-item-claims t) (show-item-at t) show-item.Post
 show-item-returns t c = let a = c .before .before .before .before .before .before .before .before .before .before .before .before .args in let R = c .before .before .before .before .before .before .before .before .before .before .before .before .pre .1 in let t = a .table .now in let b = a .bytes .now in let I = innerOf t (a .levels) in let es = enums t in let sw = widthOf t (a .depth) in let S = staticOf t (a .levels) (a .depth) in let e = c .before .before .before .before .before .before .kind .given .1 ∙ ap Plain (sym (c .before .before .before .before .wide .ensures .0)) in let h : a .at + c .before .before .before .before .wide .result ≤ length b = omega (arith, wide-plain sw es (a .kind) _ e, R .2) in
@@ -532,11 +526,12 @@ show-item-returns-4 t c = let a = c .before .before .before .before .before .bef
     shown-opens _ _ _ _ _ _ (item-text I S es b (a .at) (a .kind) _ _ ip n _ e) (shown-bytes ST _ is-ST _ _ _ _ _ _ b h (c .before .before .show-bytes3 .ensures .0) (c .before .before .show-bytes3 .ensures .1))
 
 show-item-returns-5 : (t : ℕ) → show-item-lts.Need-returns-5 (show-item-claims t) (show-item-at t) show-item.Post
-show-item-returns-5 t c = let a = c .before .before .before .before .before .before .before .before .before .before .before .before .before .before .before .args in let R = c .before .before .before .before .before .before .before .before .before .before .before .before .before .before .before .pre .1 in let t = a .table .now in let b = a .bytes .now in let I = innerOf t (a .levels) in let es = enums t in let S = staticOf t (a .levels) (a .depth) in let e = c .before .before .before .before .before .before .before .before .before .kind5 .given .1 in let L = opened _ _ _ _ _ _ _ (item-static I S es b (a .at) (a .kind) _ e) (begun _ _ _ (R .4)) in called _ _ _ _ _ _ _ L _ _ (shown-mark SG _ is-SG _ _ _ _ (c .before .before .before .before .before .before .show-mark .ensures .0) (c .before .before .before .before .before .before .show-mark .ensures .1)) .whole _ _ (c .before .before .show-fields .ensures)
+unfolding groupOf
+show-item-returns-5 t c = let a = c .before .before .before .before .before .before .before .before .before .before .before .before .before .before .before .args in let R = c .before .before .before .before .before .before .before .before .before .before .before .before .before .before .before .pre .1 in let t = a .table .now in let b = a .bytes .now in let I = innerOf t (a .levels) in let es = enums t in let S = staticOf t (a .levels) (a .depth) in let e = c .before .before .before .before .before .before .before .before .before .kind5 .given .1 in let L = opened _ _ _ _ _ _ _ (item-static I S es b (a .at) (a .kind) _ e) (begun _ _ _ (R .4)) in called _ _ _ _ _ _ _ L _ _ (shown-mark SG _ is-SG _ _ _ _ (c .before .before .before .before .before .before .show-mark .ensures .0) (c .before .before .before .before .before .before .show-mark .ensures .1)) .whole _ _ (c .before .before .show-group .ensures)
 
 show-item-returns-6 : (t : ℕ) → show-item-lts.Need-returns-6 (show-item-claims t) (show-item-at t) show-item.Post
 show-item-returns-6 t c = let a = c .before .before .before .before .before .before .before .before .before .before .before .before .args in let t = a .table .now in let b = a .bytes .now in let I = innerOf t (a .levels) in let es = enums t in let S = staticOf t (a .levels) (a .depth) in let e = c .before .before .before .before .before .before .kind6 .given .1 in let ip = ap (λ (n : ℕ). a .at + n) (c .before .before .before .before .read-u323 .ensures .0) in
-    shown-opens _ _ _ _ _ _ (item-group I S es b (a .at) (a .kind) _ _ ip refl _ e) (c .before .before .show-nested .ensures _)
+    shown-opens _ _ _ _ _ _ (item-group I S es b (a .at) (a .kind) _ _ ip refl _ e) (c .before .before .show-nested .ensures)
 
 abbrev show-items-Inv-loop : show-items-lts.InvT-loop
 show-items-Inv-loop table index bytes levels depth kind width total at out₀ pos i₀ place₀ next₀ out i place next =
@@ -578,15 +573,17 @@ abbrev show-nested-claims : ℕ → show-nested-lts.Claims
 show-nested-claims t = (read-u32-reads.Asked, read-u32-reads.Learnt, show-mark-reads.Asked, show-mark-reads.Learnt, show-group-below t, show-group.Post)
 
 show-nested-show-mark-requires : (t : ℕ) → show-nested-lts.Need-show-mark-requires (show-nested-claims t) (show-nested-at t) show-nested.Post
-show-nested-show-mark-requires t c κs = let a = c .before .before .before .before .before .before .args in let R = c .before .before .before .before .before .before .pre .1 in let t = a .table .now in let b = a .bytes .now in let L = opened _ _ _ _ _ _ _ (marked-inner GB b (a .place) t (a .levels) (R .3 .0) _) (begun _ _ _ (R .3 .1)) in mark-room GB _ _ (first-fits _ _ _ _ _ _ _ L)
+show-nested-show-mark-requires t c κs = let a = c .before .before .before .before .before .before .args in let R = c .before .before .before .before .before .before .pre .1 in let t = a .table .now in let b = a .bytes .now in let L = opened _ _ _ _ _ _ _ (marked-inner GB b (a .place) t (a .levels) (a .allowed) _) (begun _ _ _ (R .3)) in mark-room GB _ _ (first-fits _ _ _ _ _ _ _ L)
 
 show-nested-show-group-requires : (t : ℕ) → show-nested-lts.Need-show-group-requires (show-nested-claims t) (show-nested-at t) show-nested.Post
-show-nested-show-group-requires t c κs = let a = c .before .before .before .before .before .before .before .before .before .before .before .args in let R = c .before .before .before .before .before .before .before .before .before .before .before .pre .1 in let t = a .table .now in let b = a .bytes .now in let L = opened _ _ _ _ _ _ _ (marked-inner GB b (a .place) t (a .levels) (R .3 .0) _) (begun _ _ _ (R .3 .1)) in let m : a .place + (4 + c .before .before .before .before .before .before .read-u32 .result) - a .place ≡ 4 + word (a .place) b = add-sub-cancel-left (a .place) _ ∙ ap (λ (n : ℕ). 4 + n) (c .before .before .before .before .before .before .read-u32 .ensures .0) in
-    (search needs, (R .0, search needs, (R .3 .0, rw m (called _ _ _ _ _ _ _ L _ _ (shown-mark GB _ is-GB _ _ _ _ (c .before .before .before .before .show-mark .ensures .0) (c .before .before .before .before .show-mark .ensures .1)) .fits))))
+unfolding groupOf takes Lies
+show-nested-show-group-requires t c κs = let a = c .before .before .before .before .before .before .before .before .before .before .before .args in let R = c .before .before .before .before .before .before .before .before .before .before .before .pre .1 in let t = a .table .now in let b = a .bytes .now in let L = opened _ _ _ _ _ _ _ (marked-inner GB b (a .place) t (a .levels) (a .allowed) _) (begun _ _ _ (R .3)) in let m : a .place + (4 + c .before .before .before .before .before .before .read-u32 .result) - a .place ≡ 4 + word (a .place) b = add-sub-cancel-left (a .place) _ ∙ ap (λ (n : ℕ). 4 + n) (c .before .before .before .before .before .before .read-u32 .ensures .0) in
+    (search needs, (R .0, search needs, (refl, refl), rw m (called _ _ _ _ _ _ _ L _ _ (shown-mark GB _ is-GB _ _ _ _ (c .before .before .before .before .show-mark .ensures .0) (c .before .before .before .before .show-mark .ensures .1)) .fits)))
 
 show-nested-returns : (t : ℕ) → show-nested-lts.Need-returns (show-nested-claims t) (show-nested-at t) show-nested.Post
+unfolding groupOf
 show-nested-returns t c = let a = c .before .before .before .before .before .before .before .before .before .before .before .before .before .before .args in let t = a .table .now in let b = a .bytes .now in let m : a .place + (4 + c .before .before .before .before .before .before .before .before .before .read-u32 .result) - a .place ≡ 4 + word (a .place) b = add-sub-cancel-left (a .place) _ ∙ ap (λ (n : ℕ). 4 + n) (c .before .before .before .before .before .before .before .before .before .read-u32 .ensures .0) in
-    λ allowed. shown-opens _ _ _ _ _ _ (marked-inner GB b (a .place) t (a .levels) allowed _) (shown-then _ _ _ _ _ _ _ _ (shown-mark GB _ is-GB _ _ _ _ (c .before .before .before .before .before .before .before .show-mark .ensures .0) (c .before .before .before .before .before .before .before .show-mark .ensures .1)) (rw m at (c .before .before .show-group .ensures allowed)))
+    shown-opens _ _ _ _ _ _ (marked-inner GB b (a .place) t (a .levels) (a .allowed) _) (shown-then _ _ _ _ _ _ _ _ (shown-mark GB _ is-GB _ _ _ _ (c .before .before .before .before .before .before .before .show-mark .ensures .0) (c .before .before .before .before .before .before .before .show-mark .ensures .1)) (rw m at (c .before .before .show-group .ensures)))
 
 abbrev show-value-claims : ℕ → show-value-lts.Claims
 show-value-claims t = (kind-at-reads.Asked, kind-at-reads.Learnt, kind-width-reads.Asked, kind-width-reads.Learnt, is-sequence-reads.Asked, is-sequence-reads.Learnt, read-u32-reads.Asked, read-u32-reads.Learnt, show-bytes-reads.Asked, show-bytes-reads.Learnt, show-items-below t, show-items.Post)
@@ -629,11 +626,11 @@ show-value-same-length t c = ⊎-elim (λ w. let e = ap length (w .7) in search 
 show-value-returns : (t : ℕ) → show-value-lts.Need-returns (show-value-claims t) (show-value-at t) show-value.Post
 show-value-returns t c = show-value-items t (c .before .before .before .before) .1 .whole _ _ (c .before .before .show-items .ensures)
 
-pub +show-body+show-extending+show-extension+show-field+show-fields+show-group+show-groups+show-item+show-items+show-nested+show-value-spec :
+pub +close-group+show-extending+show-extension+show-field+show-fields+show-group+show-groups+show-item+show-items+show-nested+show-value-spec :
     {M : Type 1} → statement M
-+show-body+show-extending+show-extension+show-field+show-fields+show-group+show-groups+show-item+show-items+show-nested+show-value-spec =
++close-group+show-extending+show-extension+show-field+show-fields+show-group+show-groups+show-item+show-items+show-nested+show-value-spec =
     close
-    μ-show-body
+    μ-close-group
     μ-show-extending
     μ-show-extension
     μ-show-field
@@ -643,19 +640,19 @@ pub +show-body+show-extending+show-extension+show-field+show-fields+show-group+s
     μ-show-item
     μ-show-items
     μ-show-nested
-    μ-show-value (λ t. show-body-lts.spec (show-body-claims t) (show-body-at t)
-    show-body.Post (λ c. search needs) (λ c. search needs) (show-body-part-copy-end t) (show-body-copy-requires t) (λ c. search needs) (show-body-show-fields-requires t) (show-body-show-extension-requires t) (show-body-show-mark-requires t) (λ c. search needs) (show-body-returns t)) (λ t. show-extending-lts.spec (show-extending-claims t) (show-extending-at t)
+    μ-show-value (λ t. close-group-lts.spec (close-group-claims t) (close-group-at t)
+    close-group.Post (λ c. search needs) (close-group-show-extension-requires t) (close-group-show-mark-requires t) (λ c. search needs) (λ c. search needs) (close-group-returns t) (close-group-returns-2 t)) (λ t. show-extending-lts.spec (show-extending-claims t) (show-extending-at t)
     show-extending.Post (λ c κs. search needs) (λ c. search needs) (λ c. search needs) (show-extending-read-u64-requires t) (λ c κs. search needs) (show-extending-show-nested-requires t) (λ c. search needs) (show-extending-returns t) (show-extending-read-u32-requires-2 t) (λ c. search needs) (show-extending-show-bytes-requires t) (λ c. search needs) (show-extending-returns-2 t)) (λ t. show-extension-lts.spec (show-extension-claims t) (show-extension-at t)
     show-extension.Post (λ c κs. search needs) (show-extension-returns t) (λ c. search needs) (show-extension-read-u32-requires-2 t) (show-extension-returns-2 t) (show-extension-show-bytes-requires t) (λ c. search needs) (show-extension-show-groups-requires t) (λ c. search needs) (show-extension-returns-3 t)) (λ t. show-field-lts.spec (show-field-claims t) (show-field-at t)
     show-field.Post (λ c κs. search needs) (show-field-shared-slice-read-if2 t) (show-field-show-mark-requires t) (λ c. search needs) (show-field-returns t) (λ c. search needs) (show-field-show-value-requires t) (λ c. search needs) (show-field-returns-2 t)) (λ t. show-fields-lts.spec (show-fields-claims t) (show-fields-at t)
     show-fields.Post
     show-fields-Inv-loop
     show-fields-μ-loop (λ c κs. search needs) (show-fields-field-count-requires t) (show-fields-sub-deeper t) (λ c. search needs) (show-fields-loop-holds t) (λ c κs. search needs) (show-fields-show-bytes-requires t) (λ c. search needs) (λ c. search needs) (λ c. search needs) (λ c. search needs) (show-fields-loop-again t) (λ c κs. search needs) (show-fields-show-field-requires t) (λ c. search needs) (λ c. search needs) (λ c. search needs) (λ c. search needs) (show-fields-loop-again-2 t) (λ c. search needs) (show-fields-returns t)) (λ t. show-group-lts.spec (show-group-claims t) (show-group-at t)
-    show-group.Post (λ c κs. search needs) (show-group-read-u64-requires t) (show-group-find-requires t) (show-group-sub-show-body t) (show-group-show-body-requires t) (λ c. search needs) (show-group-returns t)) (λ t. show-groups-lts.spec (show-extending-below t, show-extending.Post) (show-groups-at t)
+    show-group.Post (show-group-open-group-requires t) (show-group-show-fields-requires t) (show-group-close-group-requires t) (λ c. search needs) (show-group-returns t)) (λ t. show-groups-lts.spec (show-extending-below t, show-extending.Post) (show-groups-at t)
     show-groups.Post
     show-groups-Inv-loop
     show-groups-μ-loop (show-groups-loop-holds t) (show-groups-show-extending-requires t) (λ c. search needs) (λ c. search needs) (λ c. search needs) (show-groups-loop-again t) (λ c. search needs) (show-groups-returns t)) (λ t. show-item-lts.spec (show-item-claims t) (show-item-at t)
-    show-item.Post (λ c. search needs) (λ c κs. search needs) (show-item-show-bytes-requires t) (λ c. search needs) (λ c κs. search needs) (λ c κs. search needs) (show-item-show-bytes-requires-2 t) (λ c. search needs) (show-item-show-inline-requires t) (λ c. search needs) (show-item-read-u32-requires t) (λ c. search needs) (show-item-read-u32-requires-2 t) (λ c. search needs) (show-item-show-bytes-requires-3 t) (λ c. search needs) (show-item-show-mark-requires t) (show-item-show-fields-requires t) (λ c. search needs) (show-item-read-u32-requires-3 t) (λ c. search needs) (show-item-show-nested-requires t) (λ c. search needs) (show-item-returns t) (λ c. search needs) (show-item-returns-2 t) (λ c. search needs) (show-item-returns-3 t) (λ c. search needs) (show-item-returns-4 t) (λ c. search needs) (show-item-returns-5 t) (λ c. search needs) (show-item-returns-6 t)) (λ t. show-items-lts.spec (show-items-claims t) (show-items-at t)
+    show-item.Post (λ c. search needs) (λ c κs. search needs) (show-item-show-bytes-requires t) (λ c. search needs) (λ c κs. search needs) (λ c κs. search needs) (show-item-show-bytes-requires-2 t) (λ c. search needs) (show-item-show-inline-requires t) (λ c. search needs) (show-item-read-u32-requires t) (λ c. search needs) (show-item-read-u32-requires-2 t) (λ c. search needs) (show-item-show-bytes-requires-3 t) (λ c. search needs) (show-item-show-mark-requires t) (show-item-show-group-requires t) (λ c. search needs) (show-item-read-u32-requires-3 t) (λ c. search needs) (show-item-show-nested-requires t) (λ c. search needs) (show-item-returns t) (λ c. search needs) (show-item-returns-2 t) (λ c. search needs) (show-item-returns-3 t) (λ c. search needs) (show-item-returns-4 t) (λ c. search needs) (show-item-returns-5 t) (λ c. search needs) (show-item-returns-6 t)) (λ t. show-items-lts.spec (show-items-claims t) (show-items-at t)
     show-items.Post
     show-items-Inv-loop
     show-items-μ-loop (λ c. search needs) (λ c κs. search needs) (show-items-show-plain-requires t) (λ c. search needs) (show-items-returns t) (show-items-loop-holds t) (show-items-show-item-requires t) (show-items-add-place t) (λ c. search needs) (λ c. search needs) (show-items-loop-again t) (λ c. search needs) (show-items-returns-2 t)) (λ t. show-nested-lts.spec (show-nested-claims t) (show-nested-at t)

@@ -3,6 +3,15 @@
 // The sheet is read record by record, in document 01's order, and nothing is written. How many bytes
 // a group's fields take is known from the table, so only what goes into data areas is counted. `pos`
 // is where the next record begins in the sheet, and functions count on from `before`.
+use sheet::GB;
+use sheet::GE;
+use sheet::NO;
+use sheet::SG;
+use sheet::SQ;
+use sheet::ST;
+use sheet::VA;
+use sheet::XT;
+use sheet::XU;
 ghost use mathlib.Core.Path.{_≡_};
 ghost use mathlib.Core.Bool.{true, _&&_};
 ghost use mathlib.Core.List.{List};
@@ -20,24 +29,6 @@ ghost use Rattle.sheet.specs.Written.{InnerW, Writer, indirectW, itemsW, extend
 ghost use Rattle.sheet.specs.Writers.{itemW, staticOf, plainOf, itemOf, fieldOf, extendingOf, textOf, extensionOf};
 ghost use Rattle.parsing.specs.Count.{capped};
 ghost use Rattle.parsing.specs.Parse.{parsedOf, passed, refused, Finds, recordFault, countedFault, endW, groupOf, closeOf, Ready, Within, unopened, Opens};
-
-const VA: [u8; 2] = *b"VA";
-
-const ST: [u8; 2] = *b"ST";
-
-const SG: [u8; 2] = *b"SG";
-
-const SQ: [u8; 2] = *b"SQ";
-
-const GB: [u8; 2] = *b"GB";
-
-const XT: [u8; 2] = *b"XT";
-
-const XU: [u8; 2] = *b"XU";
-
-const NO: [u8; 2] = *b"NO";
-
-const GE: [u8; 2] = *b"GE";
 
 // What a step finds: where the next record begins, and how many bytes there are so far. Where `number`
 // is not 0 it is the first fault's, and `place` is where that stands. The number has a whole word, so

@@ -17,23 +17,24 @@ ghost use Rattle.message.specs.Walk.{done, byte, word, strict, itemsR, walk};
 ghost use Rattle.message.specs.Check.{widthOf, staticOf};
 ghost use Rattle.sheet.specs.Show.{passage, takes, headOf, idOf, numberOf, endOf, groupOf, Lies, plainOf, itemOf, valueOf, fieldOf, nestedOf, extensionOf, extendingOf, Fits, Shown};
 
-const VA: [u8; 2] = *b"VA";
+// "a two-byte mark before each record"
+pub const VA: [u8; 2] = *b"VA";
 
-const ST: [u8; 2] = *b"ST";
+pub const ST: [u8; 2] = *b"ST";
 
-const SG: [u8; 2] = *b"SG";
+pub const SG: [u8; 2] = *b"SG";
 
-const SQ: [u8; 2] = *b"SQ";
+pub const SQ: [u8; 2] = *b"SQ";
 
-const GB: [u8; 2] = *b"GB";
+pub const GB: [u8; 2] = *b"GB";
 
-const XT: [u8; 2] = *b"XT";
+pub const XT: [u8; 2] = *b"XT";
 
-const XU: [u8; 2] = *b"XU";
+pub const XU: [u8; 2] = *b"XU";
 
-const NO: [u8; 2] = *b"NO";
+pub const NO: [u8; 2] = *b"NO";
 
-const GE: [u8; 2] = *b"GE";
+pub const GE: [u8; 2] = *b"GE";
 
 // RECORDS
 

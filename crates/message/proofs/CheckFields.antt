@@ -19,7 +19,7 @@ use Rattle.schema.proofs.Records.{fields-more, fields-none}
 use Rattle.schema.proofs.Groups.{placed-fields}
 use Rattle.schema.proofs.Types.{width-one, width-optional, width-required}
 use Rattle.schema.proofs.Depth.{and-both, shallow-fields, width-fields}
-use Rattle.message.specs.Sheet.{ST, GB, kindMark, fieldMark}
+use Rattle.message.specs.Sheet.{ST, kindMark, fieldMark}
 use Rattle.message.specs.Walk.{Here, here, strict, Reader, Inner, byte, locate, indirectR, innerR, itemsR, listR, textR, kindR, markedR, optionalR, valueR, fieldR, fieldsR, staticR}
 use Rattle.message.specs.Count.{Count, failed, counted, count, more, andThen}
 use Rattle.message.specs.Check.{countBy, after, placeBy, Lands, itemR, markedValueR, Ready}
@@ -188,17 +188,10 @@ module _ (I : Inner) (S : ℕ → Reader) (b : List ℕ) (base area : ℕ) (m : 
         let l′ = rw q at l in
         rw (q, e) (plain-items c n at l′)
 
-    -- strings, and dynamic groups
-    module _ (sw : ℕ → ℕ) (w n at : ℕ) (iw : w ≡ kindWidth sw (kindFrom es kind)) where
-      pub items-indirect : (u : Bool) → kind ≡ Indirect u
-          → itemsR w (itemR I S (kindFrom es kind)) n (here strict b base area) at m ≡ itemsR 4 (markedR ST (indirectR 26 1 (textR u))) n (here strict b base area) at m
-      unfolding kindFrom kindWidth kindMark kindR
-      items-indirect u e = let q : w ≡ 4 = iw ∙ rw e in rw (q, e)
-
-      pub items-dynamic : (g : ℕ) → kind ≡ Dynamic g
-          → itemsR w (itemR I S (kindFrom es kind)) n (here strict b base area) at m ≡ itemsR 4 (markedR GB (indirectR 26 1 (innerR I g))) n (here strict b base area) at m
-      unfolding kindFrom kindWidth kindMark kindR
-      items-dynamic g e = let q : w ≡ 4 = iw ∙ rw e in rw (q, e)
+    pub items-indirect : (sw : ℕ → ℕ) (w n at : ℕ) → w ≡ kindWidth sw (kindFrom es kind) → (u : Bool) → kind ≡ Indirect u
+        → itemsR w (itemR I S (kindFrom es kind)) n (here strict b base area) at m ≡ itemsR 4 (markedR ST (indirectR 26 1 (textR u))) n (here strict b base area) at m
+    unfolding kindFrom kindWidth kindMark kindR
+    items-indirect sw w n at iw u e = let q : w ≡ 4 = iw ∙ rw e in rw (q, e)
 
     module _ (at : ℕ) where
       pub item-plain : (sw : ℕ → ℕ) (c : ℕ) → kind ≡ Plain c → at + kindWidth sw (kindFrom es kind) ≤ length b → count (itemR I S (kindFrom es kind) (here strict b base area) at m) ≡ counted (2 + c) m

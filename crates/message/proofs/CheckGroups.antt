@@ -1,10 +1,10 @@
 -- Dynamic groups, the extension and the whole message: each way through them.
 use Prim.Native.Nat.{ℕ, min, zero, suc, _+_, _-_, _*_, _%_, _^_, _<_, _≤_}
-use mathlib.Core.Path.{_≡_, refl, sym, ap, _∙_}
+use mathlib.Core.Path.{_≡_, refl, ap, _∙_}
 use mathlib.Core.Bool.{Bool, true, false}
 use mathlib.Core.List.{List, [], _++_, append-nil}
 use native.Mathlib.Omega.{arith}
-use native.Mathlib.Nat.{mul-one, add-assoc}
+use native.Mathlib.Nat.{mul-one}
 use lib.ListN.{length, drop, replicate, length-append, drop-of-length-le}
 use borrow.Author.Tests.{lt-ltb, le-ltb, le-leb, lt-leb, eq-eqb, ne-eqb}
 use Rattle.wire.specs.Bytes.{part, splice, le}
@@ -17,12 +17,12 @@ use Rattle.message.specs.Walk.{Reading, refused, done, prefixed, next, H
 use Rattle.message.specs.Count.{Count, failed, counted, count, more, andThen}
 use Rattle.message.specs.Check.{packed, marksOf, closing, countBy, after, placeBy}
 use Rattle.message.specs.declared.Step.{Step}
-use Rattle.message.specs.declared.Step.the-variants.{Counted, Refused}
+use Rattle.message.specs.declared.Step.the-variants.{Counted}
 use Rattle.message.specs.declared.Located.{Located}
 use Rattle.message.specs.declared.Located.the-variants.{At, Nowhere}
-use Rattle.message.proofs.Count.{more-zero, more-more, more-then, then-then, then-passed, count-next, count-prefixed, count-marked, count-list, count-inner, length-mark}
+use Rattle.message.proofs.Count.{more-zero, more-more, then-then, then-passed, count-next, count-prefixed, count-marked, count-list, count-inner, length-mark}
 use Rattle.message.proofs.CheckMarks.{packed-is, not-scattered}
-use Rattle.message.proofs.CheckAnswers.{stays, goes-on, passed, stopped, bounded}
+use Rattle.message.proofs.CheckAnswers.{stays, goes-on, passed, bounded}
 use Rattle.message.proofs.CheckFields.{leads-nowhere, leads-to}
 
 -- A NESTED GROUP
@@ -81,17 +81,17 @@ module _ (gs : List Group) (I : Inner) (h : Here) (at : ℕ) (m : List ℕ) wher
 -- THE BODY
 
 close-is : (s u b m : List ℕ) (base area : ℕ) → length s ≡ 8
-    → count (padded (here strict b base area) (prefixed s (next (done u m) (λ m. done GE m)))) ≡ andThen (more 8 (counted (length u) m)) (closing b base area)
+    → count (padded (here strict b base area) (prefixed s (next (done u m) (λ m. done GE m)))) ≡ more 8 (andThen (counted (length u) m) (closing b base area))
 unfolding padded prefixed next andThen more closing count need
 close-is s u b m base area e = go (padsZero (drop area m) (drop area b))
   where
     go : (c : Bool) → count (need c (refused 6 (base + area + padsBefore (drop area m) (drop area b))) (done (s ++ (u ++ GE)) []))
-        ≡ more (8 + length u) (need c (failed 6 (base + area + padsBefore (drop area m) (drop area b))) (counted 2 []))
-    go true = rw (length-append s (u ++ GE), length-append u GE, e) (ap (λ (j : ℕ). counted j []) (sym (add-assoc 8 (length u) 2)))
+        ≡ more 8 (more (length u) (need c (failed 6 (base + area + padsBefore (drop area m) (drop area b))) (counted 2 [])))
+    go true = rw (length-append s (u ++ GE), length-append u GE, e)
     go false = refl
 
 closes : (s b : List ℕ) (base area : ℕ) (r : Reading) → length s ≡ 8
-    → count (padded (here strict b base area) (prefixed s (next r (λ m. done GE m)))) ≡ andThen (more 8 (count r)) (closing b base area)
+    → count (padded (here strict b base area) (prefixed s (next r (λ m. done GE m)))) ≡ more 8 (andThen (count r) (closing b base area))
 unfolding count andThen more next prefixed padded
 closes s b base area (done u m) e = close-is s u b m base area e
 closes s b base area (refused n p) e = refl
@@ -106,39 +106,24 @@ module _ (gs : List Group) (I : Inner) (g base : ℕ) (b : List ℕ) (a : ℕ) (
     unfolding bodyR behindR need next prefixed padded count
     body-loose e = rw (← ia, le-leb a (length b) l, e)
 
-    pub body-is : extensionIn (here strict b base a) 12 ≡ true → count (bodyR strict gs I g base b)
-        ≡ andThen (more 8 (count (next (staticR gs I 5 g (here strict b base a) 16 (replicate (length b) 0)) (λ m. extensionR gs I (here strict b base a) 12 m)))) (closing b base a)
+    body-is : extensionIn (here strict b base a) 12 ≡ true → count (bodyR strict gs I g base b)
+        ≡ more 8 (andThen (count (next (staticR gs I 5 g (here strict b base a) 16 (replicate (length b) 0)) (λ m. extensionR gs I (here strict b base a) 12 m))) (closing b base a))
     unfolding bodyR behindR need
     body-is e = rw (← ia, le-leb a (length b) l, e) (closes (part 8 4 b) b base a _ (length-part 8 4 b (omega arith)))
 
-    -- what is behind the fields
-    abbrev rest : List ℕ → Count
-    rest m = andThen (count (extensionR gs I (here strict b base a) 12 m)) (closing b base a)
-
-    body-rest : extensionIn (here strict b base a) 12 ≡ true → count (bodyR strict gs I g base b)
-        ≡ andThen (more 8 (count (staticR gs I 5 g (here strict b base a) 16 (replicate (length b) 0)))) rest
-    body-rest e =
+    -- the fields and what is behind them, on marks that are all 0 and behind the eight bytes of the id
+    pub body-begins : extensionIn (here strict b base a) 12 ≡ true → (k j : ℕ) → j ≡ (k + 8) % 2 ^ 64 → (o : List ℕ) → o ≡ replicate (length b) 0
+        → after k (count (bodyR strict gs I g base b))
+        ≡ after j (andThen (count (staticR gs I 5 g (here strict b base a) 16 o)) (λ m. andThen (count (extensionR gs I (here strict b base a) 12 m)) (closing b base a)))
+    body-begins e k j q o z =
         let r : Reading = staticR gs I 5 g (here strict b base a) 16 (replicate (length b) 0) in
         let f : List ℕ → Count = λ m. count (extensionR gs I (here strict b base a) 12 m) in
-        body-is e ∙ ap (λ (c : Count). andThen (more 8 c) (closing b base a)) (count-next r (λ m. extensionR gs I (here strict b base a) 12 m))
-        ∙ ap (λ (c : Count). andThen c (closing b base a)) (more-then 8 (count r) f) ∙ then-then (more 8 (count r)) f (closing b base a)
+        rw z (goes-on k 8 j _ _ (body-is e) q ∙ ap (after j) (ap (λ (c : Count). andThen c (closing b base a)) (count-next r (λ m. extensionR gs I (here strict b base a) 12 m)) ∙ then-then (count r) f (closing b base a)))
 
-    -- after the fields, on marks that are all 0 and behind the eight bytes of the id
-    module _ (e : extensionIn (here strict b base a) 12 ≡ true) (k j : ℕ) (q : j ≡ (k + 8) % 2 ^ 64) (o : List ℕ) (z : o ≡ replicate (length b) 0) (F : ℕ → List ℕ) (v : Step)
-        (s : countBy F v ≡ after j (count (staticR gs I 5 g (here strict b base a) 16 o))) where
-      body-fields : countBy F v ≡ after k (more 8 (count (staticR gs I 5 g (here strict b base a) 16 (replicate (length b) 0))))
-      body-fields = rw z at s ∙ sym (goes-on k 8 j _ _ refl q)
-
-      pub body-stopped : (G : ℕ → List ℕ) (n p : ℕ) → v ≡ Refused n p → countBy G (Refused n p) ≡ after k (count (bodyR strict gs I g base b))
-      body-stopped G n p r = stopped F k _ v body-fields G n p rest r ∙ ap (after k) (sym (body-rest e))
-
-      pub body-passed : (i : ℕ) (x : ℕ) → v ≡ Counted i x → after k (count (bodyR strict gs I g base b)) ≡ after i (rest (F x))
-      body-passed i x r = ap (after k) (body-rest e) ∙ passed F k _ v body-fields i x rest r
-
-      pub body-plain : (i : ℕ) (x : ℕ) → v ≡ Counted i x → word 12 b ≡ 0 → after k (count (bodyR strict gs I g base b)) ≡ after i (closing b base a (F x))
-      body-plain i x r w =
-          body-passed i x r
-          ∙ ap (after i) (then-passed _ 0 (F x) (closing b base a) (extension-zero gs I (here strict b base a) 12 (F x) w) ∙ more-zero _)
+-- behind the fields, where there is no extension
+pub rest-plain : (gs : List Group) (I : Inner) (b : List ℕ) (base a : ℕ) (m : List ℕ) → word 12 b ≡ 0
+    → andThen (count (extensionR gs I (here strict b base a) 12 m)) (closing b base a) ≡ closing b base a m
+rest-plain gs I b base a m e = then-passed _ 0 m (closing b base a) (extension-zero gs I (here strict b base a) 12 m e) ∙ more-zero _
 
 module _ (b : List ℕ) (base a : ℕ) (m : List ℕ) where
   pub closing-clean : padsZero (drop a m) (drop a b) ≡ true → closing b base a m ≡ counted 2 []

@@ -3,7 +3,7 @@ use mathlib.Core.Path.{_≡_, refl, sym, _∙_}
 use mathlib.Core.Bool.{Bool, true, false, cond}
 use mathlib.Core.List.{List, [], _∷_, append-nil}
 use Prim.Native.Nat.{ℕ, suc, _+_, _≤_}
-use native.Mathlib.Nat.{zero-add, add-assoc}
+use native.Mathlib.Nat.{zero-add, add-zero, add-assoc}
 use lib.ListN.{length, length-append}
 use Rattle.wire.specs.Bytes.{part}
 use Rattle.wire.proofs.Laws.{length-part}
@@ -43,6 +43,11 @@ then-passed c k m f e = rw e
 pub then-failed : (c : Count) (n p : ℕ) (f : List ℕ → Count) → c ≡ failed n p → andThen c f ≡ failed n p
 unfolding andThen
 then-failed c n p f e = rw e
+
+pub then-nothing : (c : Count) → andThen c (λ m. counted 0 m) ≡ c
+unfolding andThen more
+then-nothing (failed n p) = refl
+then-nothing (counted k m) = rw add-zero
 
 -- READINGS
 

@@ -16,5 +16,6 @@ pub mod CheckPlaces
 pub mod CheckValues
 pub mod CheckFields
 pub mod CheckGroups
+pub mod CheckScopes
 pub mod CheckMarks
 pub mod CheckExact

@@ -3,6 +3,7 @@ pub mod Sheet
 pub mod Walk
 pub mod Count
 pub mod Check
+pub mod Scopes
 pub mod Text
 pub mod Conforms
 pub mod Proper

@@ -14,12 +14,15 @@ ghost use Rattle.schema.specs.Faults.{need};
 ghost use Rattle.schema.specs.Schema.{inline, kindWidth, valueWidth, fieldWidth, shallowKind, shallow};
 ghost use Rattle.schema.specs.Table.{fieldAt, enums, schema};
 ghost use Rattle.schema.specs.Layout.{widthIn, Layout};
-ghost use Rattle.schema.specs.FieldKinds.{kindFrom, testedKind};
+ghost use Rattle.schema.specs.FieldKinds.{kindFrom, testedKind, Widths};
+ghost use Rattle.schema.specs.declared.Scope.the-variants.{Whole};
 ghost use Rattle.message.specs.Marks.{free, mark, padsZero, padsBefore};
-ghost use Rattle.message.specs.Sheet.{Mark, ST, GB};
-ghost use Rattle.message.specs.Walk.{lost, found, Reader, Inner, byte, here, strict, markedR, optionalR, indirectR, textR, innerR, locate, itemsR, fieldR, extendingR, extensionR, extensionIn, bodyR, groupR, walk};
+ghost use Rattle.message.specs.Sheet.{Mark, ST};
+ghost use Rattle.message.specs.Walk.{lost, found, Reader, Inner, byte, here, strict, markedR, optionalR, indirectR, textR, innerR, locate, itemsR, fieldR, extendingR, extensionR, extensionIn, bodyR, walk};
 ghost use Rattle.message.specs.Count.{count, andThen, counted};
 ghost use Rattle.message.specs.Check.{packed, scattered, marksOf, closing, countBy, countOf, after, placeBy, Claims, Lands, within, itemR, markedValueR, innerOf, widthOf, staticOf, Ready};
+ghost use Rattle.message.specs.declared.Frame.{Frame};
+ghost use Rattle.message.specs.Scopes.{groupOf, behindOf, leftOf, Fits, Opens};
 
 // Which bytes of a data area are taken, as one number, since a struct would pass through memory at each
 // call: where the packed values end, and, once a value did not stand straight behind the others, this
@@ -514,23 +517,124 @@ fn extension_inside(bytes: &[u8], area: usize) -> bool
 
 // GROUPS, FIELDS AND ITEMS
 
-// "Group: 1, 2, 25, 24": the head of the group that `bytes` are, with `levels` left for it. `allowed`
-// is the number of the dynamic kind that names it.
+// A group that is begun: its number, its frame, what is taken and counted so far; or the first fault.
+enum Opened {
+    Begun {
+        group: usize,
+        frame: Frame,
+        taken: usize,
+        length: usize,
+    },
+    Refused {
+        number: u8,
+        place: usize,
+    },
+}
+
+// A group: of a dynamic one `bytes` are the whole, and `outer` says where it starts and how many levels
+// are left for it. One function checks both scopes, so that a level is one call: each call passes its
+// slices through memory.
 fn check_group(
     table: &[u8],
     index: &[u16],
     bytes: &[u8],
     marks: &mut [u8],
+    outer: Frame,
+    depth: usize,
+    scope: schema::Scope,
+    at: usize,
+    taken: usize,
+    before: usize,
+) -> Step
+    requires { ⌜ (Ready (now table) (now index) (now bytes) (now marks) outer) × (Fits (now table) (now bytes) depth scope at) ⌝ }
+    ensures { λ r. ⌜ countBy (λ s. leftOf scope (outer .area) s (now (marks .exit))) r ≡ after before (count (groupOf (now (table .entry)) (outer .levels) depth scope (within (now (bytes .entry)) outer) at (marksOf (outer .area) taken (now (marks .entry))))) ⌝ }
+{
+    let opening = open_group(table, index, bytes, outer, scope, taken, before);
+    match opening {
+        Opened::Begun {
+            group,
+            frame,
+            taken: start,
+            length: head,
+        } => {
+            let fields = check_fields(
+                table,
+                index,
+                bytes,
+                marks,
+                frame,
+                depth,
+                group,
+                at,
+                start,
+                head,
+            );
+            match fields {
+                Step::Counted { length, taken: now } => close_group(
+                    table,
+                    index,
+                    bytes,
+                    marks,
+                    frame,
+                    scope,
+                    now,
+                    length,
+                ),
+                Step::Refused { number, place } => Step::Refused { number, place },
+            }
+        }
+        Opened::Refused { number, place } => Step::Refused { number, place },
+    }
+}
+
+// What stands before a group's fields: of a dynamic one its head.
+fn open_group(
+    table: &[u8],
+    index: &[u16],
+    bytes: &[u8],
+    frame: Frame,
+    scope: schema::Scope,
+    taken: usize,
+    before: usize,
+) -> Opened
+    requires { ⌜ (Layout (now table) (now index)) × (frame .base + length (now bytes) ≤ 65536) ⌝ }
+    ensures { λ r. ⌜ ((m : List ℕ) (d at : ℕ) → Ready (now (table .entry)) (now (index .entry)) (now (bytes .entry)) m frame → Fits (now (table .entry)) (now (bytes .entry)) d scope at → Opens (now (table .entry)) (now (index .entry)) (now (bytes .entry)) m frame d scope at before (count (groupOf (now (table .entry)) (frame .levels) d scope (within (now (bytes .entry)) frame) at (marksOf (frame .area) taken m))) r) ⌝ }
+{
+    match scope {
+        schema::Scope::Whole { allowed } => open_dynamic(
+            table,
+            index,
+            bytes,
+            frame.base,
+            frame.levels,
+            allowed,
+            before,
+        ),
+        schema::Scope::Fields { group } => Opened::Begun {
+            group,
+            frame,
+            taken,
+            length: before,
+        },
+    }
+}
+
+// "Group: 1, 2, 25, 24": the head of the dynamic group that `bytes` are, with `levels` left for it.
+// `allowed` is the number of the dynamic kind that names it.
+fn open_dynamic(
+    table: &[u8],
+    index: &[u16],
+    bytes: &[u8],
     base: usize,
     levels: usize,
     allowed: usize,
     before: usize,
-) -> Step
-    requires { ⌜ (Layout (now table) (now index)) × (length (now marks) ≡ length (now bytes)) × (base + length (now bytes) ≤ 65536) ⌝ }
-    ensures { λ r. ⌜ countBy (λ _. []) r ≡ after before (count (groupR strict (schema (now (table .entry))) levels allowed base (now (bytes .entry)))) ⌝ }
+) -> Opened
+    requires { ⌜ (Layout (now table) (now index)) × (base + length (now bytes) ≤ 65536) ⌝ }
+    ensures { λ r. ⌜ ((m : List ℕ) (o : Frame) → length m ≡ length (now (bytes .entry)) → o .levels ≡ levels → Opens (now (table .entry)) (now (index .entry)) (now (bytes .entry)) m o 5 (Whole allowed) 16 before (count (innerOf (now (table .entry)) levels allowed base (now (bytes .entry)))) r) ⌝ }
 {
     if bytes.len() < 16 {
-        return Step::Refused {
+        return Opened::Refused {
             number: 1,
             place: base,
         };
@@ -538,81 +642,92 @@ fn check_group(
     let total = schema::group_total(index);
     let group = schema::find(table, index, total, wire::read_u64(bytes, 4));
     if total <= group {
-        return Step::Refused {
+        return Opened::Refused {
             number: 2,
             place: base,
         };
     }
     if schema::allows(table, index, allowed, group) {
         if levels == 0 {
-            return Step::Refused {
+            return Opened::Refused {
                 number: 24,
                 place: base,
             };
         }
-        return check_body(table, index, bytes, marks, base, levels - 1, group, before);
+        return open_area(index, bytes, base, levels - 1, group, before);
     }
-    Step::Refused {
+    Opened::Refused {
         number: 25,
         place: base,
     }
 }
 
-// "14, 3, fields in order, extension, 6", with so many levels left below the group.
-fn check_body(
-    table: &[u8],
+// "14, 3", with so many levels left below the group.
+fn open_area(
     index: &[u16],
     bytes: &[u8],
-    marks: &mut [u8],
     base: usize,
     levels: usize,
     group: usize,
     before: usize,
-) -> Step
-    requires { ⌜ (Layout (now table) (now index)) × (length (now marks) ≡ length (now bytes)) × (base + length (now bytes) ≤ 65536) × (16 ≤ length (now bytes)) × (group < length (schema (now table))) ⌝ }
-    ensures { λ r. ⌜ countBy (λ _. []) r ≡ after before (count (bodyR strict (schema (now (table .entry))) (innerOf (now (table .entry)) levels) group base (now (bytes .entry)))) ⌝ }
+) -> Opened
+    requires { ⌜ (Widths (now index)) × (16 ≤ length (now bytes)) × (base + length (now bytes) ≤ 65536) ⌝ }
+    ensures { λ r. ⌜ ((t m : List ℕ) (o : Frame) (allowed : ℕ) → Layout t (now (index .entry)) → group < length (schema t) → length m ≡ length (now (bytes .entry)) → o .levels ≡ levels + 1 → Opens t (now (index .entry)) (now (bytes .entry)) m o 5 (Whole allowed) 16 before (count (bodyR strict (schema t) (innerOf t levels) group base (now (bytes .entry)))) r) ⌝ }
 {
     let area = 16 + schema::group_width(index, group);
     if bytes.len() < area {
-        return Step::Refused {
+        return Opened::Refused {
             number: 14,
             place: base,
         };
     }
     if !extension_inside(bytes, area) {
-        return Step::Refused {
+        return Opened::Refused {
             number: 3,
             place: base + 12,
         };
     }
     let frame = Frame { base, area, levels };
-    let fields = check_fields(
-        table,
-        index,
-        bytes,
-        marks,
-        frame,
-        5,
+    Opened::Begun {
         group,
-        16,
-        area,
-        longer(before, 8),
-    );
-    match fields {
-        Step::Counted { length, taken } => {
+        frame,
+        taken: area,
+        length: longer(before, 8),
+    }
+}
+
+// What stands behind a group's fields: of a dynamic one "extension, 6".
+fn close_group(
+    table: &[u8],
+    index: &[u16],
+    bytes: &[u8],
+    marks: &mut [u8],
+    frame: Frame,
+    scope: schema::Scope,
+    taken: usize,
+    before: usize,
+) -> Step
+    requires { ⌜ (Ready (now table) (now index) (now bytes) (now marks) frame) × ((allowed : ℕ) → scope ≡ Whole allowed → 16 ≤ length (now bytes)) ⌝ }
+    ensures { λ r. ⌜ countBy (λ s. leftOf scope (frame .area) s (now (marks .exit))) r ≡ after before (behindOf (now (table .entry)) (frame .levels) scope (within (now (bytes .entry)) frame) (marksOf (frame .area) taken (now (marks .entry)))) ⌝ }
+{
+    match scope {
+        schema::Scope::Whole { allowed } => {
             if wire::read_u32(bytes, 12) == 0 {
                 // Where the values fill the data area there is no pad.
                 if taken == bytes.len() {
                     return Step::Counted {
-                        length: longer(length, 2),
+                        length: longer(before, 2),
                         taken,
                     };
                 }
-                return check_pads(bytes, marks, frame, taken, length);
+                return check_pads(bytes, marks, frame, taken, before);
             }
-            check_rest(table, index, bytes, marks, frame, taken, length)
+            check_rest(table, index, bytes, marks, frame, taken, before)
         }
-        Step::Refused { number, place } => Step::Refused { number, place },
+        schema::Scope::Fields { group } => Step::Counted {
+            length: before,
+            taken,
+        },
     }
 }
 
@@ -797,8 +912,8 @@ fn check_value(
     )
 }
 
-// So many items, each of `width` bytes. Plain values need no test, and are only counted; strings and
-// dynamic groups, of which there may be thousands, have loops of their own.
+// So many items, each of `width` bytes. Plain values need no test, and are only counted; strings, of
+// which there may be thousands, have a loop of their own.
 fn check_items(
     table: &[u8],
     index: &[u16],
@@ -824,20 +939,6 @@ fn check_items(
     }
     if let schema::FieldKind::Indirect { utf8 } = kind {
         return check_texts(bytes, marks, frame, utf8, total, at, taken, before);
-    }
-    if let schema::FieldKind::Dynamic { allowed } = kind {
-        return check_dynamics(
-            table,
-            index,
-            bytes,
-            marks,
-            frame,
-            allowed,
-            total,
-            at,
-            taken,
-            before,
-        );
     }
     let mut i = 0;
     let mut place = at;
@@ -925,14 +1026,14 @@ fn check_item(
             taken,
             before,
         ),
-        schema::FieldKind::Static { group } => check_fields(
+        schema::FieldKind::Static { group } => check_group(
             table,
             index,
             bytes,
             marks,
             frame,
             depth,
-            group,
+            schema::Scope::Fields { group },
             at,
             taken,
             longer(before, 2),
@@ -948,58 +1049,6 @@ fn check_item(
             taken,
             longer(before, 2),
         ),
-    }
-}
-
-fn check_dynamics(
-    table: &[u8],
-    index: &[u16],
-    bytes: &[u8],
-    marks: &mut [u8],
-    frame: Frame,
-    allowed: usize,
-    total: usize,
-    at: usize,
-    taken: usize,
-    before: usize,
-) -> Step
-    requires { ⌜ (Ready (now table) (now index) (now bytes) (now marks) frame) × (at + total * 4 ≤ length (now bytes)) ⌝ }
-    ensures { λ r. ⌜ countBy (λ s. marksOf (frame .area) s (now (marks .exit))) r ≡ after before (count (itemsR 4 (markedR GB (indirectR 26 1 (innerR (innerOf (now (table .entry)) (frame .levels)) allowed))) total (within (now (bytes .entry)) frame) at (marksOf (frame .area) taken (now (marks .entry))))) ⌝ }
-{
-    let mut i = 0;
-    let mut place = at;
-    let mut length = before;
-    let mut holds = taken;
-    while i < total {
-        let group = check_dynamic(
-            table,
-            index,
-            bytes,
-            marks,
-            frame,
-            allowed,
-            place,
-            holds,
-            longer(length, 2),
-        );
-        match group {
-            Step::Counted {
-                length: sum,
-                taken: now,
-            } => {
-                length = sum;
-                holds = now;
-            }
-            Step::Refused { number, place } => {
-                return Step::Refused { number, place };
-            }
-        }
-        place += 4;
-        i += 1;
-    }
-    Step::Counted {
-        length,
-        taken: holds,
     }
 }
 
@@ -1057,14 +1106,21 @@ fn check_nested(
     ensures { λ r. ⌜ countBy (λ s. marksOf (frame .area) s (now (marks .exit))) r ≡ after before (andThen (count (innerOf (now (table .entry)) (frame .levels) allowed (frame .base + start) (part size start (now (bytes .entry))))) (λ _. counted 0 (marksOf (frame .area) taken (now (marks .entry))))) ⌝ }
 {
     let end = start + size;
+    let inner = Frame {
+        base: frame.base + start,
+        area: 0,
+        levels: frame.levels,
+    };
     let group = check_group(
         table,
         index,
         &bytes[start..end],
         &mut marks[start..end],
-        frame.base + start,
-        frame.levels,
-        allowed,
+        inner,
+        5,
+        schema::Scope::Whole { allowed },
+        16,
+        0,
         before,
     );
     match group {
@@ -1248,7 +1304,23 @@ fn check_sized(table: &[u8], index: &[u16], message: &[u8], marks: &mut [u8]) ->
             place: 0,
         };
     }
-    let group = check_group(table, index, message, marks, 0, 8, 0, 2);
+    let frame = Frame {
+        base: 0,
+        area: 0,
+        levels: 8,
+    };
+    let group = check_group(
+        table,
+        index,
+        message,
+        marks,
+        frame,
+        5,
+        schema::Scope::Whole { allowed: 0 },
+        16,
+        0,
+        2,
+    );
     match group {
         Step::Counted { length, taken } => Walked::Counted { length },
         Step::Refused { number, place } => Walked::Refused { number, place },

@@ -1,4 +1,4 @@
-use mathlib.Core.Path.{sym, _∙_, ap}
+use mathlib.Core.Path.{refl, sym, _∙_, ap}
 use native.Mathlib.Omega.{arith}
 use Prim.Native.Nat.{ℕ, _+_}
 use borrow.Author.Needs.{needs}
@@ -14,6 +14,9 @@ returns c = check-refuses _ _ _ _ (message-short (schema (c .before .before .bef
 returns-2 : tie.Need-returns-2
 returns-2 c = check-refuses _ _ _ _ (message-other (schema (c .before .before .before .before .before .before .before .args .table .now)) (c .before .before .before .before .before .before .before .args .message .now) (c .before .before .if1 .left) (λ z. c .if2 .taken (z ∙ ap (λ (n : ℕ). 4 + n) (sym (c .before .read-u32 .ensures .0)))))
 
+check-group-requires : tie.Need-check-group-requires
+check-group-requires c κs = (record { layout = c .before .before .before .before .before .before .before .before .pre .0; same = search needs; small = search needs; room = search needs }, (refl, refl))
+
 returns-3 : tie.Need-returns-3
 returns-3 c = check-accepts _ _ _ _ _ (c .before .before .before .before .before .check-group .ensures ∙ sym (goes-on 0 2 2 _ _ (message-group (schema (c .before .before .before .before .before .before .before .before .before .before .before .before .before .before .args .table .now)) (c .before .before .before .before .before .before .before .before .before .before .before .before .before .before .args .message .now) (c .before .before .before .before .before .before .before .before .before .if1 .left) (c .before .before .before .before .before .before .before .if2 .left ∙ ap (λ (n : ℕ). 4 + n) (c .before .before .before .before .before .before .before .before .read-u32 .ensures .0))) (omega arith))) (c .before .group .given .1)
 
@@ -28,7 +31,7 @@ check-sized-spec =
     (λ c κs. search needs)
     (λ c. search needs)
     returns-2
-    (λ c κs. search needs)
+    check-group-requires
     (λ c. search needs)
     (λ c. search needs)
     (λ c. search needs)

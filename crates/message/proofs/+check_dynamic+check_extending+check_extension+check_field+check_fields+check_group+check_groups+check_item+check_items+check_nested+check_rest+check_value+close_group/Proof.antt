@@ -1,6 +1,5 @@
 use borrow.Author.Needs.{needs}
-use Rattle.message.specs.Sheet.{GB, fieldMark}
-use borrow.Author.Tests.{not-true, not-false}
+use Rattle.message.specs.Sheet.{fieldMark}
 use Prim.Native.Nat.{ℕ, _+_, _-_, _*_, _^_, _<_, _≤_}
 use native.Mathlib.Omega.{arith}
 use native.Mathlib.Nat.{add-sub-cancel-left, sub-zero, mul-one, mul-le-mul-right}
@@ -10,87 +9,81 @@ use mathlib.Core.List.{[]}
 use mathlib.Core.Logic.{⊎-elim}
 use lib.ListN.{length, drop}
 use lib.Dec.{leb}
-use Rattle.schema.specs.Schema.{fieldsWidth, shallowFields, shallow, find}
+use Rattle.schema.specs.Schema.{fieldsWidth, shallowFields, shallow}
 use Rattle.schema.specs.Table.{fieldAt, fieldsAt, enums, schema}
 use Rattle.schema.specs.Layout.{widthIn}
 use Rattle.schema.specs.FieldKinds.{kindFrom}
 use Rattle.schema.proofs.Records.{fields-more}
 use Rattle.schema.proofs.Types.{width-sequence, width-optional}
-use Rattle.schema.proofs.Groups.{static-inside, placed-inside, find-whole, layout-width}
+use Rattle.schema.proofs.Groups.{static-inside, placed-inside}
 use Rattle.schema.proofs.Depth.{and-both, shallow-some, width-cons, shallow-cons, wide-kind, wide-value, wide-field}
-use Rattle.message.specs.Walk.{byte, markedR, indirectR, innerR, itemsR, fieldsR, extendingR, valueR}
+use Rattle.message.specs.Walk.{byte, indirectR, innerR, itemsR, fieldsR, extendingR, valueR}
 use Rattle.message.specs.Count.{count, counted}
 use Rattle.message.specs.Check.{marksOf, closing, after, within, itemR, markedValueR, innerOf, widthOf, staticOf}
-use Rattle.message.proofs.Count.{count-marked, count-inner}
+use Rattle.message.proofs.Count.{count-inner}
 use Rattle.message.proofs.CheckAnswers.{refuses, counts, stays, goes-on, passed, stopped, bounded}
 use Rattle.message.proofs.CheckMarks.{retaken, pads-none}
-use Rattle.message.proofs.CheckFields.{leads-nowhere, leads-to, fields-passed, fields-stopped, fields-end, plain-wide, fields-plain, flag-wide, flag-unset, field-optional, field-set, ItemsAt, one-item, sequence-nowhere, sequence-items, items-passed, items-stopped, items-end, items-left, items-plain, items-indirect, items-dynamic, item-plain, item-number, item-inline, item-indirect, item-static, item-dynamic, wide-number, wide-inline, wide-indirect, wide-static, wide-dynamic, kind-static, start-inside, start-static, start-width, start-shallow, ready}
-use Rattle.message.proofs.CheckGroups.{nested-passed, nothing-taken, extension-zero, extension-nowhere, extension-empty, extension-some, extending-short, extending-known, extending-kept, body-narrow, body-loose, body-stopped, body-passed, body-plain, closing-clean, group-short, group-unknown, group-other, group-deep, group-body}
+use Rattle.message.proofs.CheckFields.{leads-nowhere, leads-to, fields-passed, fields-stopped, fields-end, plain-wide, fields-plain, flag-wide, flag-unset, field-optional, field-set, ItemsAt, one-item, sequence-nowhere, sequence-items, items-passed, items-stopped, items-end, items-left, items-plain, items-indirect, item-plain, item-number, item-inline, item-indirect, item-static, item-dynamic, wide-number, wide-inline, wide-indirect, wide-static, wide-dynamic, kind-static, start-inside, start-static, start-width, start-shallow, ready}
+use Rattle.message.proofs.CheckGroups.{nested-passed, extension-zero, extension-nowhere, extension-empty, extension-some, extending-short, extending-known, extending-kept, rest-plain, closing-clean}
+use Rattle.message.proofs.CheckScopes.{weight, inside-falls, inside-long, inside-left, opens-begun, opens-refused, closes-dynamic, closes-static}
 use borrow.Fn.Kinds.{In}
 use borrow.Fn.PlainCycle.{Measures, is, falls, and}
-use Rattle.message.proofs.check_body.Reads as check-body
-use Rattle.message.proofs.check_body.Kinds as check-body-kinds
-use Rattle.message.proofs.+check_body+check_dynamic+check_dynamics+check_extending+check_extension+check_field+check_fields+check_group+check_groups+check_item+check_items+check_nested+check_rest+check_value.Lts-check_body as check-body-lts
 use Rattle.message.proofs.check_dynamic.Reads as check-dynamic
 use Rattle.message.proofs.check_dynamic.Kinds as check-dynamic-kinds
-use Rattle.message.proofs.+check_body+check_dynamic+check_dynamics+check_extending+check_extension+check_field+check_fields+check_group+check_groups+check_item+check_items+check_nested+check_rest+check_value.Lts-check_dynamic as check-dynamic-lts
-use Rattle.message.proofs.check_dynamics.Reads as check-dynamics
-use Rattle.message.proofs.check_dynamics.Kinds as check-dynamics-kinds
-use Rattle.message.proofs.+check_body+check_dynamic+check_dynamics+check_extending+check_extension+check_field+check_fields+check_group+check_groups+check_item+check_items+check_nested+check_rest+check_value.Lts-check_dynamics as check-dynamics-lts
+use Rattle.message.proofs.+check_dynamic+check_extending+check_extension+check_field+check_fields+check_group+check_groups+check_item+check_items+check_nested+check_rest+check_value+close_group.Lts-check_dynamic as check-dynamic-lts
 use Rattle.message.proofs.check_extending.Reads as check-extending
 use Rattle.message.proofs.check_extending.Kinds as check-extending-kinds
-use Rattle.message.proofs.+check_body+check_dynamic+check_dynamics+check_extending+check_extension+check_field+check_fields+check_group+check_groups+check_item+check_items+check_nested+check_rest+check_value.Lts-check_extending as check-extending-lts
+use Rattle.message.proofs.+check_dynamic+check_extending+check_extension+check_field+check_fields+check_group+check_groups+check_item+check_items+check_nested+check_rest+check_value+close_group.Lts-check_extending as check-extending-lts
 use Rattle.message.proofs.check_extension.Reads as check-extension
 use Rattle.message.proofs.check_extension.Kinds as check-extension-kinds
-use Rattle.message.proofs.+check_body+check_dynamic+check_dynamics+check_extending+check_extension+check_field+check_fields+check_group+check_groups+check_item+check_items+check_nested+check_rest+check_value.Lts-check_extension as check-extension-lts
+use Rattle.message.proofs.+check_dynamic+check_extending+check_extension+check_field+check_fields+check_group+check_groups+check_item+check_items+check_nested+check_rest+check_value+close_group.Lts-check_extension as check-extension-lts
 use Rattle.message.proofs.check_field.Reads as check-field
 use Rattle.message.proofs.check_field.Kinds as check-field-kinds
-use Rattle.message.proofs.+check_body+check_dynamic+check_dynamics+check_extending+check_extension+check_field+check_fields+check_group+check_groups+check_item+check_items+check_nested+check_rest+check_value.Lts-check_field as check-field-lts
+use Rattle.message.proofs.+check_dynamic+check_extending+check_extension+check_field+check_fields+check_group+check_groups+check_item+check_items+check_nested+check_rest+check_value+close_group.Lts-check_field as check-field-lts
 use Rattle.message.proofs.check_fields.Reads as check-fields
 use Rattle.message.proofs.check_fields.Kinds as check-fields-kinds
-use Rattle.message.proofs.+check_body+check_dynamic+check_dynamics+check_extending+check_extension+check_field+check_fields+check_group+check_groups+check_item+check_items+check_nested+check_rest+check_value.Lts-check_fields as check-fields-lts
+use Rattle.message.proofs.+check_dynamic+check_extending+check_extension+check_field+check_fields+check_group+check_groups+check_item+check_items+check_nested+check_rest+check_value+close_group.Lts-check_fields as check-fields-lts
 use Rattle.message.proofs.check_group.Reads as check-group
 use Rattle.message.proofs.check_group.Kinds as check-group-kinds
-use Rattle.message.proofs.+check_body+check_dynamic+check_dynamics+check_extending+check_extension+check_field+check_fields+check_group+check_groups+check_item+check_items+check_nested+check_rest+check_value.Lts-check_group as check-group-lts
+use Rattle.message.proofs.+check_dynamic+check_extending+check_extension+check_field+check_fields+check_group+check_groups+check_item+check_items+check_nested+check_rest+check_value+close_group.Lts-check_group as check-group-lts
 use Rattle.message.proofs.check_groups.Reads as check-groups
 use Rattle.message.proofs.check_groups.Kinds as check-groups-kinds
-use Rattle.message.proofs.+check_body+check_dynamic+check_dynamics+check_extending+check_extension+check_field+check_fields+check_group+check_groups+check_item+check_items+check_nested+check_rest+check_value.Lts-check_groups as check-groups-lts
+use Rattle.message.proofs.+check_dynamic+check_extending+check_extension+check_field+check_fields+check_group+check_groups+check_item+check_items+check_nested+check_rest+check_value+close_group.Lts-check_groups as check-groups-lts
 use Rattle.message.proofs.check_item.Reads as check-item
 use Rattle.message.proofs.check_item.Kinds as check-item-kinds
-use Rattle.message.proofs.+check_body+check_dynamic+check_dynamics+check_extending+check_extension+check_field+check_fields+check_group+check_groups+check_item+check_items+check_nested+check_rest+check_value.Lts-check_item as check-item-lts
+use Rattle.message.proofs.+check_dynamic+check_extending+check_extension+check_field+check_fields+check_group+check_groups+check_item+check_items+check_nested+check_rest+check_value+close_group.Lts-check_item as check-item-lts
 use Rattle.message.proofs.check_items.Reads as check-items
 use Rattle.message.proofs.check_items.Kinds as check-items-kinds
-use Rattle.message.proofs.+check_body+check_dynamic+check_dynamics+check_extending+check_extension+check_field+check_fields+check_group+check_groups+check_item+check_items+check_nested+check_rest+check_value.Lts-check_items as check-items-lts
+use Rattle.message.proofs.+check_dynamic+check_extending+check_extension+check_field+check_fields+check_group+check_groups+check_item+check_items+check_nested+check_rest+check_value+close_group.Lts-check_items as check-items-lts
 use Rattle.message.proofs.check_nested.Reads as check-nested
 use Rattle.message.proofs.check_nested.Kinds as check-nested-kinds
-use Rattle.message.proofs.+check_body+check_dynamic+check_dynamics+check_extending+check_extension+check_field+check_fields+check_group+check_groups+check_item+check_items+check_nested+check_rest+check_value.Lts-check_nested as check-nested-lts
+use Rattle.message.proofs.+check_dynamic+check_extending+check_extension+check_field+check_fields+check_group+check_groups+check_item+check_items+check_nested+check_rest+check_value+close_group.Lts-check_nested as check-nested-lts
 use Rattle.message.proofs.check_rest.Reads as check-rest
 use Rattle.message.proofs.check_rest.Kinds as check-rest-kinds
-use Rattle.message.proofs.+check_body+check_dynamic+check_dynamics+check_extending+check_extension+check_field+check_fields+check_group+check_groups+check_item+check_items+check_nested+check_rest+check_value.Lts-check_rest as check-rest-lts
+use Rattle.message.proofs.+check_dynamic+check_extending+check_extension+check_field+check_fields+check_group+check_groups+check_item+check_items+check_nested+check_rest+check_value+close_group.Lts-check_rest as check-rest-lts
 use Rattle.message.proofs.check_value.Reads as check-value
 use Rattle.message.proofs.check_value.Kinds as check-value-kinds
-use Rattle.message.proofs.+check_body+check_dynamic+check_dynamics+check_extending+check_extension+check_field+check_fields+check_group+check_groups+check_item+check_items+check_nested+check_rest+check_value.Lts-check_value as check-value-lts
+use Rattle.message.proofs.+check_dynamic+check_extending+check_extension+check_field+check_fields+check_group+check_groups+check_item+check_items+check_nested+check_rest+check_value+close_group.Lts-check_value as check-value-lts
+use Rattle.message.proofs.close_group.Reads as close-group
+use Rattle.message.proofs.close_group.Kinds as close-group-kinds
+use Rattle.message.proofs.+check_dynamic+check_extending+check_extension+check_field+check_fields+check_group+check_groups+check_item+check_items+check_nested+check_rest+check_value+close_group.Lts-close_group as close-group-lts
 use Rattle.message.proofs.check_absent.Reads as check-absent-reads
 use Rattle.message.proofs.check_inline.Reads as check-inline-reads
 use Rattle.message.proofs.check_number.Reads as check-number-reads
 use Rattle.message.proofs.check_pads.Reads as check-pads-reads
 use Rattle.message.proofs.check_text.Reads as check-text-reads
 use Rattle.message.proofs.check_texts.Reads as check-texts-reads
-use Rattle.message.proofs.extension_inside.Reads as extension-inside-reads
 use Rattle.schema.proofs.is_known.Reads as is-known-reads
 use Rattle.message.proofs.flag_width.Reads as flag-width-reads
 use Rattle.message.proofs.is_unset.Reads as is-unset-reads
 use Rattle.message.proofs.locate.Reads as locate-reads
 use Rattle.message.proofs.longer.Reads as longer-reads
+use Rattle.message.proofs.open_group.Reads as open-group-reads
 use Rattle.message.proofs.retake.Reads as retake-reads
 use Rattle.wire.proofs.wide.Reads as wide-reads
-use Rattle.schema.proofs.allows.Reads as allows-reads
 use Rattle.schema.proofs.field_count.Reads as field-count-reads
 use Rattle.schema.proofs.field_width.Reads as field-width-reads
-use Rattle.schema.proofs.find.Reads as find-reads
 use Rattle.schema.proofs.group_place.Reads as group-place-reads
-use Rattle.schema.proofs.group_total.Reads as group-total-reads
-use Rattle.schema.proofs.group_width.Reads as group-width-reads
 use Rattle.schema.proofs.is_optional.Reads as is-optional-reads
 use Rattle.schema.proofs.is_sequence.Reads as is-sequence-reads
 use Rattle.schema.proofs.kind_at.Reads as kind-at-reads
@@ -99,21 +92,15 @@ use Rattle.schema.proofs.plain_width.Reads as plain-width-reads
 use Rattle.schema.proofs.value_width.Reads as value-width-reads
 use Rattle.wire.proofs.read_u32.Reads as read-u32-reads
 use Rattle.wire.proofs.read_u64.Reads as read-u64-reads
-use Rattle.message.proofs.+check_body+check_dynamic+check_dynamics+check_extending+check_extension+check_field+check_fields+check_group+check_groups+check_item+check_items+check_nested+check_rest+check_value.{
+use Rattle.message.proofs.+check_dynamic+check_extending+check_extension+check_field+check_fields+check_group+check_groups+check_item+check_items+check_nested+check_rest+check_value+close_group.{
   statement,
 }
-use Rattle.message.proofs.+check_body+check_dynamic+check_dynamics+check_extending+check_extension+check_field+check_fields+check_group+check_groups+check_item+check_items+check_nested+check_rest+check_value.Tie.{
+use Rattle.message.proofs.+check_dynamic+check_extending+check_extension+check_field+check_fields+check_group+check_groups+check_item+check_items+check_nested+check_rest+check_value+close_group.Tie.{
   close,
 }
 
-abbrev μ-check-body : Measures 4 check-body-kinds.ps ℕ
-μ-check-body κs a = 64 * a .1 .1 .1 .1 .1 .0 + 63
-
 abbrev μ-check-dynamic : Measures 4 check-dynamic-kinds.ps ℕ
 μ-check-dynamic κs a = 64 * a .1 .1 .1 .1 .0 .levels + 4
-
-abbrev μ-check-dynamics : Measures 4 check-dynamics-kinds.ps ℕ
-μ-check-dynamics κs a = 64 * a .1 .1 .1 .1 .0 .levels + 5
 
 abbrev μ-check-extending : Measures 4 check-extending-kinds.ps ℕ
 μ-check-extending κs a = 64 * a .1 .1 .1 .1 .0 .levels + 6
@@ -122,39 +109,34 @@ abbrev μ-check-extension : Measures 4 check-extension-kinds.ps ℕ
 μ-check-extension κs a = 64 * a .1 .1 .1 .1 .0 .levels + 8
 
 abbrev μ-check-field : Measures 4 check-field-kinds.ps ℕ
-μ-check-field κs a = 64 * a .1 .1 .1 .1 .0 .levels + 10 * a .1 .1 .1 .1 .1 .0 + 9
+μ-check-field κs a = 64 * a .1 .1 .1 .1 .0 .levels + 10 * a .1 .1 .1 .1 .1 .0 + 20
 
 abbrev μ-check-fields : Measures 4 check-fields-kinds.ps ℕ
-μ-check-fields κs a = 64 * a .1 .1 .1 .1 .0 .levels + 10 * a .1 .1 .1 .1 .1 .0
+μ-check-fields κs a = 64 * a .1 .1 .1 .1 .0 .levels + 10 * a .1 .1 .1 .1 .1 .0 + 11
 
 abbrev μ-check-group : Measures 4 check-group-kinds.ps ℕ
-μ-check-group κs a = 64 * a .1 .1 .1 .1 .1 .0 + 1
+μ-check-group κs a = 64 * a .1 .1 .1 .1 .0 .levels + weight (a .1 .1 .1 .1 .1 .1 .0) (a .1 .1 .1 .1 .1 .0)
 
 abbrev μ-check-groups : Measures 4 check-groups-kinds.ps ℕ
 μ-check-groups κs a = 64 * a .1 .1 .1 .1 .0 .levels + 7
 
 abbrev μ-check-item : Measures 4 check-item-kinds.ps ℕ
-μ-check-item κs a = 64 * a .1 .1 .1 .1 .0 .levels + 10 * a .1 .1 .1 .1 .1 .0 + 6
+μ-check-item κs a = 64 * a .1 .1 .1 .1 .0 .levels + 10 * a .1 .1 .1 .1 .1 .0 + 17
 
 abbrev μ-check-items : Measures 4 check-items-kinds.ps ℕ
-μ-check-items κs a = 64 * a .1 .1 .1 .1 .0 .levels + 10 * a .1 .1 .1 .1 .1 .0 + 7
+μ-check-items κs a = 64 * a .1 .1 .1 .1 .0 .levels + 10 * a .1 .1 .1 .1 .1 .0 + 18
 
 abbrev μ-check-nested : Measures 4 check-nested-kinds.ps ℕ
 μ-check-nested κs a = 64 * a .1 .1 .1 .1 .0 .levels + 3
 
 abbrev μ-check-rest : Measures 4 check-rest-kinds.ps ℕ
-μ-check-rest κs a = 64 * a .1 .1 .1 .1 .0 .levels + 62
+μ-check-rest κs a = 64 * a .1 .1 .1 .1 .0 .levels + 9
 
 abbrev μ-check-value : Measures 4 check-value-kinds.ps ℕ
-μ-check-value κs a = 64 * a .1 .1 .1 .1 .0 .levels + 10 * a .1 .1 .1 .1 .1 .0 + 8
+μ-check-value κs a = 64 * a .1 .1 .1 .1 .0 .levels + 10 * a .1 .1 .1 .1 .1 .0 + 19
 
-abbrev check-body-at : ℕ → In 4 check-body-kinds.ps
-check-body-at t =
-    and 4 check-body-kinds.ps (is 4 check-body-kinds.ps μ-check-body t) check-body.Pre
-
-abbrev check-body-below : ℕ → In 4 check-body-kinds.ps
-check-body-below t =
-    and 4 check-body-kinds.ps (falls 4 check-body-kinds.ps _<_ μ-check-body t) check-body.Pre
+abbrev μ-close-group : Measures 4 close-group-kinds.ps ℕ
+μ-close-group κs a = 64 * a .1 .1 .1 .1 .0 .levels + 10
 
 abbrev check-dynamic-at : ℕ → In 4 check-dynamic-kinds.ps
 check-dynamic-at t =
@@ -167,18 +149,6 @@ check-dynamic-below t =
     check-dynamic-kinds.ps
     (falls 4 check-dynamic-kinds.ps _<_ μ-check-dynamic t)
     check-dynamic.Pre
-
-abbrev check-dynamics-at : ℕ → In 4 check-dynamics-kinds.ps
-check-dynamics-at t =
-    and 4 check-dynamics-kinds.ps (is 4 check-dynamics-kinds.ps μ-check-dynamics t) check-dynamics.Pre
-
-abbrev check-dynamics-below : ℕ → In 4 check-dynamics-kinds.ps
-check-dynamics-below t =
-    and
-    4
-    check-dynamics-kinds.ps
-    (falls 4 check-dynamics-kinds.ps _<_ μ-check-dynamics t)
-    check-dynamics.Pre
 
 abbrev check-extending-at : ℕ → In 4 check-extending-kinds.ps
 check-extending-at t =
@@ -296,42 +266,13 @@ abbrev check-value-below : ℕ → In 4 check-value-kinds.ps
 check-value-below t =
     and 4 check-value-kinds.ps (falls 4 check-value-kinds.ps _<_ μ-check-value t) check-value.Pre
 
-abbrev check-body-claims : ℕ → check-body-lts.Claims
-check-body-claims t = (group-width-reads.Asked, group-width-reads.Learnt, extension-inside-reads.Asked, extension-inside-reads.Learnt, longer-reads.Asked, longer-reads.Learnt, check-fields-below t, check-fields.Post, read-u32-reads.Asked, read-u32-reads.Learnt, check-pads-reads.Asked, check-pads-reads.Learnt, check-rest-below t, check-rest.Post)
+abbrev close-group-at : ℕ → In 4 close-group-kinds.ps
+close-group-at t =
+    and 4 close-group-kinds.ps (is 4 close-group-kinds.ps μ-close-group t) close-group.Pre
 
-check-body-returns : (t : ℕ) → check-body-lts.Need-returns (check-body-claims t) (check-body-at t) check-body.Post
-check-body-returns t c = let a = c .before .before .before .before .before .before .args in let t = a .table .now in let w = c .before .group-width .ensures .0 ∙ layout-width t (a .index .now) (c .before .before .before .before .before .before .pre .1 .0) (a .group) in
-    refuses _ _ _ _ _ (body-narrow (schema t) (innerOf t (a .levels)) (a .group) (a .base) (a .bytes .now) _ (ap (λ (n : ℕ). 16 + n) w) (c .if1 .taken))
-
-check-body-returns-2 : (t : ℕ) → check-body-lts.Need-returns-2 (check-body-claims t) (check-body-at t) check-body.Post
-check-body-returns-2 t c = let a = c .before .before .before .before .before .before .before .before .args in let t = a .table .now in let w = c .before .before .before .group-width .ensures .0 ∙ layout-width t (a .index .now) (c .before .before .before .before .before .before .before .before .pre .1 .0) (a .group) in
-    refuses _ _ _ _ _ (body-loose (schema t) (innerOf t (a .levels)) (a .group) (a .base) (a .bytes .now) _ (ap (λ (n : ℕ). 16 + n) w) (c .before .before .if1 .left) (c .before .before .before .before .before .before .before .before .pre .1 .3) (sym (c .before .extension-inside .ensures (a .base)) ∙ not-true _ (c .if2 .taken)))
-
-check-body-check-fields-requires : (t : ℕ) → check-body-lts.Need-check-fields-requires (check-body-claims t) (check-body-at t) check-body.Post
-check-body-check-fields-requires t c κs = let a = c .before .before .before .before .before .before .before .before .before .before .args in let t = a .table .now in let w = c .before .before .before .before .before .group-width .ensures .0 ∙ layout-width t (a .index .now) (c .before .before .before .before .before .before .before .before .before .before .pre .1 .0) (a .group) in
-    (search needs, (record { layout = c .before .before .before .before .before .before .before .before .before .before .pre .1 .0; same = c .before .before .before .before .before .before .before .before .before .before .pre .1 .1; small = c .before .before .before .before .before .before .before .before .before .before .pre .1 .2; room = c .before .before .before .before .if1 .left }, omega (arith, w, c .before .before .before .before .if1 .left), c .before .before .before .before .before .before .before .before .before .before .pre .1 .4, c .before .before .before .before .before .before .before .before .before .before .pre .1 .0 .shallows (a .group)))
-
-check-body-check-pads-requires : (t : ℕ) → check-body-lts.Need-check-pads-requires (check-body-claims t) (check-body-at t) check-body.Post
-check-body-check-pads-requires t c κs = (omega (arith, c .before .before .before .before .before .before .before .before .before .check-fields .kept, c .before .before .before .before .before .before .before .before .before .before .before .before .before .before .before .before .before .before .before .before .pre .1 .1), c .before .before .before .before .before .before .before .before .before .before .before .before .before .before .before .before .before .before .before .before .pre .1 .2, c .before .before .before .before .before .before .before .before .before .before .before .before .before .before .if1 .left)
-
-check-body-check-rest-requires : (t : ℕ) → check-body-lts.Need-check-rest-requires (check-body-claims t) (check-body-at t) check-body.Post
-check-body-check-rest-requires t c κs = (search needs, (record { layout = c .before .before .before .before .before .before .before .before .before .before .before .before .before .before .before .before .before .before .before .pre .1 .0; same = omega (arith, c .before .before .before .before .before .before .before .before .check-fields .kept, c .before .before .before .before .before .before .before .before .before .before .before .before .before .before .before .before .before .before .before .pre .1 .1); small = c .before .before .before .before .before .before .before .before .before .before .before .before .before .before .before .before .before .before .before .pre .1 .2; room = c .before .before .before .before .before .before .before .before .before .before .before .before .before .if1 .left }, c .before .before .before .before .before .before .before .before .before .before .before .before .before .before .before .before .before .before .before .pre .1 .3))
-
-check-body-returns-3 : (t : ℕ) → check-body-lts.Need-returns-3 (check-body-claims t) (check-body-at t) check-body.Post
-check-body-returns-3 t c = let a = c .before .before .before .before .before .before .before .before .before .before .before .before .before .before .before .before .before .before .before .before .args in let t = a .table .now in let w = c .before .before .before .before .before .before .before .before .before .before .before .before .before .before .before .group-width .ensures .0 ∙ layout-width t (a .index .now) (c .before .before .before .before .before .before .before .before .before .before .before .before .before .before .before .before .before .before .before .before .pre .1 .0) (a .group) in
-    counts _ _ _ _ _ _ (closing-clean (a .bytes .now) (a .base) (16 + c .before .before .before .before .before .before .before .before .before .before .before .before .before .before .before .group-width .result) _ (pads-none (16 + c .before .before .before .before .before .before .before .before .before .before .before .before .before .before .before .group-width .result) _ (c .before .before .before .before .before .before .before .before .before .check-fields .last .1 .1 .1 .0) (a .bytes .now) (omega (arith, c .before .before .before .before .before .before .before .before .before .check-fields .kept, c .before .before .before .before .before .before .before .before .before .before .before .before .before .before .before .before .before .before .before .before .pre .1 .1)) (c .before .before .before .before .before .before .before .before .before .before .before .before .before .before .if1 .left) (c .before .if4 .taken) (omega (arith, c .before .if4 .taken, c .before .before .before .before .before .before .before .before .before .before .before .before .before .before .before .before .before .before .before .before .pre .1 .2)))) (c .longer2 .ensures) ∙ sym (body-plain (schema t) (innerOf t (a .levels)) (a .group) (a .base) (a .bytes .now) _ (ap (λ (n : ℕ). 16 + n) w) (c .before .before .before .before .before .before .before .before .before .before .before .before .before .before .if1 .left) (c .before .before .before .before .before .before .before .before .before .before .before .before .before .before .before .before .before .before .before .before .pre .1 .3) (sym (c .before .before .before .before .before .before .before .before .before .before .before .before .before .extension-inside .ensures (a .base)) ∙ not-false _ (c .before .before .before .before .before .before .before .before .before .before .before .before .if2 .left)) _ _ (c .before .before .before .before .before .before .before .before .before .before .longer .ensures) _ (nothing-taken (16 + c .before .before .before .before .before .before .before .before .before .before .before .before .before .before .before .group-width .result) (a .marks .now) (a .bytes .now) (c .before .before .before .before .before .before .before .before .before .before .before .before .before .before .before .before .before .before .before .before .pre .1 .1) (omega (arith, c .before .before .before .before .before .before .before .before .before .before .before .before .before .before .if1 .left, c .before .before .before .before .before .before .before .before .before .before .before .before .before .before .before .before .before .before .before .before .pre .1 .2))) _ _ (c .before .before .before .before .before .before .before .before .before .check-fields .ensures) _ _ (c .before .before .before .before .before .fields .given .1) (sym (c .before .before .before .read-u32 .ensures .0) ∙ c .before .before .if3 .taken))
-
-check-body-returns-4 : (t : ℕ) → check-body-lts.Need-returns-4 (check-body-claims t) (check-body-at t) check-body.Post
-check-body-returns-4 t c = let a = c .before .before .before .before .before .before .before .before .before .before .before .before .before .before .before .before .before .before .before .before .before .before .before .args in let t = a .table .now in let w = c .before .before .before .before .before .before .before .before .before .before .before .before .before .before .before .before .before .before .group-width .ensures .0 ∙ layout-width t (a .index .now) (c .before .before .before .before .before .before .before .before .before .before .before .before .before .before .before .before .before .before .before .before .before .before .before .pre .1 .0) (a .group) in
-    c .before .before .check-pads .ensures ∙ sym (body-plain (schema t) (innerOf t (a .levels)) (a .group) (a .base) (a .bytes .now) _ (ap (λ (n : ℕ). 16 + n) w) (c .before .before .before .before .before .before .before .before .before .before .before .before .before .before .before .before .before .if1 .left) (c .before .before .before .before .before .before .before .before .before .before .before .before .before .before .before .before .before .before .before .before .before .before .before .pre .1 .3) (sym (c .before .before .before .before .before .before .before .before .before .before .before .before .before .before .before .before .extension-inside .ensures (a .base)) ∙ not-false _ (c .before .before .before .before .before .before .before .before .before .before .before .before .before .before .before .if2 .left)) _ _ (c .before .before .before .before .before .before .before .before .before .before .before .before .before .longer .ensures) _ (nothing-taken (16 + c .before .before .before .before .before .before .before .before .before .before .before .before .before .before .before .before .before .before .group-width .result) (a .marks .now) (a .bytes .now) (c .before .before .before .before .before .before .before .before .before .before .before .before .before .before .before .before .before .before .before .before .before .before .before .pre .1 .1) (omega (arith, c .before .before .before .before .before .before .before .before .before .before .before .before .before .before .before .before .before .if1 .left, c .before .before .before .before .before .before .before .before .before .before .before .before .before .before .before .before .before .before .before .before .before .before .before .pre .1 .2))) _ _ (c .before .before .before .before .before .before .before .before .before .before .before .before .check-fields .ensures) _ _ (c .before .before .before .before .before .before .before .before .fields .given .1) (sym (c .before .before .before .before .before .before .read-u32 .ensures .0) ∙ c .before .before .before .before .before .if3 .taken))
-
-check-body-returns-5 : (t : ℕ) → check-body-lts.Need-returns-5 (check-body-claims t) (check-body-at t) check-body.Post
-check-body-returns-5 t c = let a = c .before .before .before .before .before .before .before .before .before .before .before .before .before .before .before .before .before .before .before .before .before .before .args in let t = a .table .now in let w = c .before .before .before .before .before .before .before .before .before .before .before .before .before .before .before .before .before .group-width .ensures .0 ∙ layout-width t (a .index .now) (c .before .before .before .before .before .before .before .before .before .before .before .before .before .before .before .before .before .before .before .before .before .before .pre .1 .0) (a .group) in
-    c .before .before .check-rest .ensures ∙ sym (body-passed (schema t) (innerOf t (a .levels)) (a .group) (a .base) (a .bytes .now) _ (ap (λ (n : ℕ). 16 + n) w) (c .before .before .before .before .before .before .before .before .before .before .before .before .before .before .before .before .if1 .left) (c .before .before .before .before .before .before .before .before .before .before .before .before .before .before .before .before .before .before .before .before .before .before .pre .1 .3) (sym (c .before .before .before .before .before .before .before .before .before .before .before .before .before .before .before .extension-inside .ensures (a .base)) ∙ not-false _ (c .before .before .before .before .before .before .before .before .before .before .before .before .before .before .if2 .left)) _ _ (c .before .before .before .before .before .before .before .before .before .before .before .before .longer .ensures) _ (nothing-taken (16 + c .before .before .before .before .before .before .before .before .before .before .before .before .before .before .before .before .before .group-width .result) (a .marks .now) (a .bytes .now) (c .before .before .before .before .before .before .before .before .before .before .before .before .before .before .before .before .before .before .before .before .before .before .pre .1 .1) (omega (arith, c .before .before .before .before .before .before .before .before .before .before .before .before .before .before .before .before .if1 .left, c .before .before .before .before .before .before .before .before .before .before .before .before .before .before .before .before .before .before .before .before .before .before .pre .1 .2))) _ _ (c .before .before .before .before .before .before .before .before .before .before .before .check-fields .ensures) _ _ (c .before .before .before .before .before .before .before .fields .given .1))
-
-check-body-returns-6 : (t : ℕ) → check-body-lts.Need-returns-6 (check-body-claims t) (check-body-at t) check-body.Post
-check-body-returns-6 t c = let a = c .before .before .before .before .before .before .before .before .before .before .before .before .before .before .before .before .args in let t = a .table .now in let w = c .before .before .before .before .before .before .before .before .before .before .before .group-width .ensures .0 ∙ layout-width t (a .index .now) (c .before .before .before .before .before .before .before .before .before .before .before .before .before .before .before .before .pre .1 .0) (a .group) in
-    body-stopped (schema t) (innerOf t (a .levels)) (a .group) (a .base) (a .bytes .now) _ (ap (λ (n : ℕ). 16 + n) w) (c .before .before .before .before .before .before .before .before .before .before .if1 .left) (c .before .before .before .before .before .before .before .before .before .before .before .before .before .before .before .before .pre .1 .3) (sym (c .before .before .before .before .before .before .before .before .before .extension-inside .ensures (a .base)) ∙ not-false _ (c .before .before .before .before .before .before .before .before .if2 .left)) _ _ (c .before .before .before .before .before .before .longer .ensures) _ (nothing-taken (16 + c .before .before .before .before .before .before .before .before .before .before .before .group-width .result) (a .marks .now) (a .bytes .now) (c .before .before .before .before .before .before .before .before .before .before .before .before .before .before .before .before .pre .1 .1) (omega (arith, c .before .before .before .before .before .before .before .before .before .before .if1 .left, c .before .before .before .before .before .before .before .before .before .before .before .before .before .before .before .before .pre .1 .2))) _ _ (c .before .before .before .before .before .check-fields .ensures) _ _ _ (c .before .fields2 .given .1)
+abbrev close-group-below : ℕ → In 4 close-group-kinds.ps
+close-group-below t =
+    and 4 close-group-kinds.ps (falls 4 close-group-kinds.ps _<_ μ-close-group t) close-group.Pre
 
 abbrev check-dynamic-claims : ℕ → check-dynamic-lts.Claims
 check-dynamic-claims t = (locate-reads.Asked, locate-reads.Learnt, check-nested-below t, check-nested.Post)
@@ -349,42 +290,6 @@ check-dynamic-returns t c = let a = c .before .before .before .before .before .b
 
 check-dynamic-returns-2 : (t : ℕ) → check-dynamic-lts.Need-returns-2 (check-dynamic-claims t) (check-dynamic-at t) check-dynamic.Post
 check-dynamic-returns-2 t c = let a = c .before .before .before .before .before .before .before .before .before .before .before .args in refuses _ _ _ _ _ (leads-nowhere 26 1 (innerR (innerOf (a .table .now) (a .frame .levels)) (a .allowed)) (within (a .bytes .now) (a .frame)) (a .at) (marksOf (a .frame .area) (a .taken) (a .marks .now)) _ _ (c .before .before .before .before .before .locate .ensures .0) _ _ (c .before .found2 .given .1))
-
-abbrev check-dynamics-Inv-loop : check-dynamics-lts.InvT-loop
-check-dynamics-Inv-loop table index bytes marks₀ frame allowed total at taken before i₀ place₀ sum₀ holds₀ marks i place sum holds =
-    (i ≤ total) × (length marks ≡ length marks₀) × (place + (total - i) * 4 ≤ length bytes) × (sum < 2 ^ 64)
-    × (after before (count (itemsR 4 (markedR GB (indirectR 26 1 (innerR (innerOf table (frame .levels)) allowed))) total (within bytes frame) at (marksOf (frame .area) holds₀ marks₀))) ≡ after sum (count (itemsR 4 (markedR GB (indirectR 26 1 (innerR (innerOf table (frame .levels)) allowed))) (total - i) (within bytes frame) place (marksOf (frame .area) holds marks))))
-
-abbrev check-dynamics-μ-loop : check-dynamics-lts.MeasureT-loop
-check-dynamics-μ-loop table index bytes marks₀ frame allowed total at taken before i₀ place₀ sum₀ holds₀ marks i place sum holds =
-    total - i
-
-abbrev check-dynamics-claims : ℕ → check-dynamics-lts.Claims
-check-dynamics-claims t = (longer-reads.Asked, longer-reads.Learnt, check-dynamic-below t, check-dynamic.Post)
-
-check-dynamics-loop-holds : (t : ℕ) → check-dynamics-lts.Need-loop-holds (check-dynamics-claims t) (check-dynamics-at t) check-dynamics.Post check-dynamics-Inv-loop check-dynamics-μ-loop
-check-dynamics-loop-holds t c = let a = c .before .before .before .before .args in (search needs, search needs, rw sub-zero (c .before .before .before .before .pre .1 .1), search needs, rw sub-zero refl)
-
-check-dynamics-check-dynamic-requires : (t : ℕ) → check-dynamics-lts.Need-check-dynamic-requires (check-dynamics-claims t) (check-dynamics-at t) check-dynamics.Post check-dynamics-Inv-loop check-dynamics-μ-loop
-check-dynamics-check-dynamic-requires t c κs = let a = c .before .before .before .before .before .before .before .before .args in let i = c .before .before .before .loop .inv in let w = items-left (a .total) (c .before .before .before .loop .i) 4 (c .before .before .loop-test .taken) in
-    (search needs, (ready _ _ _ _ _ _ (c .before .before .before .before .before .before .before .before .pre .1 .0) (i .1 ∙ c .before .before .before .before .before .before .before .before .pre .1 .0 .same), omega (arith, i .2, w)))
-
-check-dynamics-returns : (t : ℕ) → check-dynamics-lts.Need-returns (check-dynamics-claims t) (check-dynamics-at t) check-dynamics.Post check-dynamics-Inv-loop check-dynamics-μ-loop
-check-dynamics-returns t c = let a = c .before .before .before .before .before .before .before .before .before .before .before .before .before .before .args in
-    items-stopped 4 _ (within (a .bytes .now) (a .frame)) (a .total) (c .before .before .before .before .before .before .before .before .before .loop .i) (c .before .before .before .before .before .before .before .before .before .loop .place) (c .before .before .before .before .before .before .before .before .before .loop .length) (marksOf (a .frame .area) (c .before .before .before .before .before .before .before .before .before .loop .holds) (c .before .before .before .before .before .before .before .before .before .loop .marks)) _ _ (c .before .before .before .before .before .check-dynamic .ensures ∙ sym (goes-on (c .before .before .before .before .before .before .before .before .before .loop .length) 2 _ _ _ (count-marked (within (a .bytes .now) (a .frame)) (c .before .before .before .before .before .before .before .before .before .loop .place) _ GB (indirectR 26 1 (innerR (innerOf (a .table .now) (a .frame .levels)) (a .allowed)))) (c .before .before .before .before .before .before .longer .ensures))) (c .before .before .before .before .before .before .before .before .loop-test .taken) _ _ _ (c .before .group2 .given .1) ∙ sym (c .before .before .before .before .before .before .before .before .before .loop .inv .4)
-
-check-dynamics-loop-again : (t : ℕ) → check-dynamics-lts.Need-loop-again (check-dynamics-claims t) (check-dynamics-at t) check-dynamics.Post check-dynamics-Inv-loop check-dynamics-μ-loop
-check-dynamics-loop-again t c = let a = c .before .before .before .before .before .before .before .before .before .before .before .before .before .before .args in let i = c .before .before .before .before .before .before .before .before .before .loop .inv in let w = items-left (a .total) (c .before .before .before .before .before .before .before .before .before .loop .i) 4 (c .before .before .before .before .before .before .before .before .loop-test .taken) in (
-  search needs,
-  search needs,
-  omega (arith, i .2, w),
-  bounded _ _ _ _ (c .before .before .before .before .before .check-dynamic .ensures ∙ sym (goes-on (c .before .before .before .before .before .before .before .before .before .loop .length) 2 _ _ _ (count-marked (within (a .bytes .now) (a .frame)) (c .before .before .before .before .before .before .before .before .before .loop .place) _ GB (indirectR 26 1 (innerR (innerOf (a .table .now) (a .frame .levels)) (a .allowed)))) (c .before .before .before .before .before .before .longer .ensures))) _ _ (c .before .group .given .1),
-  i .4 ∙ items-passed 4 _ (within (a .bytes .now) (a .frame)) (a .total) (c .before .before .before .before .before .before .before .before .before .loop .i) (c .before .before .before .before .before .before .before .before .before .loop .place) (c .before .before .before .before .before .before .before .before .before .loop .length) (marksOf (a .frame .area) (c .before .before .before .before .before .before .before .before .before .loop .holds) (c .before .before .before .before .before .before .before .before .before .loop .marks)) _ _ (c .before .before .before .before .before .check-dynamic .ensures ∙ sym (goes-on (c .before .before .before .before .before .before .before .before .before .loop .length) 2 _ _ _ (count-marked (within (a .bytes .now) (a .frame)) (c .before .before .before .before .before .before .before .before .before .loop .place) _ GB (indirectR 26 1 (innerR (innerOf (a .table .now) (a .frame .levels)) (a .allowed)))) (c .before .before .before .before .before .before .longer .ensures))) (c .before .before .before .before .before .before .before .before .loop-test .taken) _ _ (c .before .group .given .1),
-)
-
-check-dynamics-returns-2 : (t : ℕ) → check-dynamics-lts.Need-returns-2 (check-dynamics-claims t) (check-dynamics-at t) check-dynamics.Post check-dynamics-Inv-loop check-dynamics-μ-loop
-check-dynamics-returns-2 t c = let a = c .before .before .before .before .before .before .args in
-    items-end 4 _ (within (a .bytes .now) (a .frame)) (a .total) (c .before .loop .i) (c .before .loop .place) (c .before .loop .length) (marksOf (a .frame .area) (c .before .loop .holds) (c .before .loop .marks)) _ _ refl (c .loop-test .left) (c .before .loop .inv .3) ∙ sym (c .before .loop .inv .4)
 
 abbrev check-extending-claims : ℕ → check-extending-lts.Claims
 check-extending-claims t = (locate-reads.Asked, locate-reads.Learnt, read-u64-reads.Asked, read-u64-reads.Learnt, is-known-reads.Asked, is-known-reads.Learnt, longer-reads.Asked, longer-reads.Learnt, check-nested-below t, check-nested.Post)
@@ -562,39 +467,29 @@ check-fields-returns-2 t c = let a = c .before .before .before .before .before .
     fields-end (innerOf t (a .frame .levels)) (widthOf t (a .depth - 1)) (staticOf t (a .frame .levels) (a .depth - 1)) (enums t) t (within (a .bytes .now) (a .frame)) (c .before .before .field-count .result) (c .before .loop .i) (c .before .loop .field) (c .before .loop .place) (c .before .loop .length) (marksOf (a .frame .area) (c .before .loop .holds) (c .before .loop .marks)) _ _ refl (c .loop-test .left) (c .before .loop .inv .5) ∙ sym (c .before .loop .inv .6)
 
 abbrev check-group-claims : ℕ → check-group-lts.Claims
-check-group-claims t = (group-total-reads.Asked, group-total-reads.Learnt, read-u64-reads.Asked, read-u64-reads.Learnt, find-reads.Asked, find-reads.Learnt, allows-reads.Asked, allows-reads.Learnt, check-body-below t, check-body.Post)
+check-group-claims t = (open-group-reads.Asked, open-group-reads.Learnt, check-fields-below t, check-fields.Post, close-group-below t, close-group.Post)
+
+check-group-open-group-requires : (t : ℕ) → check-group-lts.Need-open-group-requires (check-group-claims t) (check-group-at t) check-group.Post
+check-group-open-group-requires t c κs = let R = c .before .before .before .before .pre .1 .0 in (R .layout, R .small)
+
+check-group-check-fields-requires : (t : ℕ) → check-group-lts.Need-check-fields-requires (check-group-claims t) (check-group-at t) check-group.Post
+check-group-check-fields-requires t c κs = let a = c .before .before .before .before .before .before .before .before .before .args in let F = c .before .before .before .before .before .before .before .before .before .pre .1 .1 in let B = opens-begun _ _ _ _ (a .outer) (a .depth) (a .at) _ (a .scope) _ _ (c .before .before .before .before .open-group .ensures (a .marks .now) (a .depth) (a .at) (c .before .before .before .before .before .before .before .before .before .pre .1 .0) F) _ _ _ _ (c .before .before .opening .given .1) in
+    (omega (arith, inside-falls (a .outer) _ _ _ (a .scope) (a .depth) (a .at) F (B .inside), c .before .before .before .before .before .before .before .before .before .pre .0), (B .ready, B .fits .0, B .fits .1, B .fits .2))
+
+check-group-close-group-requires : (t : ℕ) → check-group-lts.Need-close-group-requires (check-group-claims t) (check-group-at t) check-group.Post
+check-group-close-group-requires t c κs = let a = c .before .before .before .before .before .before .before .before .before .before .before .before .before .before .before .before .args in let F = c .before .before .before .before .before .before .before .before .before .before .before .before .before .before .before .before .pre .1 .1 in let B = opens-begun _ _ _ _ (a .outer) (a .depth) (a .at) _ (a .scope) _ _ (c .before .before .before .before .before .before .before .before .before .before .before .open-group .ensures (a .marks .now) (a .depth) (a .at) (c .before .before .before .before .before .before .before .before .before .before .before .before .before .before .before .before .pre .1 .0) F) _ _ _ _ (c .before .before .before .before .before .before .before .before .before .opening .given .1) in
+    (omega (arith, inside-falls (a .outer) _ _ _ (a .scope) (a .depth) (a .at) F (B .inside), c .before .before .before .before .before .before .before .before .before .before .before .before .before .before .before .before .pre .0), (ready _ _ _ _ _ _ (B .ready) (omega (arith, c .before .before .before .before .before .before .check-fields .kept, c .before .before .before .before .before .before .before .before .before .before .before .before .before .before .before .before .pre .1 .0 .same)), inside-long (a .outer) _ (a .scope) (B .inside) _ (B .ready .room)))
 
 check-group-returns : (t : ℕ) → check-group-lts.Need-returns (check-group-claims t) (check-group-at t) check-group.Post
-check-group-returns t c = let a = c .before .before .before .before .before .args in refuses _ _ _ _ _ (group-short (schema (a .table .now)) (a .allowed) (a .base) (a .bytes .now) (a .levels) (c .if1 .taken))
-
-check-group-find-requires : (t : ℕ) → check-group-lts.Need-find-requires (check-group-claims t) (check-group-at t) check-group.Post
-check-group-find-requires t c κs = let P = c .before .before .before .before .before .before .before .pre .1 .0 in (rw (sym (c .before .group-total .ensures .0 ∙ P .total)) at (P .placed), P .long, omega (arith, c .before .group-total .ensures .0, P .total, P .few), P .small)
+check-group-returns t c = let a = c .before .before .before .before .before .before .before .before .before .before .before .before .before .before .before .before .before .before .before .args in let B = opens-begun _ _ _ _ (a .outer) (a .depth) (a .at) _ (a .scope) _ _ (c .before .before .before .before .before .before .before .before .before .before .before .before .before .before .open-group .ensures (a .marks .now) (a .depth) (a .at) (c .before .before .before .before .before .before .before .before .before .before .before .before .before .before .before .before .before .before .before .pre .1 .0) (c .before .before .before .before .before .before .before .before .before .before .before .before .before .before .before .before .before .before .before .pre .1 .1)) _ _ _ _ (c .before .before .before .before .before .before .before .before .before .before .before .before .opening .given .1) in
+    inside-left (a .outer) _ (a .scope) (B .inside) _ _ ∙ c .before .before .close-group .ensures ∙ sym (B .counts ∙ passed _ _ _ _ (c .before .before .before .before .before .before .before .before .before .check-fields .ensures) _ _ _ (c .before .before .before .before .before .fields .given .1))
 
 check-group-returns-2 : (t : ℕ) → check-group-lts.Need-returns-2 (check-group-claims t) (check-group-at t) check-group.Post
-check-group-returns-2 t c = let a = c .before .before .before .before .before .before .before .before .before .args in let gs = schema (a .table .now) in let n = c .before .before .before .group-total .ensures .0 ∙ c .before .before .before .before .before .before .before .before .before .pre .1 .0 .total in
-    let g = c .before .find .ensures .0 ∙ find-whole gs _ _ n ∙ ap (find gs) (c .before .before .read-u64 .ensures) in
-    refuses _ _ _ _ _ (group-unknown gs (a .allowed) (a .base) (a .bytes .now) (a .levels) (c .before .before .before .before .if1 .left) _ g (omega (arith, n, c .if2 .taken)))
-
-check-group-allows-requires : (t : ℕ) → check-group-lts.Need-allows-requires (check-group-claims t) (check-group-at t) check-group.Post
-check-group-allows-requires t c κs = (c .before .before .before .before .before .before .before .before .before .pre .1 .0, omega (arith, c .before .before .before .group-total .ensures .0 ∙ c .before .before .before .before .before .before .before .before .before .pre .1 .0 .total, c .if2 .left))
+check-group-returns-2 t c = let a = c .before .before .before .before .before .before .before .before .before .before .before .before .before .before .before .args in let B = opens-begun _ _ _ _ (a .outer) (a .depth) (a .at) _ (a .scope) _ _ (c .before .before .before .before .before .before .before .before .before .before .open-group .ensures (a .marks .now) (a .depth) (a .at) (c .before .before .before .before .before .before .before .before .before .before .before .before .before .before .before .pre .1 .0) (c .before .before .before .before .before .before .before .before .before .before .before .before .before .before .before .pre .1 .1)) _ _ _ _ (c .before .before .before .before .before .before .before .before .opening .given .1) in
+    stopped _ _ _ _ (c .before .before .before .before .before .check-fields .ensures) _ _ _ _ (c .before .fields2 .given .1) ∙ sym (B .counts)
 
 check-group-returns-3 : (t : ℕ) → check-group-lts.Need-returns-3 (check-group-claims t) (check-group-at t) check-group.Post
-check-group-returns-3 t c = let a = c .before .before .before .before .before .before .before .before .before .before .before .before .args in let gs = schema (a .table .now) in let n = c .before .before .before .before .before .before .group-total .ensures .0 ∙ c .before .before .before .before .before .before .before .before .before .before .before .before .pre .1 .0 .total in
-    let g = c .before .before .before .before .find .ensures .0 ∙ find-whole gs _ _ n ∙ ap (find gs) (c .before .before .before .before .before .read-u64 .ensures) in
-    refuses _ _ _ _ _ (group-deep gs (a .allowed) (a .base) (a .bytes .now) (a .levels) (c .before .before .before .before .before .before .before .if1 .left) _ g (omega (arith, n, c .before .before .before .if2 .left)) (c .if4 .taken) (sym (c .before .before .allows .ensures) ∙ c .before .if3 .taken))
-
-check-group-check-body-requires : (t : ℕ) → check-group-lts.Need-check-body-requires (check-group-claims t) (check-group-at t) check-group.Post
-check-group-check-body-requires t c κs = (search needs, (c .before .before .before .before .before .before .before .before .before .before .before .before .before .pre .1 .0, c .before .before .before .before .before .before .before .before .before .before .before .before .before .pre .1 .1, c .before .before .before .before .before .before .before .before .before .before .before .before .before .pre .1 .2, c .before .before .before .before .before .before .before .before .if1 .left, omega (arith, c .before .before .before .before .before .before .before .group-total .ensures .0 ∙ c .before .before .before .before .before .before .before .before .before .before .before .before .before .pre .1 .0 .total, c .before .before .before .before .if2 .left)))
-
-check-group-returns-4 : (t : ℕ) → check-group-lts.Need-returns-4 (check-group-claims t) (check-group-at t) check-group.Post
-check-group-returns-4 t c = let a = c .before .before .before .before .before .before .before .before .before .before .before .before .before .before .before .before .args in let gs = schema (a .table .now) in let n = c .before .before .before .before .before .before .before .before .before .before .group-total .ensures .0 ∙ c .before .before .before .before .before .before .before .before .before .before .before .before .before .before .before .before .pre .1 .0 .total in
-    let g = c .before .before .before .before .before .before .before .before .find .ensures .0 ∙ find-whole gs _ _ n ∙ ap (find gs) (c .before .before .before .before .before .before .before .before .before .read-u64 .ensures) in
-    c .before .before .check-body .ensures ∙ ap (λ x. after (a .before) (count x)) (sym (group-body gs (a .allowed) (a .base) (a .bytes .now) (a .levels) (c .before .before .before .before .before .before .before .before .before .before .before .if1 .left) _ g (omega (arith, n, c .before .before .before .before .before .before .before .if2 .left)) (c .before .before .before .before .if4 .left) (sym (c .before .before .before .before .before .before .allows .ensures) ∙ c .before .before .before .before .before .if3 .taken)))
-
-check-group-returns-5 : (t : ℕ) → check-group-lts.Need-returns-5 (check-group-claims t) (check-group-at t) check-group.Post
-check-group-returns-5 t c = let a = c .before .before .before .before .before .before .before .before .before .before .before .args in let gs = schema (a .table .now) in let n = c .before .before .before .before .before .group-total .ensures .0 ∙ c .before .before .before .before .before .before .before .before .before .before .before .pre .1 .0 .total in
-    let g = c .before .before .before .find .ensures .0 ∙ find-whole gs _ _ n ∙ ap (find gs) (c .before .before .before .before .read-u64 .ensures) in
-    refuses _ _ _ _ _ (group-other gs (a .allowed) (a .base) (a .bytes .now) (a .levels) (c .before .before .before .before .before .before .if1 .left) _ g (omega (arith, n, c .before .before .if2 .left)) (sym (c .before .allows .ensures) ∙ c .if3 .left))
+check-group-returns-3 t c = let a = c .before .before .before .before .before .before .before .before .args in refuses _ _ _ _ _ (opens-refused _ _ _ _ (a .outer) (a .depth) (a .at) _ (a .scope) _ _ (c .before .before .before .open-group .ensures (a .marks .now) (a .depth) (a .at) (c .before .before .before .before .before .before .before .before .pre .1 .0) (c .before .before .before .before .before .before .before .before .pre .1 .1)) _ _ (c .before .opening2 .given .1))
 
 abbrev check-groups-Inv-loop : check-groups-lts.InvT-loop
 check-groups-Inv-loop table index bytes marks₀ frame total at taken before i₀ place₀ sum₀ holds₀ marks i place sum holds =
@@ -633,7 +528,7 @@ check-groups-returns-2 t c = let a = c .before .before .before .before .before .
     items-end 4 _ (within (a .bytes .now) (a .frame)) (a .total) (c .before .loop .i) (c .before .loop .place) (c .before .loop .length) (marksOf (a .frame .area) (c .before .loop .holds) (c .before .loop .marks)) _ _ refl (c .loop-test .left) (c .before .loop .inv .3) ∙ sym (c .before .loop .inv .4)
 
 abbrev check-item-claims : ℕ → check-item-lts.Claims
-check-item-claims t = (wide-reads.Asked, wide-reads.Learnt, longer-reads.Asked, longer-reads.Learnt, check-number-reads.Asked, check-number-reads.Learnt, check-inline-reads.Asked, check-inline-reads.Learnt, check-text-reads.Asked, check-text-reads.Learnt, check-fields-below t, check-fields.Post, check-dynamic-below t, check-dynamic.Post)
+check-item-claims t = (wide-reads.Asked, wide-reads.Learnt, longer-reads.Asked, longer-reads.Learnt, check-number-reads.Asked, check-number-reads.Learnt, check-inline-reads.Asked, check-inline-reads.Learnt, check-text-reads.Asked, check-text-reads.Learnt, check-group-below t, check-group.Post, check-dynamic-below t, check-dynamic.Post)
 
 check-item-check-number-requires : (t : ℕ) → check-item-lts.Need-check-number-requires (check-item-claims t) (check-item-at t) check-item.Post
 check-item-check-number-requires t c κs = let a = c .before .before .before .before .before .before .before .args in let t = a .table .now in let P = c .before .before .before .before .before .before .before .pre .1 .0 .layout in
@@ -649,11 +544,11 @@ check-item-check-text-requires : (t : ℕ) → check-item-lts.Need-check-text-re
 check-item-check-text-requires t c κs = let a = c .before .before .before .before .before .before .before .before .args in let t = a .table .now in
     let w = wide-indirect (widthOf t (a .depth)) (enums t) (a .kind) _ (c .before .before .kind4 .given .1) in (c .before .before .before .before .before .before .before .before .pre .1 .0 .same, c .before .before .before .before .before .before .before .before .pre .1 .0 .small, c .before .before .before .before .before .before .before .before .pre .1 .0 .room, omega (arith, w, c .before .before .before .before .before .before .before .before .pre .1 .1))
 
-check-item-check-fields-requires : (t : ℕ) → check-item-lts.Need-check-fields-requires (check-item-claims t) (check-item-at t) check-item.Post
-check-item-check-fields-requires t c κs = let a = c .before .before .before .before .before .before .before .before .before .args in let t = a .table .now in let sw = widthOf t (a .depth) in
+check-item-check-group-requires : (t : ℕ) → check-item-lts.Need-check-group-requires (check-item-claims t) (check-item-at t) check-item.Post
+check-item-check-group-requires t c κs = let a = c .before .before .before .before .before .before .before .before .before .args in let t = a .table .now in let sw = widthOf t (a .depth) in
     let w = wide-static sw (enums t) (a .kind) _ (c .before .before .before .kind5 .given .1) in
     let q = and-both (leb 1 (sw _)) (shallow (schema t) (a .depth) _) (sym (kind-static sw (enums t) (a .kind) (shallow (schema t) (a .depth)) _ (c .before .before .before .kind5 .given .1)) ∙ c .before .before .before .before .before .before .before .before .before .pre .1 .2) in
-    (search needs, (c .before .before .before .before .before .before .before .before .before .pre .1 .0, omega (arith, w, c .before .before .before .before .before .before .before .before .before .pre .1 .1), static-inside (schema t) (a .depth) _ (q .0), q .1))
+    (search needs, (c .before .before .before .before .before .before .before .before .before .pre .1 .0, (omega (arith, w, c .before .before .before .before .before .before .before .before .before .pre .1 .1), static-inside (schema t) (a .depth) _ (q .0), q .1)))
 
 check-item-check-dynamic-requires : (t : ℕ) → check-item-lts.Need-check-dynamic-requires (check-item-claims t) (check-item-at t) check-item.Post
 check-item-check-dynamic-requires t c κs = let a = c .before .before .before .before .before .before .before .before .before .args in let t = a .table .now in
@@ -677,7 +572,7 @@ check-item-returns-4 t c = let a = c .before .before .before .before .before .be
 
 check-item-returns-5 : (t : ℕ) → check-item-lts.Need-returns-5 (check-item-claims t) (check-item-at t) check-item.Post
 check-item-returns-5 t c = let a = c .before .before .before .before .before .before .before .before .before .before .before .before .args in let t = a .table .now in let I = innerOf t (a .frame .levels) in let S = staticOf t (a .frame .levels) (a .depth) in
-    c .before .before .check-fields .ensures ∙ sym (goes-on (a .before) 2 _ _ _ (item-static I S (a .bytes .now) (a .frame .base) (a .frame .area) (marksOf (a .frame .area) (a .taken) (a .marks .now)) (enums t) (a .kind) (a .at) _ (c .before .before .before .before .before .before .kind5 .given .1)) (c .before .before .before .longer2 .ensures))
+    c .before .before .check-group .ensures ∙ sym (goes-on (a .before) 2 _ _ _ (item-static I S (a .bytes .now) (a .frame .base) (a .frame .area) (marksOf (a .frame .area) (a .taken) (a .marks .now)) (enums t) (a .kind) (a .at) _ (c .before .before .before .before .before .before .kind5 .given .1)) (c .before .before .before .longer2 .ensures))
 
 check-item-returns-6 : (t : ℕ) → check-item-lts.Need-returns-6 (check-item-claims t) (check-item-at t) check-item.Post
 check-item-returns-6 t c = let a = c .before .before .before .before .before .before .before .before .before .before .before .before .args in let t = a .table .now in let I = innerOf t (a .frame .levels) in let S = staticOf t (a .frame .levels) (a .depth) in
@@ -693,7 +588,7 @@ check-items-μ-loop table index bytes marks₀ frame depth kind width total at t
     total - i
 
 abbrev check-items-claims : ℕ → check-items-lts.Claims
-check-items-claims t = (wide-reads.Asked, wide-reads.Learnt, longer-reads.Asked, longer-reads.Learnt, check-texts-reads.Asked, check-texts-reads.Learnt, check-dynamics-below t, check-dynamics.Post, check-item-below t, check-item.Post)
+check-items-claims t = (wide-reads.Asked, wide-reads.Learnt, longer-reads.Asked, longer-reads.Learnt, check-texts-reads.Asked, check-texts-reads.Learnt, check-item-below t, check-item.Post)
 
 check-items-mul-longer : (t : ℕ) → check-items-lts.Need-mul-longer (check-items-claims t) (check-items-at t) check-items.Post check-items-Inv-loop check-items-μ-loop
 check-items-mul-longer t c = omega (arith, mul-le-mul-right {m = c .before .before .before .before .before .before .before .before .args .total} {n = 4294967296} (2 + c .wide .result) (omega (arith, c .before .before .before .before .before .before .before .before .pre .1 .2)), c .wide .ensures .1)
@@ -709,27 +604,19 @@ check-items-returns-2 : (t : ℕ) → check-items-lts.Need-returns-2 (check-item
 check-items-returns-2 t c = let a = c .before .before .before .before .before .before .before .before .before .before .before .before .args in let t = a .table .now in
     c .before .before .check-texts .ensures ∙ ap (λ x. after (a .before) (count x)) (sym (items-indirect (innerOf t (a .frame .levels)) (staticOf t (a .frame .levels) (a .depth)) (a .bytes .now) (a .frame .base) (a .frame .area) (marksOf (a .frame .area) (a .taken) (a .marks .now)) (enums t) (a .kind) (widthOf t (a .depth)) (a .width) (a .total) (a .at) (c .before .before .before .before .before .before .before .before .before .before .before .before .pre .1 .4) _ (c .before .before .before .before .before .kind2 .given .1)))
 
-check-items-check-dynamics-requires : (t : ℕ) → check-items-lts.Need-check-dynamics-requires (check-items-claims t) (check-items-at t) check-items.Post check-items-Inv-loop check-items-μ-loop
-check-items-check-dynamics-requires t c κs = let a = c .before .before .before .before .before .before .before .before .before .before .args in let t = a .table .now in let q : a .width ≡ 4 = c .before .before .before .before .before .before .before .before .before .before .pre .1 .4 ∙ wide-dynamic (widthOf t (a .depth)) (enums t) (a .kind) _ (c .before .before .kind3 .given .1) in
-    (search needs, (c .before .before .before .before .before .before .before .before .before .before .pre .1 .0, rw q at (c .before .before .before .before .before .before .before .before .before .before .pre .1 .1)))
-
-check-items-returns-3 : (t : ℕ) → check-items-lts.Need-returns-3 (check-items-claims t) (check-items-at t) check-items.Post check-items-Inv-loop check-items-μ-loop
-check-items-returns-3 t c = let a = c .before .before .before .before .before .before .before .before .before .before .before .before .before .args in let t = a .table .now in
-    c .before .before .check-dynamics .ensures ∙ ap (λ x. after (a .before) (count x)) (sym (items-dynamic (innerOf t (a .frame .levels)) (staticOf t (a .frame .levels) (a .depth)) (a .bytes .now) (a .frame .base) (a .frame .area) (marksOf (a .frame .area) (a .taken) (a .marks .now)) (enums t) (a .kind) (widthOf t (a .depth)) (a .width) (a .total) (a .at) (c .before .before .before .before .before .before .before .before .before .before .before .before .before .pre .1 .4) _ (c .before .before .before .before .before .kind3 .given .1)))
-
 check-items-loop-holds : (t : ℕ) → check-items-lts.Need-loop-holds (check-items-claims t) (check-items-at t) check-items.Post check-items-Inv-loop check-items-μ-loop
-check-items-loop-holds t c = let a = c .before .before .before .before .before .before .before .args in (search needs, search needs, rw sub-zero (c .before .before .before .before .before .before .before .pre .1 .1), search needs, rw sub-zero refl)
+check-items-loop-holds t c = let a = c .before .before .before .before .before .before .args in (search needs, search needs, rw sub-zero (c .before .before .before .before .before .before .pre .1 .1), search needs, rw sub-zero refl)
 
 check-items-check-item-requires : (t : ℕ) → check-items-lts.Need-check-item-requires (check-items-claims t) (check-items-at t) check-items.Post check-items-Inv-loop check-items-μ-loop
-check-items-check-item-requires t c κs = let a = c .before .before .before .before .before .before .before .before .before .before .args in let i = c .before .before .loop .inv in let w = items-left (a .total) (c .before .before .loop .i) (a .width) (c .before .loop-test .taken) in
-    (search needs, (ready _ _ _ _ _ _ (c .before .before .before .before .before .before .before .before .before .before .pre .1 .0) (i .1 ∙ c .before .before .before .before .before .before .before .before .before .before .pre .1 .0 .same), omega (arith, i .2, w, c .before .before .before .before .before .before .before .before .before .before .pre .1 .4), c .before .before .before .before .before .before .before .before .before .before .pre .1 .5))
+check-items-check-item-requires t c κs = let a = c .before .before .before .before .before .before .before .before .before .args in let i = c .before .before .loop .inv in let w = items-left (a .total) (c .before .before .loop .i) (a .width) (c .before .loop-test .taken) in
+    (search needs, (ready _ _ _ _ _ _ (c .before .before .before .before .before .before .before .before .before .pre .1 .0) (i .1 ∙ c .before .before .before .before .before .before .before .before .before .pre .1 .0 .same), omega (arith, i .2, w, c .before .before .before .before .before .before .before .before .before .pre .1 .4), c .before .before .before .before .before .before .before .before .before .pre .1 .5))
 
-check-items-returns-4 : (t : ℕ) → check-items-lts.Need-returns-4 (check-items-claims t) (check-items-at t) check-items.Post check-items-Inv-loop check-items-μ-loop
-check-items-returns-4 t c = let a = c .before .before .before .before .before .before .before .before .before .before .before .before .before .before .before .before .args in
+check-items-returns-3 : (t : ℕ) → check-items-lts.Need-returns-3 (check-items-claims t) (check-items-at t) check-items.Post check-items-Inv-loop check-items-μ-loop
+check-items-returns-3 t c = let a = c .before .before .before .before .before .before .before .before .before .before .before .before .before .before .before .args in
     items-stopped (a .width) _ (within (a .bytes .now) (a .frame)) (a .total) (c .before .before .before .before .before .before .before .before .loop .i) (c .before .before .before .before .before .before .before .before .loop .place) (c .before .before .before .before .before .before .before .before .loop .length) (marksOf (a .frame .area) (c .before .before .before .before .before .before .before .before .loop .holds) (c .before .before .before .before .before .before .before .before .loop .marks)) _ _ (c .before .before .before .before .before .check-item .ensures) (c .before .before .before .before .before .before .before .loop-test .taken) _ _ _ (c .before .item2 .given .1) ∙ sym (c .before .before .before .before .before .before .before .before .loop .inv .4)
 
 check-items-loop-again : (t : ℕ) → check-items-lts.Need-loop-again (check-items-claims t) (check-items-at t) check-items.Post check-items-Inv-loop check-items-μ-loop
-check-items-loop-again t c = let a = c .before .before .before .before .before .before .before .before .before .before .before .before .before .before .before .before .args in let i = c .before .before .before .before .before .before .before .before .loop .inv in let w = items-left (a .total) (c .before .before .before .before .before .before .before .before .loop .i) (a .width) (c .before .before .before .before .before .before .before .loop-test .taken) in (
+check-items-loop-again t c = let a = c .before .before .before .before .before .before .before .before .before .before .before .before .before .before .before .args in let i = c .before .before .before .before .before .before .before .before .loop .inv in let w = items-left (a .total) (c .before .before .before .before .before .before .before .before .loop .i) (a .width) (c .before .before .before .before .before .before .before .loop-test .taken) in (
   search needs,
   search needs,
   omega (arith, i .2, w),
@@ -737,15 +624,15 @@ check-items-loop-again t c = let a = c .before .before .before .before .before .
   i .4 ∙ items-passed (a .width) _ (within (a .bytes .now) (a .frame)) (a .total) (c .before .before .before .before .before .before .before .before .loop .i) (c .before .before .before .before .before .before .before .before .loop .place) (c .before .before .before .before .before .before .before .before .loop .length) (marksOf (a .frame .area) (c .before .before .before .before .before .before .before .before .loop .holds) (c .before .before .before .before .before .before .before .before .loop .marks)) _ _ (c .before .before .before .before .before .check-item .ensures) (c .before .before .before .before .before .before .before .loop-test .taken) _ _ (c .before .item .given .1),
 )
 
-check-items-returns-5 : (t : ℕ) → check-items-lts.Need-returns-5 (check-items-claims t) (check-items-at t) check-items.Post check-items-Inv-loop check-items-μ-loop
-check-items-returns-5 t c = let a = c .before .before .before .before .before .before .before .before .before .args in
+check-items-returns-4 : (t : ℕ) → check-items-lts.Need-returns-4 (check-items-claims t) (check-items-at t) check-items.Post check-items-Inv-loop check-items-μ-loop
+check-items-returns-4 t c = let a = c .before .before .before .before .before .before .before .before .args in
     items-end (a .width) _ (within (a .bytes .now) (a .frame)) (a .total) (c .before .loop .i) (c .before .loop .place) (c .before .loop .length) (marksOf (a .frame .area) (c .before .loop .holds) (c .before .loop .marks)) _ _ refl (c .loop-test .left) (c .before .loop .inv .3) ∙ sym (c .before .loop .inv .4)
 
 abbrev check-nested-claims : ℕ → check-nested-lts.Claims
 check-nested-claims t = (check-group-below t, check-group.Post, retake-reads.Asked, retake-reads.Learnt)
 
 check-nested-check-group-requires : (t : ℕ) → check-nested-lts.Need-check-group-requires (check-nested-claims t) (check-nested-at t) check-nested.Post
-check-nested-check-group-requires t c κs = let a = c .before .before .before .before .before .before .before .args in (search needs, (c .before .before .before .before .before .before .before .pre .1 .0 .layout, search needs, search needs))
+check-nested-check-group-requires t c κs = let a = c .before .before .before .before .before .before .before .args in (search needs, (record { layout = c .before .before .before .before .before .before .before .pre .1 .0 .layout; same = search needs; small = search needs; room = search needs }, (refl, refl)))
 
 check-nested-returns : (t : ℕ) → check-nested-lts.Need-returns (check-nested-claims t) (check-nested-at t) check-nested.Post
 check-nested-returns t c = let a = c .before .before .before .before .before .before .before .before .before .before .before .before .before .before .before .before .before .args in nested-passed _ (a .before) _ _ _ _ (a .taken) (marksOf (a .frame .area) (a .taken) (a .marks .now)) (rw add-sub-cancel-left at (c .before .before .before .before .before .before .before .before .before .check-group .ensures)) (c .before .before .before .before .before .group .given .1) (retaken (a .frame .area) (a .taken) (a .marks .now) _ _ (c .before .before .before .before .before .before .before .before .before .check-group .last .1 .1 .1 .0) (a .start) (a .size) (omega (arith, c .before .before .before .before .before .before .before .before .before .before .before .before .before .before .before .before .before .pre .1 .0 .room, c .before .before .before .before .before .before .before .before .before .before .before .before .before .before .before .before .before .pre .1 .0 .same)) (search needs) (search needs) refl (rw add-sub-cancel-left at (c .before .before .retake .ensures)) (c .before .before .before .before .before .before .before .before .before .before .before .before .before .before .before .before .before .pre .1 .2))
@@ -815,13 +702,37 @@ check-value-same-length-2 t c = omega (arith, c .before .before .check-items .ke
 check-value-returns-2 : (t : ℕ) → check-value-lts.Need-returns-2 (check-value-claims t) (check-value-at t) check-value.Post
 check-value-returns-2 t c = c .before .before .check-items .ensures ∙ check-value-joined t (c .before .before .before .before) .1 .counts
 
-pub +check-body+check-dynamic+check-dynamics+check-extending+check-extension+check-field+check-fields+check-group+check-groups+check-item+check-items+check-nested+check-rest+check-value-spec :
+abbrev close-group-claims : ℕ → close-group-lts.Claims
+close-group-claims t = (read-u32-reads.Asked, read-u32-reads.Learnt, longer-reads.Asked, longer-reads.Learnt, check-pads-reads.Asked, check-pads-reads.Learnt, check-rest-below t, check-rest.Post)
+
+close-group-read-u32-requires : (t : ℕ) → close-group-lts.Need-read-u32-requires (close-group-claims t) (close-group-at t) close-group.Post
+close-group-read-u32-requires t c κs = let l = c .before .before .before .before .before .before .before .pre .1 .1 _ (c .before .scope .given .1) in omega (arith, l)
+
+close-group-returns : (t : ℕ) → close-group-lts.Need-returns (close-group-claims t) (close-group-at t) close-group.Post
+close-group-returns t c = let a = c .before .before .before .before .before .before .before .before .before .before .before .args in let t = a .table .now in let R = c .before .before .before .before .before .before .before .before .before .before .before .pre .1 .0 in
+    closes-dynamic t (a .frame .levels) (within (a .bytes .now) (a .frame)) _ (a .frame .area) _ (a .before) (a .scope) _ (c .before .before .before .before .before .scope .given .1) _ (counts _ _ _ _ _ _ (rest-plain (schema t) (innerOf t (a .frame .levels)) (a .bytes .now) (a .frame .base) (a .frame .area) _ (sym (c .before .before .before .read-u32 .ensures .0) ∙ c .before .before .if1 .taken) ∙ closing-clean (a .bytes .now) (a .frame .base) (a .frame .area) _ (pads-none (a .frame .area) _ (a .marks .now) (a .bytes .now) (R .same) (R .room) (c .before .if2 .taken) (omega (arith, c .before .if2 .taken, R .small)))) (c .longer .ensures))
+
+close-group-check-pads-requires : (t : ℕ) → close-group-lts.Need-check-pads-requires (close-group-claims t) (close-group-at t) close-group.Post
+close-group-check-pads-requires t c κs = let R = c .before .before .before .before .before .before .before .before .before .before .before .pre .1 .0 in (R .same, R .small, R .room)
+
+close-group-returns-2 : (t : ℕ) → close-group-lts.Need-returns-2 (close-group-claims t) (close-group-at t) close-group.Post
+close-group-returns-2 t c = let a = c .before .before .before .before .before .before .before .before .before .before .before .before .before .before .args in let t = a .table .now in
+    closes-dynamic t (a .frame .levels) (within (a .bytes .now) (a .frame)) _ (a .frame .area) _ (a .before) (a .scope) _ (c .before .before .before .before .before .before .before .before .scope .given .1) _ (c .before .before .check-pads .ensures ∙ ap (after (a .before)) (sym (rest-plain (schema t) (innerOf t (a .frame .levels)) (a .bytes .now) (a .frame .base) (a .frame .area) _ (sym (c .before .before .before .before .before .before .read-u32 .ensures .0) ∙ c .before .before .before .before .before .if1 .taken))))
+
+close-group-check-rest-requires : (t : ℕ) → close-group-lts.Need-check-rest-requires (close-group-claims t) (close-group-at t) close-group.Post
+close-group-check-rest-requires t c κs = (search needs, (c .before .before .before .before .before .before .before .before .before .before .pre .1 .0, c .before .before .before .before .before .before .before .before .before .before .pre .1 .1 _ (c .before .before .before .before .scope .given .1)))
+
+close-group-returns-3 : (t : ℕ) → close-group-lts.Need-returns-3 (close-group-claims t) (close-group-at t) close-group.Post
+close-group-returns-3 t c = let a = c .before .before .before .before .before .before .before .before .before .before .before .before .before .args in closes-dynamic (a .table .now) (a .frame .levels) (within (a .bytes .now) (a .frame)) _ (a .frame .area) _ (a .before) (a .scope) _ (c .before .before .before .before .before .before .before .scope .given .1) _ (c .before .before .check-rest .ensures)
+
+close-group-returns-4 : (t : ℕ) → close-group-lts.Need-returns-4 (close-group-claims t) (close-group-at t) close-group.Post
+close-group-returns-4 t c = let a = c .before .before .before .before .before .before .before .args in closes-static (a .table .now) (a .frame .levels) (within (a .bytes .now) (a .frame)) _ (a .frame .area) _ (a .before) (a .scope) _ (c .before .scope2 .given .1) _ refl (search needs)
+
+pub +check-dynamic+check-extending+check-extension+check-field+check-fields+check-group+check-groups+check-item+check-items+check-nested+check-rest+check-value+close-group-spec :
     {M : Type 1} → statement M
-+check-body+check-dynamic+check-dynamics+check-extending+check-extension+check-field+check-fields+check-group+check-groups+check-item+check-items+check-nested+check-rest+check-value-spec =
++check-dynamic+check-extending+check-extension+check-field+check-fields+check-group+check-groups+check-item+check-items+check-nested+check-rest+check-value+close-group-spec =
     close
-    μ-check-body
     μ-check-dynamic
-    μ-check-dynamics
     μ-check-extending
     μ-check-extension
     μ-check-field
@@ -832,27 +743,26 @@ pub +check-body+check-dynamic+check-dynamics+check-extending+check-extension+che
     μ-check-items
     μ-check-nested
     μ-check-rest
-    μ-check-value (λ t. check-body-lts.spec (check-body-claims t) (check-body-at t)
-    check-body.Post (λ c κs. search needs) (λ c. search needs) (check-body-returns t) (λ c κs. search needs) (λ c. search needs) (check-body-returns-2 t) (λ c κs. search needs) (check-body-check-fields-requires t) (λ c. search needs) (λ c κs. search needs) (λ c κs. search needs) (λ c. search needs) (check-body-returns-3 t) (check-body-check-pads-requires t) (λ c. search needs) (check-body-returns-4 t) (check-body-check-rest-requires t) (λ c. search needs) (λ c. search needs) (check-body-returns-5 t) (λ c. search needs) (check-body-returns-6 t)) (λ t. check-dynamic-lts.spec (check-dynamic-claims t) (check-dynamic-at t)
-    check-dynamic.Post (λ c κs. search needs) (λ c. search needs) (check-dynamic-add-check-nested t) (check-dynamic-check-nested-requires t) (λ c. search needs) (λ c. search needs) (check-dynamic-returns t) (λ c. search needs) (check-dynamic-returns-2 t)) (λ t. check-dynamics-lts.spec (check-dynamics-claims t) (check-dynamics-at t)
-    check-dynamics.Post
-    check-dynamics-Inv-loop
-    check-dynamics-μ-loop (check-dynamics-loop-holds t) (λ c κs. search needs) (check-dynamics-check-dynamic-requires t) (λ c. search needs) (λ c. search needs) (λ c. search needs) (check-dynamics-returns t) (λ c. search needs) (λ c. search needs) (λ c. search needs) (check-dynamics-loop-again t) (λ c. search needs) (check-dynamics-returns-2 t)) (λ t. check-extending-lts.spec (check-extending-claims t) (check-extending-at t)
+    μ-check-value
+    μ-close-group (λ t. check-dynamic-lts.spec (check-dynamic-claims t) (check-dynamic-at t)
+    check-dynamic.Post (λ c κs. search needs) (λ c. search needs) (check-dynamic-add-check-nested t) (check-dynamic-check-nested-requires t) (λ c. search needs) (λ c. search needs) (check-dynamic-returns t) (λ c. search needs) (check-dynamic-returns-2 t)) (λ t. check-extending-lts.spec (check-extending-claims t) (check-extending-at t)
     check-extending.Post (λ c κs. search needs) (λ c. search needs) (check-extending-add-t19 t) (λ c. search needs) (check-extending-returns t) (check-extending-add-read-u64 t) (check-extending-read-u64-requires t) (λ c κs. search needs) (check-extending-add-check-nested t) (λ c κs. search needs) (check-extending-check-nested-requires t) (λ c. search needs) (check-extending-returns-2 t) (check-extending-add-longer t) (λ c κs. search needs) (λ c. search needs) (λ c. search needs) (check-extending-returns-3 t) (λ c. search needs) (check-extending-returns-4 t)) (λ t. check-extension-lts.spec (check-extension-claims t) (check-extension-at t)
     check-extension.Post (λ c κs. search needs) (check-extension-returns t) (λ c κs. search needs) (λ c. search needs) (λ c. search needs) (check-extension-returns-2 t) (check-extension-add-check-groups t) (λ c κs. search needs) (check-extension-check-groups-requires t) (λ c. search needs) (λ c. search needs) (check-extension-returns-3 t) (λ c. search needs) (check-extension-returns-4 t)) (λ t. check-field-lts.spec (check-field-claims t) (check-field-at t)
     check-field.Post (λ c κs. search needs) (check-field-is-unset-requires t) (λ c κs. search needs) (check-field-check-absent-requires t) (check-field-returns t) (λ c κs. search needs) (check-field-add-check-value t) (check-field-check-value-requires t) (λ c. search needs) (check-field-returns-2 t)) (λ t. check-fields-lts.spec (check-fields-claims t) (check-fields-at t)
     check-fields.Post
     check-fields-Inv-loop
     check-fields-μ-loop (λ c κs. search needs) (check-fields-field-count-requires t) (check-fields-sub-deeper t) (λ c. search needs) (check-fields-loop-holds t) (λ c κs. search needs) (λ c. search needs) (λ c κs. search needs) (λ c. search needs) (λ c. search needs) (λ c. search needs) (λ c. search needs) (check-fields-loop-again t) (λ c κs. search needs) (check-fields-check-field-requires t) (λ c. search needs) (λ c. search needs) (λ c. search needs) (check-fields-returns t) (check-fields-add-place-2 t) (λ c. search needs) (λ c. search needs) (λ c. search needs) (check-fields-loop-again-2 t) (λ c. search needs) (check-fields-returns-2 t)) (λ t. check-group-lts.spec (check-group-claims t) (check-group-at t)
-    check-group.Post (check-group-returns t) (λ c κs. search needs) (λ c κs. search needs) (check-group-find-requires t) (check-group-returns-2 t) (check-group-allows-requires t) (check-group-returns-3 t) (λ c. search needs) (check-group-check-body-requires t) (λ c. search needs) (check-group-returns-4 t) (check-group-returns-5 t)) (λ t. check-groups-lts.spec (check-extending-below t, check-extending.Post) (check-groups-at t)
+    check-group.Post (check-group-open-group-requires t) (λ c. search needs) (check-group-check-fields-requires t) (λ c. search needs) (check-group-close-group-requires t) (λ c. search needs) (λ c. search needs) (λ c. search needs) (check-group-returns t) (λ c. search needs) (check-group-returns-2 t) (check-group-returns-3 t)) (λ t. check-groups-lts.spec (check-extending-below t, check-extending.Post) (check-groups-at t)
     check-groups.Post
     check-groups-Inv-loop
     check-groups-μ-loop (check-groups-loop-holds t) (check-groups-check-extending-requires t) (λ c. search needs) (λ c. search needs) (λ c. search needs) (check-groups-returns t) (λ c. search needs) (λ c. search needs) (λ c. search needs) (check-groups-loop-again t) (λ c. search needs) (check-groups-returns-2 t)) (λ t. check-item-lts.spec (check-item-claims t) (check-item-at t)
-    check-item.Post (λ c. search needs) (λ c κs. search needs) (λ c. search needs) (λ c κs. search needs) (λ c. search needs) (check-item-check-number-requires t) (λ c. search needs) (check-item-check-inline-requires t) (λ c. search needs) (check-item-check-text-requires t) (λ c. search needs) (λ c κs. search needs) (check-item-check-fields-requires t) (λ c. search needs) (λ c κs. search needs) (check-item-check-dynamic-requires t) (check-item-returns t) (check-item-returns-2 t) (check-item-returns-3 t) (λ c. search needs) (check-item-returns-4 t) (λ c. search needs) (check-item-returns-5 t) (λ c. search needs) (check-item-returns-6 t)) (λ t. check-items-lts.spec (check-items-claims t) (check-items-at t)
+    check-item.Post (λ c. search needs) (λ c κs. search needs) (λ c. search needs) (λ c κs. search needs) (λ c. search needs) (check-item-check-number-requires t) (λ c. search needs) (check-item-check-inline-requires t) (λ c. search needs) (check-item-check-text-requires t) (λ c. search needs) (λ c κs. search needs) (check-item-check-group-requires t) (λ c. search needs) (λ c κs. search needs) (check-item-check-dynamic-requires t) (check-item-returns t) (check-item-returns-2 t) (check-item-returns-3 t) (λ c. search needs) (check-item-returns-4 t) (λ c. search needs) (check-item-returns-5 t) (λ c. search needs) (check-item-returns-6 t)) (λ t. check-items-lts.spec (check-items-claims t) (check-items-at t)
     check-items.Post
     check-items-Inv-loop
-    check-items-μ-loop (λ c. search needs) (λ c κs. search needs) (λ c. search needs) (check-items-mul-longer t) (λ c κs. search needs) (check-items-returns t) (λ c. search needs) (check-items-check-texts-requires t) (λ c. search needs) (check-items-returns-2 t) (λ c. search needs) (check-items-check-dynamics-requires t) (λ c. search needs) (check-items-returns-3 t) (check-items-loop-holds t) (check-items-check-item-requires t) (λ c. search needs) (λ c. search needs) (λ c. search needs) (check-items-returns-4 t) (λ c. search needs) (λ c. search needs) (λ c. search needs) (check-items-loop-again t) (λ c. search needs) (check-items-returns-5 t)) (λ t. check-nested-lts.spec (check-nested-claims t) (check-nested-at t)
+    check-items-μ-loop (λ c. search needs) (λ c κs. search needs) (λ c. search needs) (check-items-mul-longer t) (λ c κs. search needs) (check-items-returns t) (λ c. search needs) (check-items-check-texts-requires t) (λ c. search needs) (check-items-returns-2 t) (check-items-loop-holds t) (check-items-check-item-requires t) (λ c. search needs) (λ c. search needs) (λ c. search needs) (check-items-returns-3 t) (λ c. search needs) (λ c. search needs) (λ c. search needs) (check-items-loop-again t) (λ c. search needs) (check-items-returns-4 t)) (λ t. check-nested-lts.spec (check-nested-claims t) (check-nested-at t)
     check-nested.Post (λ c. search needs) (λ c. search needs) (λ c. search needs) (λ c. search needs) (λ c. search needs) (λ c. search needs) (λ c. search needs) (λ c. search needs) (check-nested-check-group-requires t) (λ c. search needs) (λ c κs. search needs) (λ c. search needs) (λ c. search needs) (check-nested-returns t) (λ c. search needs) (check-nested-returns-2 t)) (λ t. check-rest-lts.spec (check-rest-claims t) (check-rest-at t)
     check-rest.Post (check-rest-check-extension-requires t) (λ c. search needs) (check-rest-check-pads-requires t) (λ c. search needs) (λ c. search needs) (check-rest-returns t) (λ c. search needs) (check-rest-returns-2 t))
-    λ t. check-value-lts.spec (check-value-claims t) (check-value-at t)
-    check-value.Post (λ c κs. search needs) (λ c κs. search needs) (λ c κs. search needs) (check-value-locate-requires t) (λ c. search needs) (check-value-add-start t) (λ c κs. search needs) (λ c. search needs) (λ c. search needs) (check-value-returns t) (check-value-check-items-requires t) (check-value-same-length-2 t) (check-value-returns-2 t)
+    (λ t. check-value-lts.spec (check-value-claims t) (check-value-at t)
+    check-value.Post (λ c κs. search needs) (λ c κs. search needs) (λ c κs. search needs) (check-value-locate-requires t) (λ c. search needs) (check-value-add-start t) (λ c κs. search needs) (λ c. search needs) (λ c. search needs) (check-value-returns t) (check-value-check-items-requires t) (check-value-same-length-2 t) (check-value-returns-2 t))
+    λ t. close-group-lts.spec (close-group-claims t) (close-group-at t)
+    close-group.Post (λ c. search needs) (close-group-read-u32-requires t) (λ c κs. search needs) (close-group-returns t) (close-group-check-pads-requires t) (λ c. search needs) (close-group-returns-2 t) (close-group-check-rest-requires t) (λ c. search needs) (λ c. search needs) (close-group-returns-3 t) (close-group-returns-4 t)

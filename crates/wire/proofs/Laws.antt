@@ -56,6 +56,46 @@ splice-append m n at xs ys s e h =
     let z = drop m (drop at s) in
     rw (← (append-assoc (take at s) xs z), take-at (take at s ++ xs) z (at + m) l, drop-at (take at s ++ xs) z (at + m) l) (simp (append-assoc, drop-drop, add-assoc))
 
+splice-at : (n at : ℕ) (a b c ys : List ℕ) → length a ≡ at → length b ≡ n → splice n at ys (a ++ (b ++ c)) ≡ a ++ (ys ++ c)
+splice-at n at a b c ys ha hb = rw (take-at a (b ++ c) at ha, drop-at a (b ++ c) at ha, drop-at b c n hb)
+
+-- what lies before the other is written in any order
+module _ (m n p q : ℕ) (xs ys : List ℕ) (e : length xs ≡ m) (h : p + m ≤ q) where
+  commute-parts : (a b c d t : List ℕ) → length a ≡ p → length b ≡ m → length (a ++ (b ++ c)) ≡ q → length d ≡ n
+      → splice m p xs (splice n q ys (a ++ (b ++ (c ++ (d ++ t))))) ≡ splice n q ys (splice m p xs (a ++ (b ++ (c ++ (d ++ t)))))
+  commute-parts a b c d t ha hb hq hd =
+      let k : length (a ++ (xs ++ c)) ≡ q = simp length-append (omega (arith, hq, simp length-append at hq)) in
+      let u : splice n q ys (a ++ (b ++ (c ++ (d ++ t)))) ≡ a ++ (b ++ (c ++ (ys ++ t))) =
+      ap (splice n q ys) (simp append-assoc) ∙ splice-at n q (a ++ (b ++ c)) d t ys hq hd ∙ simp append-assoc in
+      let v : splice n q ys (a ++ (xs ++ (c ++ (d ++ t)))) ≡ a ++ (xs ++ (c ++ (ys ++ t))) =
+      ap (splice n q ys) (simp append-assoc) ∙ splice-at n q (a ++ (xs ++ c)) d t ys k hd ∙ simp append-assoc in
+      ap (splice m p xs) u ∙ splice-at m p a b (c ++ (ys ++ t)) xs ha hb
+      ∙ sym (ap (splice n q ys) (splice-at m p a b (c ++ (d ++ t)) xs ha hb) ∙ v)
+
+  pub splice-commute : (s : List ℕ) → q + n ≤ length s → splice m p xs (splice n q ys s) ≡ splice n q ys (splice m p xs s)
+  splice-commute s l =
+      let a = take p s in
+      let b = part m p s in
+      let c = part (q - (p + m)) (p + m) s in
+      let d = part n q s in
+      let i : q ≡ p + m + (q - (p + m)) = omega arith in
+      let la : length a ≡ p = simp length-take (omega arith) in
+      let lb : length b ≡ m = length-part m p s (omega arith) in
+      let lc : length c ≡ q - (p + m) = length-part (q - (p + m)) (p + m) s (omega arith) in
+      let o : s ≡ a ++ (b ++ (c ++ (d ++ drop n (drop q s)))) =
+      sym (take-append-drop p s)
+      ∙ ap (λ (x : List ℕ). a ++ x) (sym (take-append-drop m (drop p s)))
+      ∙ ap (λ (x : List ℕ). a ++ (b ++ x)) (drop-drop m p s ∙ sym (take-append-drop (q - (p + m)) (drop (p + m) s)))
+      ∙ ap (λ (x : List ℕ). a ++ (b ++ (c ++ x))) (drop-drop (q - (p + m)) (p + m) s ∙ ap (λ (k : ℕ). drop k s) (sym i) ∙ sym (take-append-drop n (drop q s))) in
+      ap (λ (x : List ℕ). splice m p xs (splice n q ys x)) o
+      ∙ commute-parts a b c d (drop n (drop q s)) la lb (simp length-append (omega (arith, la, lb, lc))) (length-part n q s l)
+      ∙ sym (ap (λ (x : List ℕ). splice n q ys (splice m p xs x)) o)
+
+-- the first of two splices in a row may be written last
+pub splice-before : (m n p q : ℕ) (xs ys s : List ℕ) → q ≡ p + m → length xs ≡ m → q + n ≤ length s → splice m p xs (splice n q ys s) ≡ splice (m + n) p (xs ++ ys) s
+splice-before m n p q xs ys s i e h =
+    splice-commute m n p q xs ys e (omega arith) s h ∙ rw i (splice-append m n p xs ys s e (omega arith))
+
 -- what a splice wrote, and what it left before and behind
 module _ (n at : ℕ) (ys s : List ℕ) (h : at + n ≤ length s) (e : length ys ≡ n) where
   pub part-splice : part n at (splice n at ys s) ≡ ys

@@ -5,7 +5,7 @@ use mathlib.Core.Bool.{Bool, _&&_, and-true, and-assoc}
 use mathlib.Core.List.{List, [], _∷_}
 use native.Mathlib.Omega.{arith}
 use native.Mathlib.Nat.{add-zero, sub-zero}
-use lib.ListN.{length, getD, set, replicate, drop, drop-of-length-le}
+use lib.ListN.{length, getD, set, replicate}
 use lib.Dec.{eqb, ltb}
 use Rattle.wire.specs.Bytes.{part, splice, same, allZero, zeros}
 use Rattle.wire.specs.Scan.{allAscii}
@@ -64,34 +64,18 @@ module _ (n at : ℕ) (s : List ℕ) where
   unfolding allAscii
   ascii-end a i h = rw (rest-none i h) (and-true a)
 
--- WRITES
+-- FILLS
 
 module _ (n at i : ℕ) (out : List ℕ) where
-  pub write-turn : (y : ℕ) (ys : List ℕ) → i < n → at + n ≤ length out
-      → splice (n - i) (at + i) (y ∷ ys) out ≡ splice (n - (i + 1)) (at + (i + 1)) ys (set out (at + i) y)
-  write-turn y ys h l =
-      let e : n - i ≡ suc (n - (i + 1)) = omega arith in
-      let f : at + i + 1 ≡ at + (i + 1) = omega arith in
-      rw (e, ← f) (splice-cons (n - (i + 1)) (at + i) y ys out (omega arith))
-
   pub fill-turn : (v : ℕ) → i < n → at + n ≤ length out
       → splice (n - i) (at + i) (replicate (n - i) v) out ≡ splice (n - (i + 1)) (at + (i + 1)) (replicate (n - (i + 1)) v) (set out (at + i) v)
   fill-turn v h l =
       let e : n - i ≡ suc (n - (i + 1)) = omega arith in
-      ap (λ (k : ℕ). splice (n - i) (at + i) (replicate k v) out) e ∙ write-turn v (replicate (n - (i + 1)) v) h l
-
-  pub write-end : n ≤ i → splice (n - i) (at + i) [] out ≡ out
-  write-end h = let e : n - i ≡ 0 = omega arith in rw e (splice-nil (at + i) out)
-
-  pub copy-turn : (s : List ℕ) → n ≡ length s → i < n → at + n ≤ length out
-      → splice (n - i) (at + i) (drop i s) out ≡ splice (n - (i + 1)) (at + (i + 1)) (drop (i + 1) s) (set out (at + i) (getD s i 0))
-  copy-turn s e h l = rw (drop-more s i (omega arith)) (write-turn (getD s i 0) (drop (i + 1) s) h l)
+      let f : at + i + 1 ≡ at + (i + 1) = omega arith in
+      rw (e, ← f) (splice-cons (n - (i + 1)) (at + i) v (replicate (n - (i + 1)) v) out (omega arith))
 
   pub fill-end : (v : ℕ) → n ≤ i → splice (n - i) (at + i) (replicate (n - i) v) out ≡ out
   fill-end v h = let e : n - i ≡ 0 = omega arith in rw e (splice-nil (at + i) out)
-
-  pub copy-end : (s : List ℕ) → n ≡ length s → n ≤ i → splice (n - i) (at + i) (drop i s) out ≡ out
-  copy-end s e h = let g : length s ≤ i = omega arith in rw (drop-of-length-le s g) (write-end h)
 
 -- TWO BYTES
 

@@ -197,16 +197,98 @@ pub fn fill(out: &mut [u8], at: usize, n: usize, value: u8)
     }
 }
 
-pub fn copy(out: &mut [u8], at: usize, s: &[u8])
-    requires { ⌜ at + length (now s) ≤ length (now out) ⌝ }
-    ensures { λ _. ⌜ now (out .exit) ≡ splice (length (now (s .entry))) at (now (s .entry)) (now (out .entry)) ⌝ }
+// COPIES
+
+// The n bytes of `s` from `from` on go to `at`. Blocks are copied from the last to the first: mostly a check has just read
+// all of them in order, and the last are still in the cache.
+pub fn copy(out: &mut [u8], at: usize, s: &[u8], from: usize, n: usize)
+    requires { ⌜ (from + n ≤ length (now s)) × (at + n ≤ length (now out)) ⌝ }
+    ensures { λ _. ⌜ now (out .exit) ≡ splice n at (part n from (now (s .entry))) (now (out .entry)) ⌝ }
+{
+    let mut left = n;
+    while 64 <= left {
+        left -= 64;
+        copy_64(out, at + left, s, from + left);
+    }
+    copy_words(out, at, s, from, left);
+}
+
+// The same of a value in place: most have four or eight bytes.
+pub fn copy_value(out: &mut [u8], at: usize, s: &[u8], from: usize, n: usize)
+    requires { ⌜ (from + n ≤ length (now s)) × (at + n ≤ length (now out)) ⌝ }
+    ensures { λ _. ⌜ now (out .exit) ≡ splice n at (part n from (now (s .entry))) (now (out .entry)) ⌝ }
+{
+    if n == 8 {
+        write_u64(out, at, read_u64(s, from));
+        return;
+    }
+    if n == 4 {
+        write_u32(out, at, read_u32(s, from));
+        return;
+    }
+    copy(out, at, s, from, n);
+}
+
+// Both words are read before one is written, so that they are moved at once.
+fn copy_16(out: &mut [u8], at: usize, s: &[u8], from: usize)
+    requires { ⌜ (from + 16 ≤ length (now s)) × (at + 16 ≤ length (now out)) ⌝ }
+    ensures { λ _. ⌜ now (out .exit) ≡ splice 16 at (part 16 from (now (s .entry))) (now (out .entry)) ⌝ }
+{
+    let low = read_u64(s, from);
+    let high = read_u64(s, from + 8);
+    write_u64(out, at, low);
+    write_u64(out, at + 8, high);
+}
+
+fn copy_32(out: &mut [u8], at: usize, s: &[u8], from: usize)
+    requires { ⌜ (from + 32 ≤ length (now s)) × (at + 32 ≤ length (now out)) ⌝ }
+    ensures { λ _. ⌜ now (out .exit) ≡ splice 32 at (part 32 from (now (s .entry))) (now (out .entry)) ⌝ }
+{
+    copy_16(out, at, s, from);
+    copy_16(out, at + 16, s, from + 16);
+}
+
+fn copy_64(out: &mut [u8], at: usize, s: &[u8], from: usize)
+    requires { ⌜ (from + 64 ≤ length (now s)) × (at + 64 ≤ length (now out)) ⌝ }
+    ensures { λ _. ⌜ now (out .exit) ≡ splice 64 at (part 64 from (now (s .entry))) (now (out .entry)) ⌝ }
+{
+    copy_32(out, at, s, from);
+    copy_32(out, at + 32, s, from + 32);
+}
+
+// Eight bytes at a time.
+fn copy_words(out: &mut [u8], at: usize, s: &[u8], from: usize, n: usize)
+    requires { ⌜ (from + n ≤ length (now s)) × (at + n ≤ length (now out)) ⌝ }
+    ensures { λ _. ⌜ now (out .exit) ≡ splice n at (part n from (now (s .entry))) (now (out .entry)) ⌝ }
 {
     let mut i = 0;
-    while i < s.len() {
-        out[at + i] = s[i];
-        i += 1;
+    while 8 <= n - i {
+        write_u64(out, at + i, read_u64(s, from + i));
+        i += 8;
+    }
+    copy_rest(out, at + i, s, from + i, n - i);
+}
+
+// Fewer than eight bytes.
+fn copy_rest(out: &mut [u8], at: usize, s: &[u8], from: usize, n: usize)
+    requires { ⌜ (n < 8) × (from + n ≤ length (now s)) × (at + n ≤ length (now out)) ⌝ }
+    ensures { λ _. ⌜ now (out .exit) ≡ splice n at (part n from (now (s .entry))) (now (out .entry)) ⌝ }
+{
+    let mut i = 0;
+    if 4 <= n {
+        write_u32(out, at, read_u32(s, from));
+        i = 4;
+    }
+    if 2 <= n - i {
+        write_u16(out, at + i, read_u16(s, from + i));
+        i += 2;
+    }
+    if i < n {
+        out[at + i] = s[from + i];
     }
 }
+
+// UTF-8
 
 // Whether a text is UTF-8. The scan goes form by form and stops at the first that is broken; it begins behind
 // the blocks of ASCII that stand first, so that a long text of ASCII is hardly scanned.

@@ -37,6 +37,6 @@ pub extern "C" fn wire_fill(out: &mut [u8], value: u8)
 #[no_mangle]
 pub extern "C" fn wire_copy(out: &mut [u8], s: &[u8]) {
     if s.len() <= out.len() {
-        wire::copy(out, 0, s);
+        wire::copy(out, 0, s, 0, s.len());
     }
 }

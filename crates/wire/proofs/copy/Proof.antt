@@ -1,28 +1,28 @@
 use borrow.Author.Needs.{needs}
-use Prim.Native.Nat.{_+_, _-_, _≤_}
+use Prim.Native.Nat.{_-_, _≤_}
 use mathlib.Core.Path.{_≡_, refl, sym, _∙_}
 use native.Mathlib.Omega.{arith}
-use native.Mathlib.Nat as nat
-use lib.ListN.{length, drop}
-use Rattle.wire.specs.Bytes.{splice}
-use Rattle.wire.proofs.Turns.{copy-turn, copy-end}
+use lib.ListN.{length}
+use Rattle.wire.specs.Bytes.{part, splice}
+use Rattle.wire.proofs.Copies.{copied-last}
 use Rattle.wire.proofs.copy.Statement.{statement}
 use Rattle.wire.proofs.copy.Tie as tie
 
 abbrev Inv-loop : tie.InvT-loop
-Inv-loop out₀ at s i₀ out i = (i ≤ length s) × (length out ≡ length out₀) × (splice (length s) at s out₀ ≡ splice (length s - i) (at + i) (drop i s) out)
+Inv-loop out₀ at s from n left₀ out left = (left ≤ n) × (length out ≡ length out₀) × (splice n at (part n from s) out₀ ≡ splice left at (part left from s) out)
 
 abbrev μ-loop : tie.MeasureT-loop
-μ-loop out₀ at s i₀ out i = length s - i
+μ-loop out₀ at s from n left₀ out left = left
 
 loop-holds : tie.Need-loop-holds Inv-loop μ-loop
-loop-holds c = (search needs, refl, rw (nat.sub-zero, nat.add-zero))
+loop-holds c = (search needs, refl, refl)
 
 loop-again : tie.Need-loop-again Inv-loop μ-loop
-loop-again c = (search needs, search needs, c .before .before .loop .inv .2 ∙ copy-turn _ _ _ (c .before .before .loop .out) (c .before .before .before .args .s .now) refl (c .before .loop-test .taken) (omega arith))
+loop-again c = let a = c .before .before .before .before .before .before .before .before .args in let R = c .before .before .before .before .before .before .before .before .pre in let l = c .before .before .before .before .before .loop in
+    (search needs, search needs, l .inv .2 ∙ copied-last (l .left) (l .left - 64) 64 (a .at) (a .from) (a .s .now) (l .out) _ (omega (arith, c .before .before .before .before .loop-test .taken)) (omega (arith, R .0, l .inv .0)) (omega (arith, R .1, l .inv .0, l .inv .1)) (c .before .before .copy-64 .ensures))
 
 returns : tie.Need-returns Inv-loop μ-loop
-returns c = sym (c .before .loop .inv .2 ∙ copy-end _ _ _ (c .before .loop .out) (c .before .before .args .s .now) refl (c .loop-test .left))
+returns c = c .before .before .copy-words .ensures ∙ sym (c .before .before .before .before .before .loop .inv .2)
 
 pub copy-spec : {M : Type 1} → statement M
 copy-spec =
@@ -33,9 +33,9 @@ copy-spec =
     loop-holds
     (λ c. search needs)
     (λ c. search needs)
-    (λ c. search needs)
-    (λ c. search needs)
+    (λ c κs. search needs)
     (λ c. search needs)
     loop-again
+    (λ c κs. search needs)
     (λ c. search needs)
     returns)

@@ -1,9 +1,9 @@
 // The message of a sheet.
 //
 // The sheet was checked and makes a message that fits, so nothing is tested here: every bound comes
-// from the writing that the caller has. A group is written into its own part of the output, so that
-// places count from its first byte: `at` is where bytes in place go, `free` is the first free place of
-// the data area, and `pos` is where the sheet goes on.
+// from the writing that the caller has. A dynamic group is written into its own part of the output, so
+// that places count from its first byte: `at` is where bytes in place go, `free` is the first free place
+// of the data area, and `pos` is where the sheet goes on.
 ghost use mathlib.Core.Path.{_≡_};
 ghost use mathlib.Core.Bool.{Bool, true};
 ghost use mathlib.Core.List.{List, [], _∷_, _++_};
@@ -33,54 +33,13 @@ struct Ends {
 
 // VALUES
 
-// n bytes of the sheet, eight at a time.
-fn write_words(sheet: &[u8], pos: usize, n: usize, at: usize, out: &mut [u8])
-    requires { ⌜ (pos + n ≤ length (now sheet)) × (at + n ≤ length (now out)) ⌝ }
-    ensures { λ _. ⌜ now (out .exit) ≡ splice n at (part n pos (now (sheet .entry))) (now (out .entry)) ⌝ }
-{
-    let mut i = 0;
-    while 8 <= n - i {
-        wire::write_u64(out, at + i, wire::read_u64(sheet, pos + i));
-        i += 8;
-    }
-    write_rest(sheet, pos + i, n - i, at + i, out);
-}
-
-// Fewer than eight bytes.
-fn write_rest(sheet: &[u8], pos: usize, n: usize, at: usize, out: &mut [u8])
-    requires { ⌜ (n < 8) × (pos + n ≤ length (now sheet)) × (at + n ≤ length (now out)) ⌝ }
-    ensures { λ _. ⌜ now (out .exit) ≡ splice n at (part n pos (now (sheet .entry))) (now (out .entry)) ⌝ }
-{
-    let mut i = 0;
-    if 4 <= n {
-        wire::write_u32(out, at, wire::read_u32(sheet, pos));
-        i = 4;
-    }
-    if 2 <= n - i {
-        wire::write_u16(out, at + i, wire::read_u16(sheet, pos + i));
-        i += 2;
-    }
-    if i < n {
-        out[at + i] = sheet[pos + i];
-    }
-}
-
-// n bytes of the sheet; most numbers have four or eight.
+// n bytes of the sheet.
 fn write_bytes(sheet: &[u8], pos: usize, n: usize, at: usize, out: &mut [u8]) -> usize
     requires { ⌜ (pos + n ≤ length (now sheet)) × (at + n ≤ length (now out)) ⌝ }
     ensures { λ r. ⌜ (now (out .exit) ≡ splice n at (part n pos (now (sheet .entry))) (now (out .entry))) × (r ≡ pos + n) ⌝ }
 {
-    let end = pos + n;
-    if n == 8 {
-        wire::write_u64(out, at, wire::read_u64(sheet, pos));
-        return end;
-    }
-    if n == 4 {
-        wire::write_u32(out, at, wire::read_u32(sheet, pos));
-        return end;
-    }
-    write_words(sheet, pos, n, at, out);
-    end
+    wire::copy_value(out, at, sheet, pos, n);
+    pos + n
 }
 
 // Text in place: its count takes four bytes in the sheet and one in the message, and behind it are
@@ -91,9 +50,9 @@ fn write_inline(sheet: &[u8], pos: usize, capacity: usize, at: usize, out: &mut 
 {
     let count = wire::read_u32(sheet, pos);
     wire::fill(out, at, 1, count as u8);
-    let end = write_bytes(sheet, pos + 4, count, at + 1, out);
+    wire::copy(out, at + 1, sheet, pos + 4, count);
     wire::fill(out, at + 1 + count, capacity - count, 0);
-    end
+    pos + (4 + count)
 }
 
 // A count and so many bytes behind an offset, as the sheet has them.
@@ -103,9 +62,9 @@ fn write_text(sheet: &[u8], pos: usize, at: usize, free: usize, out: &mut [u8]) 
 {
     let size = 4 + wire::read_u32(sheet, pos);
     wire::write_u32(out, at, free - at);
-    let next = write_bytes(sheet, pos, size, free, out);
+    wire::copy(out, free, sheet, pos, size);
     Ends {
-        pos: next,
+        pos: pos + size,
         free: free + size,
     }
 }

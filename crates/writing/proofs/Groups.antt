@@ -4,7 +4,7 @@ use mathlib.Core.Path.{_≡_, refl, sym, ap, _∙_}
 use mathlib.Core.Bool.{Bool, true, false}
 use mathlib.Core.List.{List, [], _++_, append-nil}
 use native.Mathlib.Omega.{arith}
-use lib.ListN.{length, drop, length-append, length-drop}
+use lib.ListN.{length, drop, length-append}
 use lib.Seq.{drop-drop}
 use borrow.Author.Tests.{ltb-true}
 use Rattle.wire.specs.Bytes.{part, splice, bytesOf, le, same}
@@ -19,9 +19,9 @@ use Rattle.sheet.specs.Writers.{innerOf, staticOf, nestedOf, extensionOf}
 use Rattle.sheet.proofs.Widths.{wide-is, wides-static, wides-extension}
 use Rattle.sheet.proofs.Groups.{framed-length}
 use Rattle.sheet.proofs.Writers.{mark-inside, placed-wrote}
-use Rattle.writing.specs.Write.{bodyOf, behind, put, Fits, Stands}
-use Rattle.writing.proofs.Laws.{length-put, put-group}
-use Rattle.writing.proofs.Left.{Opens, need-wrote, behind-wrote, behind-opens, back-wrote, one-writing, Left, begun, left-fits, first-back, called-back, finished}
+use Rattle.writing.specs.Write.{behind, put, Fits, Stands}
+use Rattle.writing.proofs.Laws.{put-group}
+use Rattle.writing.proofs.Left.{Opens, need-wrote, behind-wrote, back-wrote, one-writing, Left, begun, left-fits, first-back, called-back, finished}
 use Rattle.writing.proofs.Writers.{grab-wrote, due-wrote, placed-opens, offset-room, offset-left, lent-fits, lent-stands}
 
 -- THE EXTENSION
@@ -65,7 +65,7 @@ module _ (gs : List Group) (I : InnerW) (at free pos : ℕ) (s : List ℕ) where
   extending-inside out f = body-inside _ _ _ (placed-wrote _ _ _ _ _ (f .is) .2)
 
 -- there is a mark behind the fields: `XT`, or else the group's `GE`
-extension-inside : (gs : List Group) (I : InnerW) (at free : ℕ) (s F D r : List ℕ) → extensionW gs I at free s ≡ wrote F D r → 2 ≤ length r → 2 ≤ length s
+pub extension-inside : (gs : List Group) (I : InnerW) (at free : ℕ) (s F D r : List ℕ) → extensionW gs I at free s ≡ wrote F D r → 2 ≤ length r → 2 ≤ length s
 unfolding extensionW
 extension-inside gs I at free s F D r e h = go (same (part 2 0 s) (markBytes XT)) refl
   where
@@ -96,29 +96,30 @@ group-wrote gs (suc l) a pos s X Y r e =
     let q : suc l - 1 ≡ l = omega arith in
     (omega arith, omega (arith, g .0), ltb-true _ _ (u .0), rw q (v .1))
 
--- the group that the sheet names
-module _ (t : List ℕ) (l a pos : ℕ) (s : List ℕ) (g : ℕ) (i : g ≡ find (schema t) (le (part 8 pos s))) where
-  pub group-begins : (out : List ℕ) → Fits (behind (innerOf t l a (drop pos s))) 0 0 out → (0 < l) × (pos + 8 ≤ length s) × (g < length (schema t))
-  group-begins out f =
-      let b = behind-wrote _ _ _ (innerOf t l a (drop pos s)) (f .is) in
-      let h = group-wrote (schema t) l a pos s _ _ _ (b .2) in
-      (h .0, h .1, rw i (h .2))
-
-  pub group-opens : Opens (behind (innerOf t l a (drop pos s))) (behind (bodyOf t (l - 1) g (part 8 pos s) (drop (pos + 8) s)))
-  group-opens = rw i (behind-opens _ _ (λ F D r e. group-wrote (schema t) l a pos s F D r e .3))
-
--- its head, its fields and its extension
-module _ (t : List ℕ) (l g pos : ℕ) (s out : List ℕ) (inside : pos + 8 ≤ length s) (f : Fits (behind (bodyOf t l g (part 8 pos s) (drop (pos + 8) s))) 0 0 out) (area next : ℕ) (ia : area ≡ 16 + widthOf t 5 g) (ix : next ≡ pos + 8) where
-  -- the extension's offset and the fields, with the data area behind them
-  abbrev contents : Writing
-  contents = behindW (staticOf t l 5 g) (extensionOf t l) 12 area (drop next s)
-
+-- its head, its fields and its extension, with one level less below it
+module _ (t : List ℕ) (l a pos : ℕ) (s out : List ℕ) (f : Fits (behind (innerOf t l a (drop pos s))) 0 0 out) where
   abbrev id : List ℕ
   id = part 8 pos s
 
-  head : (X : List ℕ) × (Y : List ℕ) × (bodyOf t l g id (drop (pos + 8) s) ≡ wrote X Y (f .rest)) × (f .values ≡ X ++ Y) × (closed id contents ≡ wrote X Y (f .rest))
+  abbrev g : ℕ
+  g = find (schema t) (le id)
+
+  abbrev area : ℕ
+  area = 16 + widthOf t 5 g
+
+  -- the extension's offset and the fields, with the data area behind them
+  abbrev contents : Writing
+  contents = behindW (staticOf t (l - 1) 5 g) (extensionOf t (l - 1)) 12 area (drop (pos + 8) s)
+
+  pub head : (X : List ℕ) × (Y : List ℕ) × (innerOf t l a (drop pos s) ≡ wrote X Y (f .rest)) × (f .values ≡ X ++ Y) × (0 < l) × (pos + 8 ≤ length s) × (g < length (schema t)) × (closed id contents ≡ wrote X Y (f .rest))
   unfolding bodyW
-  head = let b = behind-wrote _ _ _ (bodyOf t l g id (drop (pos + 8) s)) (f .is) in (b .0, b .1, b .2, b .3, rw (ia, ix) (b .2))
+  head =
+      let b = behind-wrote _ _ _ (innerOf t l a (drop pos s)) (f .is) in
+      let h = group-wrote (schema t) l a pos s _ _ _ (b .2) in
+      (b .0, b .1, b .2, b .3, h .0, h .1, h .2, h .3)
+
+  id-long : length id ≡ 8
+  id-long = length-part 8 pos s (head .5)
 
   -- the same bytes, as `closed` and `behindW` have them
   module _ (F D r : List ℕ) (e : contents ≡ wrote F D r) where
@@ -126,13 +127,13 @@ module _ (t : List ℕ) (l g pos : ℕ) (s out : List ℕ) (inside : pos + 8 ≤
     unfolding behindW
     contents-long =
         let h = back-wrote F D r _ _ e in
-        let u = wide-is (wides-static (schema t) (innerOf t l) 5 g _ _ _) (h .5) in
-        let v = wide-is (wides-extension (schema t) (innerOf t l) _ _ _) (h .6) in
+        let u = wide-is (wides-static (schema t) (innerOf t (l - 1)) 5 g _ _ _) (h .5) in
+        let v = wide-is (wides-extension (schema t) (innerOf t (l - 1)) _ _ _) (h .6) in
         omega (arith, u, v, ap length (h .7) ∙ length-append (h .3) (h .0))
 
     closes : (2 ≤ length r) × (head .0 ≡ framed id F D) × (head .1 ≡ []) × (f .rest ≡ drop 2 r)
     closes =
-        let c = closed-wrote id contents _ _ _ (head .4) in
+        let c = closed-wrote id contents _ _ _ (head .7) in
         let o = one-writing _ _ _ _ _ _ _ (c .3) e in
         let d : due GE (drop 0 r) (λ r′. wrote (framed id F D) [] r′) ≡ wrote (head .0) (head .1) (f .rest) = rw (← (o .0), ← (o .1), ← (o .2)) (c .4) in
         let q = due-wrote 0 r _ _ _ _ _ d in
@@ -142,83 +143,73 @@ module _ (t : List ℕ) (l g pos : ℕ) (s out : List ℕ) (inside : pos + 8 ≤
     body-long : 16 + widthOf t 5 g + length D ≤ length out
     body-long =
         let c = closes in
-        let k = ap length (c .1) ∙ framed-length id F D (length-part 8 pos s inside) in
+        let k = ap length (c .1) ∙ framed-length id F D id-long in
         omega (arith, f .room, ap length (head .3) ∙ length-append (head .0) (head .1), k, contents-long)
 
-  pub body-start : 16 ≤ length out
-  body-start = let c = closed-wrote id contents _ _ _ (head .4) in omega (arith, body-long _ _ _ (c .3))
-
-  body-fits : (mid : List ℕ) → length mid ≡ length out → Fits contents 12 area mid
-  body-fits mid m =
-      let c = closed-wrote id contents _ _ _ (head .4) in
+  contents-fits : (mid : List ℕ) → length mid ≡ length out → Fits contents 12 area mid
+  contents-fits mid m =
+      let c = closed-wrote id contents _ _ _ (head .7) in
       record {
         fixed = c .0;
         values = c .1;
         rest = c .2;
         is = c .3;
-        before = omega (arith, contents-long _ _ _ (c .3), ia);
-        room = omega (arith, body-long _ _ _ (c .3), m, ia);
+        before = omega (arith, contents-long _ _ _ (c .3));
+        room = omega (arith, body-long _ _ _ (c .3), m);
       }
 
-  module _ (mid : List ℕ) (i : mid ≡ splice 8 4 id out) where
-    m : length mid ≡ length out
-    m = ap length i ∙ length-splice 8 4 id out (omega (arith, body-start)) (length-part 8 pos s inside)
+  pub body-start : 16 ≤ length out
+  body-start = omega (arith, contents-fits out refl .room)
 
-    -- the fields, and behind them the extension
-    contents-left : Left contents 12 area mid contents 12 area mid
-    contents-left = begun contents 12 area mid (body-fits mid m)
+  -- the fields, and behind them the extension
+  abbrev mid : List ℕ
+  mid = splice 8 4 id out
 
-    pub fields-fits : Fits (staticOf t l 5 g 16 area (drop next s)) 16 area mid
+  mid-long : length mid ≡ length out
+  mid-long = length-splice 8 4 id out (omega (arith, body-start)) id-long
+
+  contents-left : Left contents 12 area mid contents 12 area mid
+  contents-left = begun contents 12 area mid (contents-fits mid mid-long)
+
+  pub fields-fits : Fits (staticOf t (l - 1) 5 g 16 area (drop (pos + 8) s)) 16 area mid
+  unfolding behindW
+  fields-fits = first-back contents 12 area mid 4 _ _ 12 area mid (λ D r. wides-extension (schema t) (innerOf t (l - 1)) 12 _ r) contents-left
+
+  module _ (last : List ℕ) (p e : ℕ) (v : Stands (staticOf t (l - 1) 5 g 16 area (drop (pos + 8) s)) 16 area s mid last p e) where
+    extension-left : Left contents 12 area mid (extensionOf t (l - 1) 12 e (drop p s)) 12 e last
     unfolding behindW
-    fields-fits = first-back contents 12 area mid 4 _ _ 12 area mid (λ D r. wides-extension (schema t) (innerOf t l) 12 _ r) contents-left
+    extension-left = called-back contents 12 area mid s 16 area 4 mid last p e _ v (λ k r. extensionOf t (l - 1) 12 k r) 12 refl contents-left (wides-extension (schema t) (innerOf t (l - 1)) 12 e (drop p s))
 
-    module _ (last : List ℕ) (p e : ℕ) (v : Stands (staticOf t l 5 g 16 area (drop next s)) 16 area s mid last p e) where
-      extension-left : Left contents 12 area mid (extensionOf t l 12 e (drop p s)) 12 e last
-      unfolding behindW
-      extension-left = called-back contents 12 area mid s 16 area 4 mid last p e _ v (λ k r. extensionOf t l 12 k r) 12 refl contents-left (wides-extension (schema t) (innerOf t l) 12 e (drop p s))
+    pub extension-fits : (x : Fits (extensionOf t (l - 1) 12 e (drop p s)) 12 e last) × (2 ≤ length (x .rest))
+    extension-fits =
+        let x = left-fits contents 12 area mid _ 12 e last extension-left in
+        let o = one-writing _ _ _ _ _ _ _ (extension-left .is) (x .is) in
+        (x, omega (arith, closes _ _ _ (extension-left .was) .0, ap length (o .2)))
 
-      pub extension-fits : Fits (extensionOf t l 12 e (drop p s)) 12 e last
-      extension-fits = left-fits contents 12 area mid _ 12 e last extension-left
+    pub contents-stand : (left : List ℕ) (p′ e′ : ℕ) → Stands (extensionOf t (l - 1) 12 e (drop p s)) 12 e s last left p′ e′ → Stands contents 12 area s mid left p′ e′
+    contents-stand left p′ e′ w = finished contents 12 area mid _ 12 e last extension-left s left p′ e′ w
 
-      pub extension-mark : p + 2 ≤ length s
-      extension-mark =
-          let c = closes _ _ _ (extension-left .was) in
-          let q = extension-inside _ _ _ _ _ _ _ _ (extension-left .is) (c .0) in
-          omega (arith, q, length-drop p s)
-
-      pub contents-stand : (left : List ℕ) (p′ e′ : ℕ) → Stands (extensionOf t l 12 e (drop p s)) 12 e s last left p′ e′ → Stands contents 12 area s mid left p′ e′
-      contents-stand left p′ e′ w = finished contents 12 area mid _ 12 e last extension-left s left p′ e′ w
-
-    module _ (last : List ℕ) (p e : ℕ) (v : Stands contents 12 area s mid last p e) where
-      pub body-closes : p + 2 ≤ length s
-      body-closes = let c = closes _ _ _ (v .is) in omega (arith, c .0, length-drop p s)
-
-      pub body-room : (4 ≤ e) × (4 ≤ length last)
-      body-room =
-          let c = body-long _ _ _ (v .is) in
-          let k = length-put 12 area (v .fixed) (v .values) mid (omega (arith, contents-long _ _ _ (v .is), ia)) (omega (arith, c, m, ia)) in
-          (omega (arith, v .ends, ia), omega (arith, ap length (v .bytes), k, m, c))
-
-      pub body-stands : (left : List ℕ) → left ≡ splice 4 0 (bytesOf 4 (e - 4)) last → Stands (behind (bodyOf t l g id (drop (pos + 8) s))) 0 0 s out left (p + 2) e
-      unfolding behind
-      body-stands left q =
-          let F = v .fixed in
-          let D = v .values in
-          let c = closes _ _ _ (v .is) in
-          let k = contents-long _ _ _ (v .is) in
-          let n : ℕ = 8 + length F + length D in
-          let X : List ℕ = framed id F D in
-          let en : e - 4 ≡ n = omega (arith, v .ends, k, ia) in
-          let lX : length X ≡ e = omega (arith, framed-length id F D (length-part 8 pos s inside), v .ends, k, ia) in
-          let y : bodyOf t l g id (drop (pos + 8) s) ≡ wrote X [] (drop (p + 2) s) = head .2 ∙ ap (λ (Z : List ℕ). wrote Z (head .1) (f .rest)) (c .1) ∙ ap (λ (Z : List ℕ). wrote X Z (f .rest)) (c .2) ∙ ap (wrote X []) (c .3 ∙ drop-drop 2 p s) in
-          let b = put-group (widthOf t 5 g) (bytesOf 4 n) id F D out mid last left (length-bytes 4 n) (length-part 8 pos s inside) k i (v .bytes ∙ ap (λ (j : ℕ). put 12 j F D mid) ia) (q ∙ ap (λ (j : ℕ). splice 4 0 (bytesOf 4 j) last) en) (body-long _ _ _ (v .is)) in
-          record {
-            fixed = [];
-            values = X ++ [];
-            is = ap behind y;
-            bytes = b ∙ rw (append-nil X, splice-nil 0 out);
-            ends = omega (arith, ap length (append-nil X), lX);
-          }
+  -- the size last
+  pub whole-stands : (last left : List ℕ) (p e : ℕ) → Stands contents 12 area s mid last p e → left ≡ splice 4 0 (bytesOf 4 (e - 4)) last → Stands (behind (innerOf t l a (drop pos s))) 0 0 s out left (p + 2) e
+  unfolding behind
+  whole-stands last left p e v q =
+      let F = v .fixed in
+      let D = v .values in
+      let c = closes _ _ _ (v .is) in
+      let k = contents-long _ _ _ (v .is) in
+      let n : ℕ = 8 + length F + length D in
+      let X : List ℕ = framed id F D in
+      let en : e - 4 ≡ n = omega (arith, v .ends, k) in
+      let lX : length X ≡ e = omega (arith, framed-length id F D id-long, v .ends, k) in
+      let y : innerOf t l a (drop pos s) ≡ wrote X [] (drop (p + 2) s) = head .2 ∙ ap (λ (Z : List ℕ). wrote Z (head .1) (f .rest)) (c .1) ∙ ap (λ (Z : List ℕ). wrote X Z (f .rest)) (c .2) ∙ ap (wrote X []) (c .3 ∙ drop-drop 2 p s) in
+      let b = put-group (widthOf t 5 g) (bytesOf 4 n) id F D out mid last left (length-bytes 4 n) id-long k refl (v .bytes) (q ∙ ap (λ (j : ℕ). splice 4 0 (bytesOf 4 j) last) en) (body-long _ _ _ (v .is)) in
+      record {
+        fixed = [];
+        values = X ++ [];
+        is = ap behind y;
+        bytes = b ∙ rw (append-nil X, splice-nil 0 out);
+        ends = omega (arith, ap length (append-nil X), lX);
+      }
 
 -- behind its offset, in a part of the output
 module _ (t : List ℕ) (l a at free pos : ℕ) (s out : List ℕ) (f : Fits (nestedOf t l a at free (drop pos s)) at free out) where

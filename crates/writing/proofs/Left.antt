@@ -57,9 +57,6 @@ module _ (F D r : List ℕ) where
   back-wrote (stopped n p) k e = absurd (let z : _≡_ {A = ℕ} 0 1 = cc in omega arith)
   back-wrote (wrote A B t) k e = let j = swapped-wrote A B (k B t) e in (A, B, t, j .0, j .1, refl, j .2, j .3, j .4)
 
-pub behind-opens : (y z : Writing) → Opens y z → Opens (behind y) (behind z)
-behind-opens y z o F D r e = let b = behind-wrote F D r y e in ap behind (o _ _ _ (b .2)) ∙ sym (ap behind (b .2)) ∙ e
-
 pub placed-is : (o : ℕ) (y : Writing) → placed o y ≡ headed (bytesOf 4 o) (behind y)
 unfolding placed headed behind
 placed-is o (stopped n p) = refl

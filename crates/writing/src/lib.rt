@@ -1,9 +1,9 @@
 // The message of a sheet.
 //
 // The sheet was checked and makes a message that fits, so nothing is tested here: every bound comes
-// from the writing that the caller has. A group is written into its own part of the output, so that
-// places count from its first byte: `at` is where bytes in place go, `free` is the first free place of
-// the data area, and `pos` is where the sheet goes on.
+// from the writing that the caller has. A dynamic group is written into its own part of the output, so
+// that places count from its first byte: `at` is where bytes in place go, `free` is the first free place
+// of the data area, and `pos` is where the sheet goes on.
 ghost use mathlib.Core.Path.{_≡_};
 ghost use mathlib.Core.Bool.{Bool, true};
 ghost use mathlib.Core.List.{List, [], _∷_, _++_};
@@ -16,8 +16,8 @@ ghost use Rattle.schema.specs.Layout.{Layout};
 ghost use Rattle.schema.specs.FieldKinds.{kindFrom};
 ghost use Rattle.message.specs.Check.{widthOf};
 ghost use Rattle.sheet.specs.Written.{wrote, itemsW, sheetW};
-ghost use Rattle.sheet.specs.Writers.{innerOf, staticOf, plainOf, textOf, kindOf, itemOf, valueOf, fieldOf, nestedOf, extensionOf, extendingOf};
-ghost use Rattle.writing.specs.Write.{bodyOf, behind, Fits, Stands};
+ghost use Rattle.sheet.specs.Writers.{staticOf, plainOf, textOf, kindOf, itemOf, valueOf, fieldOf, nestedOf, extensionOf, extendingOf};
+ghost use Rattle.writing.specs.Write.{Fits, Stands, groupOf, placeOf, Scoped, openOf, headOf, HasHead, HasEnd, Ended};
 
 const XT: [u8; 2] = *b"XT";
 
@@ -33,54 +33,13 @@ struct Ends {
 
 // VALUES
 
-// n bytes of the sheet, eight at a time.
-fn write_words(sheet: &[u8], pos: usize, n: usize, at: usize, out: &mut [u8])
-    requires { ⌜ (pos + n ≤ length (now sheet)) × (at + n ≤ length (now out)) ⌝ }
-    ensures { λ _. ⌜ now (out .exit) ≡ splice n at (part n pos (now (sheet .entry))) (now (out .entry)) ⌝ }
-{
-    let mut i = 0;
-    while 8 <= n - i {
-        wire::write_u64(out, at + i, wire::read_u64(sheet, pos + i));
-        i += 8;
-    }
-    write_rest(sheet, pos + i, n - i, at + i, out);
-}
-
-// Fewer than eight bytes.
-fn write_rest(sheet: &[u8], pos: usize, n: usize, at: usize, out: &mut [u8])
-    requires { ⌜ (n < 8) × (pos + n ≤ length (now sheet)) × (at + n ≤ length (now out)) ⌝ }
-    ensures { λ _. ⌜ now (out .exit) ≡ splice n at (part n pos (now (sheet .entry))) (now (out .entry)) ⌝ }
-{
-    let mut i = 0;
-    if 4 <= n {
-        wire::write_u32(out, at, wire::read_u32(sheet, pos));
-        i = 4;
-    }
-    if 2 <= n - i {
-        wire::write_u16(out, at + i, wire::read_u16(sheet, pos + i));
-        i += 2;
-    }
-    if i < n {
-        out[at + i] = sheet[pos + i];
-    }
-}
-
-// n bytes of the sheet; most numbers have four or eight.
+// n bytes of the sheet.
 fn write_bytes(sheet: &[u8], pos: usize, n: usize, at: usize, out: &mut [u8]) -> usize
     requires { ⌜ (pos + n ≤ length (now sheet)) × (at + n ≤ length (now out)) ⌝ }
     ensures { λ r. ⌜ (now (out .exit) ≡ splice n at (part n pos (now (sheet .entry))) (now (out .entry))) × (r ≡ pos + n) ⌝ }
 {
-    let end = pos + n;
-    if n == 8 {
-        wire::write_u64(out, at, wire::read_u64(sheet, pos));
-        return end;
-    }
-    if n == 4 {
-        wire::write_u32(out, at, wire::read_u32(sheet, pos));
-        return end;
-    }
-    write_words(sheet, pos, n, at, out);
-    end
+    wire::copy_value(out, at, sheet, pos, n);
+    pos + n
 }
 
 // Text in place: its count takes four bytes in the sheet and one in the message, and behind it are
@@ -91,9 +50,9 @@ fn write_inline(sheet: &[u8], pos: usize, capacity: usize, at: usize, out: &mut 
 {
     let count = wire::read_u32(sheet, pos);
     wire::fill(out, at, 1, count as u8);
-    let end = write_bytes(sheet, pos + 4, count, at + 1, out);
+    wire::copy(out, at + 1, sheet, pos + 4, count);
     wire::fill(out, at + 1 + count, capacity - count, 0);
-    end
+    pos + (4 + count)
 }
 
 // A count and so many bytes behind an offset, as the sheet has them.
@@ -103,9 +62,9 @@ fn write_text(sheet: &[u8], pos: usize, at: usize, free: usize, out: &mut [u8]) 
 {
     let size = 4 + wire::read_u32(sheet, pos);
     wire::write_u32(out, at, free - at);
-    let next = write_bytes(sheet, pos, size, free, out);
+    wire::copy(out, free, sheet, pos, size);
     Ends {
-        pos: next,
+        pos: pos + size,
         free: free + size,
     }
 }
@@ -164,44 +123,117 @@ fn write_plain(
 
 // GROUPS, FIELDS AND ITEMS
 
-// The group whose type id stands in the sheet at `pos`, at the start of `out`.
+// A group that is opened: its number, the levels left below it, where the sheet goes on, and where the
+// data area does.
+struct Opened {
+    group: usize,
+    levels: usize,
+    pos: usize,
+    free: usize,
+}
+
+// A dynamic group begins with its type id, which stands in the sheet at `pos`.
+fn open_group(
+    table: &[u8],
+    index: &[u16],
+    sheet: &[u8],
+    levels: usize,
+    scope: schema::Scope,
+    pos: usize,
+    free: usize,
+    out: &mut [u8],
+) -> Opened
+    requires { ⌜ (Layout (now table) (now index)) × (HasHead levels scope pos (now sheet) (now out)) ⌝ }
+    ensures { λ r. ⌜ (r ≡ openOf (now (table .entry)) levels scope pos free (now (sheet .entry))) × (now (out .exit) ≡ headOf scope pos (now (sheet .entry)) (now (out .entry))) ⌝ }
+{
+    match scope {
+        schema::Scope::Whole { allowed } => {
+            let total = schema::group_total(index);
+            let group = schema::find(table, index, total, wire::read_u64(sheet, pos));
+            let next = write_bytes(sheet, pos, 8, 4, out);
+            Opened {
+                group,
+                levels: levels - 1,
+                pos: next,
+                free: 16 + schema::group_width(index, group),
+            }
+        }
+        schema::Scope::Fields { group } => Opened {
+            group,
+            levels,
+            pos,
+            free,
+        },
+    }
+}
+
+// A group. A dynamic one is written whole, at the start of `out`, with so many levels left for it and
+// its fields from 16 on. One function writes both kinds, so that a level is one call: each call passes
+// its slices through memory.
 fn write_group(
     table: &[u8],
     index: &[u16],
     sheet: &[u8],
     levels: usize,
+    depth: usize,
+    scope: schema::Scope,
     pos: usize,
+    at: usize,
+    free: usize,
     out: &mut [u8],
 ) -> Ends
-    requires { ⌜ (Layout (now table) (now index)) × ((allowed : ℕ) × Fits (behind (innerOf (now table) levels allowed (drop pos (now sheet)))) 0 0 (now out)) ⌝ }
-    ensures { λ r. ⌜ ((allowed : ℕ) → Fits (behind (innerOf (now (table .entry)) levels allowed (drop pos (now (sheet .entry))))) 0 0 (now (out .entry)) → Stands (behind (innerOf (now (table .entry)) levels allowed (drop pos (now (sheet .entry))))) 0 0 (now (sheet .entry)) (now (out .entry)) (now (out .exit)) (r .pos) (r .free)) ⌝ }
+    requires { ⌜ (Layout (now table) (now index)) × (Scoped (now table) depth scope at) × (Fits (groupOf (now table) levels depth scope at free (drop pos (now sheet))) (placeOf scope at) (placeOf scope free) (now out)) ⌝ }
+    ensures { λ r. ⌜ Stands (groupOf (now (table .entry)) levels depth scope at free (drop pos (now (sheet .entry)))) (placeOf scope at) (placeOf scope free) (now (sheet .entry)) (now (out .entry)) (now (out .exit)) (r .pos) (r .free) ⌝ }
 {
-    let total = schema::group_total(index);
-    let group = schema::find(table, index, total, wire::read_u64(sheet, pos));
-    write_body(table, index, sheet, levels - 1, group, pos, out)
+    let open = open_group(table, index, sheet, levels, scope, pos, free, out);
+    let fields = write_fields(
+        table,
+        index,
+        sheet,
+        open.levels,
+        depth,
+        open.group,
+        open.pos,
+        at,
+        open.free,
+        out,
+    );
+    close_group(
+        table,
+        index,
+        sheet,
+        open.levels,
+        scope,
+        fields.pos,
+        fields.free,
+        out,
+    )
 }
 
-// Its head, its fields and its extension, with so many levels left below it.
-fn write_body(
+// A dynamic group ends with its extension, and then its size is known.
+fn close_group(
     table: &[u8],
     index: &[u16],
     sheet: &[u8],
     levels: usize,
-    group: usize,
+    scope: schema::Scope,
     pos: usize,
+    free: usize,
     out: &mut [u8],
 ) -> Ends
-    requires { ⌜ (Layout (now table) (now index)) × (group < length (schema (now table))) × (pos + 8 ≤ length (now sheet)) × (Fits (behind (bodyOf (now table) levels group (part 8 pos (now sheet)) (drop (pos + 8) (now sheet)))) 0 0 (now out)) ⌝ }
-    ensures { λ r. ⌜ Stands (behind (bodyOf (now (table .entry)) levels group (part 8 pos (now (sheet .entry))) (drop (pos + 8) (now (sheet .entry))))) 0 0 (now (sheet .entry)) (now (out .entry)) (now (out .exit)) (r .pos) (r .free) ⌝ }
+    requires { ⌜ (Layout (now table) (now index)) × (HasEnd (now table) levels scope pos free (now sheet) (now out)) ⌝ }
+    ensures { λ r. ⌜ Ended (now (table .entry)) levels scope pos free (now (sheet .entry)) (now (out .entry)) (now (out .exit)) (r .pos) (r .free) ⌝ }
 {
-    let area = 16 + schema::group_width(index, group);
-    let next = write_bytes(sheet, pos, 8, 4, out);
-    let fields = write_fields(table, index, sheet, levels, 5, group, next, 16, area, out);
-    let ends = write_extension(table, index, sheet, levels, fields.pos, fields.free, out);
-    wire::write_u32(out, 0, ends.free - 4);
-    Ends {
-        pos: ends.pos + 2,
-        free: ends.free,
+    match scope {
+        schema::Scope::Whole { allowed } => {
+            let ends = write_extension(table, index, sheet, levels, pos, free, out);
+            wire::write_u32(out, 0, ends.free - 4);
+            Ends {
+                pos: ends.pos + 2,
+                free: ends.free,
+            }
+        }
+        schema::Scope::Fields { group } => Ends { pos, free },
     }
 }
 
@@ -434,13 +466,13 @@ fn write_item(
             Ends { pos: next, free }
         }
         schema::FieldKind::Indirect { utf8 } => write_text(sheet, pos, at, free, out),
-        schema::FieldKind::Static { group } => write_fields(
+        schema::FieldKind::Static { group } => write_group(
             table,
             index,
             sheet,
             levels,
             depth,
-            group,
+            schema::Scope::Fields { group },
             pos,
             at,
             free,
@@ -451,6 +483,7 @@ fn write_item(
             index,
             sheet,
             levels,
+            allowed,
             pos,
             at,
             free,
@@ -465,17 +498,29 @@ fn write_nested(
     index: &[u16],
     sheet: &[u8],
     levels: usize,
+    allowed: usize,
     pos: usize,
     at: usize,
     free: usize,
     out: &mut [u8],
 ) -> Ends
-    requires { ⌜ (Layout (now table) (now index)) × ((allowed : ℕ) × Fits (nestedOf (now table) levels allowed at free (drop pos (now sheet))) at free (now out)) ⌝ }
-    ensures { λ r. ⌜ ((allowed : ℕ) → Fits (nestedOf (now (table .entry)) levels allowed at free (drop pos (now (sheet .entry)))) at free (now (out .entry)) → Stands (nestedOf (now (table .entry)) levels allowed at free (drop pos (now (sheet .entry)))) at free (now (sheet .entry)) (now (out .entry)) (now (out .exit)) (r .pos) (r .free)) ⌝ }
+    requires { ⌜ (Layout (now table) (now index)) × (Fits (nestedOf (now table) levels allowed at free (drop pos (now sheet))) at free (now out)) ⌝ }
+    ensures { λ r. ⌜ Stands (nestedOf (now (table .entry)) levels allowed at free (drop pos (now (sheet .entry)))) at free (now (sheet .entry)) (now (out .entry)) (now (out .exit)) (r .pos) (r .free) ⌝ }
 {
     wire::write_u32(out, at, free - at);
     let whole = out.len();
-    let ends = write_group(table, index, sheet, levels, pos, &mut out[free..whole]);
+    let ends = write_group(
+        table,
+        index,
+        sheet,
+        levels,
+        5,
+        schema::Scope::Whole { allowed },
+        pos,
+        16,
+        0,
+        &mut out[free..whole],
+    );
     Ends {
         pos: ends.pos,
         free: free + ends.free,
@@ -556,7 +601,7 @@ fn write_extending(
     if wire::has_mark(sheet, pos, XU) {
         return write_text(sheet, next, at, free, out);
     }
-    write_nested(table, index, sheet, levels, next, at, free, out)
+    write_nested(table, index, sheet, levels, 0, next, at, free, out)
 }
 
 // THE MESSAGE
@@ -567,6 +612,17 @@ pub fn write_message(table: &[u8], index: &[u16], sheet: &[u8], output: &mut [u8
     requires { ⌜ (Layout (now table) (now index)) × ((X : List ℕ) × (sheetW (schema (now table)) (now sheet) ≡ wrote X [] []) × (length X ≤ length (now output))) ⌝ }
     ensures { λ r. ⌜ ((X : List ℕ) → sheetW (schema (now (table .entry))) (now (sheet .entry)) ≡ wrote X [] [] → (now (output .exit) ≡ splice (length X) 0 X (now (output .entry))) × (r ≡ length X)) ⌝ }
 {
-    let ends = write_group(table, index, sheet, 8, 2, output);
+    let ends = write_group(
+        table,
+        index,
+        sheet,
+        8,
+        5,
+        schema::Scope::Whole { allowed: 0 },
+        2,
+        16,
+        0,
+        output,
+    );
     ends.free
 }

@@ -8,7 +8,7 @@ use Rattle.writing.proofs.write_text.Tie as tie
 
 returns : tie.Need-returns
 returns c = let a = c .before .before .before .before .before .before .before .before .before .before .before .args in let n = c .before .before .before .before .before .before .before .before .read-u32 .ensures .0 in
-    (rw (← n) (c .before .before .write-bytes .ensures .0 ∙ ap (λ (z : List ℕ). splice (4 + c .before .before .before .before .before .before .before .before .read-u32 .result) (a .free) (part (4 + c .before .before .before .before .before .before .before .before .read-u32 .result) (a .pos) (a .sheet .now)) z) (c .before .before .before .before .before .before .write-u32 .ensures)), rw (← n) (c .before .before .write-bytes .ensures .1), rw (← n))
+    (rw (← n) (c .before .before .copy .ensures ∙ ap (λ (z : List ℕ). splice (4 + c .before .before .before .before .before .before .before .before .read-u32 .result) (a .free) (part (4 + c .before .before .before .before .before .before .before .before .read-u32 .result) (a .pos) (a .sheet .now)) z) (c .before .before .before .before .before .before .write-u32 .ensures)), rw (← n), rw (← n))
 
 pub write-text-spec : {M : Type 1} → statement M
 write-text-spec =
@@ -19,6 +19,7 @@ write-text-spec =
     (λ c. search needs)
     (λ c κs. search needs)
     (λ c κs. search needs)
+    (λ c. search needs)
     (λ c. search needs)
     (λ c. search needs)
     returns)

@@ -10,12 +10,12 @@ use lib.ListN.{length, drop}
 use lib.Dec.{leb}
 use Rattle.wire.specs.Bytes.{part, le, bytesOf, same}
 use Rattle.wire.proofs.Laws.{length-bytes, length-splice}
-use Rattle.schema.specs.Schema.{shallowKind, shallowFields, shallow, kindWidth, find, any}
+use Rattle.schema.specs.Schema.{shallowKind, shallowFields, shallow, kindWidth, any}
 use Rattle.schema.specs.Table.{fieldAt, fieldsAt, enums, schema}
 use Rattle.schema.specs.FieldKinds.{kindFrom}
 use Rattle.schema.specs.declared.FieldKind.the-variants.{Plain}
 use Rattle.schema.proofs.Records.{fields-more}
-use Rattle.schema.proofs.Groups.{static-inside, placed-inside, find-whole, layout-width}
+use Rattle.schema.proofs.Groups.{static-inside, placed-inside}
 use Rattle.schema.proofs.Depth.{and-both, shallow-some, shallow-cons, wide-kind, wide-field}
 use Rattle.message.specs.Sheet.{VA, kindMark}
 use Rattle.message.specs.Check.{widthOf}
@@ -25,52 +25,50 @@ use Rattle.sheet.specs.Writers.{innerOf, staticOf, kindOf, itemOf, valueOf, fie
 use Rattle.sheet.proofs.Widths.{wide-is, Wides, wides-indirect, wides-marked, wides-kind, wides-field, wides-static, wides-extension}
 use Rattle.sheet.proofs.Writers.{field-plain, value-one, items-plain, items-text, start-static}
 use Rattle.sheet.proofs.ShowReaders.{is-XT, is-XU}
-use Rattle.writing.specs.Write.{Fits}
+use Rattle.writing.specs.Write.{Fits, groupOf, placeOf, Scoped}
 use Rattle.writing.proofs.Left.{Left, begun, opened, left-fits, finished, fits-opens, stands-opens}
 use Rattle.writing.proofs.Writers.{same-opens, marked-opens, marked-inside, in-place, plain-room, plain-stands, record-room, record-stands, inline-room, inline-stands, text-room, text-stands, list-room, list-left, one-left, item-fits, items-next, items-done, field-fits, fields-next, fields-done, field-inside, absent-room, absent-stands, present-room, present-left, required-left, list-opens, kind-plain, kind-number, kind-inline, kind-fields, kind-dynamic, text-opens}
-use Rattle.writing.proofs.Groups.{extension-none, extension-some, extending-kept, extending-inner, extending-inside, group-begins, group-opens, body-start, fields-fits, extension-fits, extension-mark, contents-stand, body-closes, body-room, body-stands, nested-room, nested-fits, nested-end, nested-stands}
+use Rattle.writing.proofs.Groups.{extension-none, extension-some, extending-kept, extending-inner, extending-inside, nested-room, nested-fits, nested-end, nested-stands}
+use Rattle.writing.proofs.Scopes.{end-begins, end-room, whole-ends, fields-end, deep, has-head, goes}
 use Prim.Native.Nat.{ℕ, _<_}
 use borrow.Fn.Kinds.{In}
 use borrow.Fn.PlainCycle.{Measures, is, falls, and}
-use Rattle.writing.proofs.write_body.Reads as write-body
-use Rattle.writing.proofs.write_body.Kinds as write-body-kinds
-use Rattle.writing.proofs.+write_body+write_extending+write_extension+write_field+write_fields+write_group+write_groups+write_item+write_items+write_nested+write_value.Lts-write_body as write-body-lts
+use Rattle.writing.proofs.close_group.Reads as close-group
+use Rattle.writing.proofs.close_group.Kinds as close-group-kinds
+use Rattle.writing.proofs.+close_group+write_extending+write_extension+write_field+write_fields+write_group+write_groups+write_item+write_items+write_nested+write_value.Lts-close_group as close-group-lts
 use Rattle.writing.proofs.write_extending.Reads as write-extending
 use Rattle.writing.proofs.write_extending.Kinds as write-extending-kinds
-use Rattle.writing.proofs.+write_body+write_extending+write_extension+write_field+write_fields+write_group+write_groups+write_item+write_items+write_nested+write_value.Lts-write_extending as write-extending-lts
+use Rattle.writing.proofs.+close_group+write_extending+write_extension+write_field+write_fields+write_group+write_groups+write_item+write_items+write_nested+write_value.Lts-write_extending as write-extending-lts
 use Rattle.writing.proofs.write_extension.Reads as write-extension
 use Rattle.writing.proofs.write_extension.Kinds as write-extension-kinds
-use Rattle.writing.proofs.+write_body+write_extending+write_extension+write_field+write_fields+write_group+write_groups+write_item+write_items+write_nested+write_value.Lts-write_extension as write-extension-lts
+use Rattle.writing.proofs.+close_group+write_extending+write_extension+write_field+write_fields+write_group+write_groups+write_item+write_items+write_nested+write_value.Lts-write_extension as write-extension-lts
 use Rattle.writing.proofs.write_field.Reads as write-field
 use Rattle.writing.proofs.write_field.Kinds as write-field-kinds
-use Rattle.writing.proofs.+write_body+write_extending+write_extension+write_field+write_fields+write_group+write_groups+write_item+write_items+write_nested+write_value.Lts-write_field as write-field-lts
+use Rattle.writing.proofs.+close_group+write_extending+write_extension+write_field+write_fields+write_group+write_groups+write_item+write_items+write_nested+write_value.Lts-write_field as write-field-lts
 use Rattle.writing.proofs.write_fields.Reads as write-fields
 use Rattle.writing.proofs.write_fields.Kinds as write-fields-kinds
-use Rattle.writing.proofs.+write_body+write_extending+write_extension+write_field+write_fields+write_group+write_groups+write_item+write_items+write_nested+write_value.Lts-write_fields as write-fields-lts
+use Rattle.writing.proofs.+close_group+write_extending+write_extension+write_field+write_fields+write_group+write_groups+write_item+write_items+write_nested+write_value.Lts-write_fields as write-fields-lts
 use Rattle.writing.proofs.write_group.Reads as write-group
 use Rattle.writing.proofs.write_group.Kinds as write-group-kinds
-use Rattle.writing.proofs.+write_body+write_extending+write_extension+write_field+write_fields+write_group+write_groups+write_item+write_items+write_nested+write_value.Lts-write_group as write-group-lts
+use Rattle.writing.proofs.+close_group+write_extending+write_extension+write_field+write_fields+write_group+write_groups+write_item+write_items+write_nested+write_value.Lts-write_group as write-group-lts
 use Rattle.writing.proofs.write_groups.Reads as write-groups
 use Rattle.writing.proofs.write_groups.Kinds as write-groups-kinds
-use Rattle.writing.proofs.+write_body+write_extending+write_extension+write_field+write_fields+write_group+write_groups+write_item+write_items+write_nested+write_value.Lts-write_groups as write-groups-lts
+use Rattle.writing.proofs.+close_group+write_extending+write_extension+write_field+write_fields+write_group+write_groups+write_item+write_items+write_nested+write_value.Lts-write_groups as write-groups-lts
 use Rattle.writing.proofs.write_item.Reads as write-item
 use Rattle.writing.proofs.write_item.Kinds as write-item-kinds
-use Rattle.writing.proofs.+write_body+write_extending+write_extension+write_field+write_fields+write_group+write_groups+write_item+write_items+write_nested+write_value.Lts-write_item as write-item-lts
+use Rattle.writing.proofs.+close_group+write_extending+write_extension+write_field+write_fields+write_group+write_groups+write_item+write_items+write_nested+write_value.Lts-write_item as write-item-lts
 use Rattle.writing.proofs.write_items.Reads as write-items
 use Rattle.writing.proofs.write_items.Kinds as write-items-kinds
-use Rattle.writing.proofs.+write_body+write_extending+write_extension+write_field+write_fields+write_group+write_groups+write_item+write_items+write_nested+write_value.Lts-write_items as write-items-lts
+use Rattle.writing.proofs.+close_group+write_extending+write_extension+write_field+write_fields+write_group+write_groups+write_item+write_items+write_nested+write_value.Lts-write_items as write-items-lts
 use Rattle.writing.proofs.write_nested.Reads as write-nested
 use Rattle.writing.proofs.write_nested.Kinds as write-nested-kinds
-use Rattle.writing.proofs.+write_body+write_extending+write_extension+write_field+write_fields+write_group+write_groups+write_item+write_items+write_nested+write_value.Lts-write_nested as write-nested-lts
+use Rattle.writing.proofs.+close_group+write_extending+write_extension+write_field+write_fields+write_group+write_groups+write_item+write_items+write_nested+write_value.Lts-write_nested as write-nested-lts
 use Rattle.writing.proofs.write_value.Reads as write-value
 use Rattle.writing.proofs.write_value.Kinds as write-value-kinds
-use Rattle.writing.proofs.+write_body+write_extending+write_extension+write_field+write_fields+write_group+write_groups+write_item+write_items+write_nested+write_value.Lts-write_value as write-value-lts
+use Rattle.writing.proofs.+close_group+write_extending+write_extension+write_field+write_fields+write_group+write_groups+write_item+write_items+write_nested+write_value.Lts-write_value as write-value-lts
 use Rattle.schema.proofs.field_count.Reads as field-count-reads
 use Rattle.schema.proofs.field_width.Reads as field-width-reads
-use Rattle.schema.proofs.find.Reads as find-reads
 use Rattle.schema.proofs.group_place.Reads as group-place-reads
-use Rattle.schema.proofs.group_total.Reads as group-total-reads
-use Rattle.schema.proofs.group_width.Reads as group-width-reads
 use Rattle.schema.proofs.is_optional.Reads as is-optional-reads
 use Rattle.schema.proofs.is_sequence.Reads as is-sequence-reads
 use Rattle.schema.proofs.kind_at.Reads as kind-at-reads
@@ -80,23 +78,23 @@ use Rattle.schema.proofs.tested_width.Reads as tested-width-reads
 use Rattle.wire.proofs.fill.Reads as fill-reads
 use Rattle.wire.proofs.has_mark.Reads as has-mark-reads
 use Rattle.wire.proofs.read_u32.Reads as read-u32-reads
-use Rattle.wire.proofs.read_u64.Reads as read-u64-reads
 use Rattle.wire.proofs.wide.Reads as wide-reads
 use Rattle.wire.proofs.write_u32.Reads as write-u32-reads
+use Rattle.writing.proofs.open_group.Reads as open-group-reads
 use Rattle.writing.proofs.write_bytes.Reads as write-bytes-reads
 use Rattle.writing.proofs.write_inline.Reads as write-inline-reads
 use Rattle.writing.proofs.write_plain.Reads as write-plain-reads
 use Rattle.writing.proofs.write_text.Reads as write-text-reads
 use Rattle.writing.proofs.write_texts.Reads as write-texts-reads
-use Rattle.writing.proofs.+write_body+write_extending+write_extension+write_field+write_fields+write_group+write_groups+write_item+write_items+write_nested+write_value.{
+use Rattle.writing.proofs.+close_group+write_extending+write_extension+write_field+write_fields+write_group+write_groups+write_item+write_items+write_nested+write_value.{
   statement,
 }
-use Rattle.writing.proofs.+write_body+write_extending+write_extension+write_field+write_fields+write_group+write_groups+write_item+write_items+write_nested+write_value.Tie.{
+use Rattle.writing.proofs.+close_group+write_extending+write_extension+write_field+write_fields+write_group+write_groups+write_item+write_items+write_nested+write_value.Tie.{
   close,
 }
 
-abbrev μ-write-body : Measures 4 write-body-kinds.ps ℕ
-μ-write-body κs a = 64 * a .1 .1 .1 .0 + 51
+abbrev μ-close-group : Measures 4 close-group-kinds.ps ℕ
+μ-close-group κs a = 64 * a .1 .1 .1 .0 + 9
 
 abbrev μ-write-extending : Measures 4 write-extending-kinds.ps ℕ
 μ-write-extending κs a = 64 * a .1 .1 .1 .0 + 6
@@ -111,7 +109,7 @@ abbrev μ-write-fields : Measures 4 write-fields-kinds.ps ℕ
 μ-write-fields κs a = 64 * a .1 .1 .1 .0 + 10 * a .1 .1 .1 .1 .0
 
 abbrev μ-write-group : Measures 4 write-group-kinds.ps ℕ
-μ-write-group κs a = 64 * a .1 .1 .1 .0 + 1
+μ-write-group κs a = 64 * a .1 .1 .1 .0 + deep (a .1 .1 .1 .1 .1 .0) (a .1 .1 .1 .1 .0) + 1
 
 abbrev μ-write-groups : Measures 4 write-groups-kinds.ps ℕ
 μ-write-groups κs a = 64 * a .1 .1 .1 .0 + 7
@@ -128,13 +126,13 @@ abbrev μ-write-nested : Measures 4 write-nested-kinds.ps ℕ
 abbrev μ-write-value : Measures 4 write-value-kinds.ps ℕ
 μ-write-value κs a = 64 * a .1 .1 .1 .0 + 10 * a .1 .1 .1 .1 .0 + 8
 
-abbrev write-body-at : ℕ → In 4 write-body-kinds.ps
-write-body-at t =
-    and 4 write-body-kinds.ps (is 4 write-body-kinds.ps μ-write-body t) write-body.Pre
+abbrev close-group-at : ℕ → In 4 close-group-kinds.ps
+close-group-at t =
+    and 4 close-group-kinds.ps (is 4 close-group-kinds.ps μ-close-group t) close-group.Pre
 
-abbrev write-body-below : ℕ → In 4 write-body-kinds.ps
-write-body-below t =
-    and 4 write-body-kinds.ps (falls 4 write-body-kinds.ps _<_ μ-write-body t) write-body.Pre
+abbrev close-group-below : ℕ → In 4 close-group-kinds.ps
+close-group-below t =
+    and 4 close-group-kinds.ps (falls 4 close-group-kinds.ps _<_ μ-close-group t) close-group.Pre
 
 abbrev write-extending-at : ℕ → In 4 write-extending-kinds.ps
 write-extending-at t =
@@ -244,40 +242,27 @@ abbrev write-value-below : ℕ → In 4 write-value-kinds.ps
 write-value-below t =
     and 4 write-value-kinds.ps (falls 4 write-value-kinds.ps _<_ μ-write-value t) write-value.Pre
 
-abbrev write-body-claims : ℕ → write-body-lts.Claims
-write-body-claims t = (group-width-reads.Asked, group-width-reads.Learnt, write-bytes-reads.Asked, write-bytes-reads.Learnt, write-fields-below t, write-fields.Post, write-extension-below t, write-extension.Post, write-u32-reads.Asked, write-u32-reads.Learnt)
+abbrev close-group-claims : ℕ → close-group-lts.Claims
+close-group-claims t = (write-extension-below t, write-extension.Post, write-u32-reads.Asked, write-u32-reads.Learnt)
 
-write-body-write-bytes-requires : (t : ℕ) → write-body-lts.Need-write-bytes-requires (write-body-claims t) (write-body-at t) write-body.Post
-write-body-write-bytes-requires t c κs = let a = c .before .before .before .before .before .before .args in let R = c .before .before .before .before .before .before .pre .1 in
-    (R .2, omega (arith, body-start (a .table .now) (a .levels) (a .group) (a .pos) (a .sheet .now) (a .out .now) (R .2) (R .3) _ _ refl refl))
+close-group-write-extension-requires : (t : ℕ) → close-group-lts.Need-write-extension-requires (close-group-claims t) (close-group-at t) close-group.Post
+close-group-write-extension-requires t c κs = let a = c .before .before .before .before .before .before .before .before .args in let R = c .before .before .before .before .before .before .before .before .pre .1 in let b = end-begins (a .scope) _ (c .before .before .scope .given .1) (a .pos) (a .free) (a .sheet .now) (a .out .now) (a .table .now) (a .levels) (R .1) in
+    (search needs, (R .0, b .0, b .1))
 
-write-body-write-fields-requires : (t : ℕ) → write-body-lts.Need-write-fields-requires (write-body-claims t) (write-body-at t) write-body.Post
-write-body-write-fields-requires t c κs = let a = c .before .before .before .before .before .before .before .before .before .before .args in let R = c .before .before .before .before .before .before .before .before .before .before .pre .1 in let P = R .0 in
-    let w = ap (λ (n : ℕ). 16 + n) (c .before .before .before .before .before .group-width .ensures .0 ∙ layout-width (a .table .now) (a .index .now) P _) in
-    (search needs, (P, R .1, P .shallows _, fields-fits (a .table .now) (a .levels) (a .group) (a .pos) (a .sheet .now) (a .out .now) (R .2) (R .3) _ _ w (c .before .before .before .write-bytes .ensures .1) _ (c .before .before .before .write-bytes .ensures .0)))
+close-group-sub-write-u32 : (t : ℕ) → close-group-lts.Need-sub-write-u32 (close-group-claims t) (close-group-at t) close-group.Post
+close-group-sub-write-u32 t c = let a = c .before .before .before .before .before .before .before .before .before .before .before .before .before .args in omega (arith, end-room (a .scope) _ (c .before .before .before .before .before .before .before .scope .given .1) (a .pos) (a .free) (a .sheet .now) (a .out .now) (a .table .now) (a .levels) (c .before .before .before .before .before .before .before .before .before .before .before .before .before .pre .1 .1) _ _ _ (c .before .before .before .before .write-extension .ensures) .0)
 
-write-body-write-extension-requires : (t : ℕ) → write-body-lts.Need-write-extension-requires (write-body-claims t) (write-body-at t) write-body.Post
-write-body-write-extension-requires t c κs = let a = c .before .before .before .before .before .before .before .before .before .before .before .before .before .before .args in let R = c .before .before .before .before .before .before .before .before .before .before .before .before .before .before .pre .1 in let P = R .0 in
-    let w = ap (λ (n : ℕ). 16 + n) (c .before .before .before .before .before .before .before .before .before .group-width .ensures .0 ∙ layout-width (a .table .now) (a .index .now) P _) in
-    (search needs, (P, extension-mark (a .table .now) (a .levels) (a .group) (a .pos) (a .sheet .now) (a .out .now) (R .2) (R .3) _ _ w (c .before .before .before .before .before .before .before .write-bytes .ensures .1) _ (c .before .before .before .before .before .before .before .write-bytes .ensures .0) _ _ _ (c .before .before .before .write-fields .ensures), extension-fits (a .table .now) (a .levels) (a .group) (a .pos) (a .sheet .now) (a .out .now) (R .2) (R .3) _ _ w (c .before .before .before .before .before .before .before .write-bytes .ensures .1) _ (c .before .before .before .before .before .before .before .write-bytes .ensures .0) _ _ _ (c .before .before .before .write-fields .ensures)))
+close-group-write-u32-requires : (t : ℕ) → close-group-lts.Need-write-u32-requires (close-group-claims t) (close-group-at t) close-group.Post
+close-group-write-u32-requires t c κs = let a = c .before .before .before .before .before .before .before .before .before .before .before .before .before .args in omega (arith, end-room (a .scope) _ (c .before .before .before .before .before .before .before .scope .given .1) (a .pos) (a .free) (a .sheet .now) (a .out .now) (a .table .now) (a .levels) (c .before .before .before .before .before .before .before .before .before .before .before .before .before .pre .1 .1) _ _ _ (c .before .before .before .before .write-extension .ensures) .1, c .before .before .before .before .write-extension .kept .1 .1 .1 .1 .1 .1 .0)
 
-write-body-write-u32-requires : (t : ℕ) → write-body-lts.Need-write-u32-requires (write-body-claims t) (write-body-at t) write-body.Post
-write-body-write-u32-requires t c κs = let a = c .before .before .before .before .before .before .before .before .before .before .before .before .before .before .before .before .before .before .before .args in let R = c .before .before .before .before .before .before .before .before .before .before .before .before .before .before .before .before .before .before .before .pre .1 in let P = R .0 in
-    let w = ap (λ (n : ℕ). 16 + n) (c .before .before .before .before .before .before .before .before .before .before .before .before .before .before .group-width .ensures .0 ∙ layout-width (a .table .now) (a .index .now) P _) in
-    let v = contents-stand (a .table .now) (a .levels) (a .group) (a .pos) (a .sheet .now) (a .out .now) (R .2) (R .3) _ _ w (c .before .before .before .before .before .before .before .before .before .before .before .before .write-bytes .ensures .1) _ (c .before .before .before .before .before .before .before .before .before .before .before .before .write-bytes .ensures .0) _ _ _ (c .before .before .before .before .before .before .before .before .write-fields .ensures) _ _ _ (c .before .before .before .before .write-extension .ensures) in
-    omega (arith, body-room (a .table .now) (a .levels) (a .group) (a .pos) (a .sheet .now) (a .out .now) (R .2) (R .3) _ _ w (c .before .before .before .before .before .before .before .before .before .before .before .before .write-bytes .ensures .1) _ (c .before .before .before .before .before .before .before .before .before .before .before .before .write-bytes .ensures .0) _ _ _ v .1)
+close-group-add-t18 : (t : ℕ) → close-group-lts.Need-add-t18 (close-group-claims t) (close-group-at t) close-group.Post
+close-group-add-t18 t c = let a = c .before .before .before .before .before .before .before .before .before .before .before .before .before .before .before .before .before .args in omega (arith, end-room (a .scope) _ (c .before .before .before .before .before .before .before .before .before .before .before .scope .given .1) (a .pos) (a .free) (a .sheet .now) (a .out .now) (a .table .now) (a .levels) (c .before .before .before .before .before .before .before .before .before .before .before .before .before .before .before .before .before .pre .1 .1) _ _ _ (c .before .before .before .before .before .before .before .before .write-extension .ensures) .2, c .before .before .before .before .before .before .before .before .before .before .before .before .before .before .before .before .before .good .1 .1 .0 .0)
 
-write-body-add-t12 : (t : ℕ) → write-body-lts.Need-add-t12 (write-body-claims t) (write-body-at t) write-body.Post
-write-body-add-t12 t c = let a = c .before .before .before .before .before .before .before .before .before .before .before .before .before .before .before .before .before .before .before .before .before .before .before .args in let R = c .before .before .before .before .before .before .before .before .before .before .before .before .before .before .before .before .before .before .before .before .before .before .before .pre .1 in let P = R .0 in
-    let w = ap (λ (n : ℕ). 16 + n) (c .before .before .before .before .before .before .before .before .before .before .before .before .before .before .before .before .before .before .group-width .ensures .0 ∙ layout-width (a .table .now) (a .index .now) P _) in
-    let v = contents-stand (a .table .now) (a .levels) (a .group) (a .pos) (a .sheet .now) (a .out .now) (R .2) (R .3) _ _ w (c .before .before .before .before .before .before .before .before .before .before .before .before .before .before .before .before .write-bytes .ensures .1) _ (c .before .before .before .before .before .before .before .before .before .before .before .before .before .before .before .before .write-bytes .ensures .0) _ _ _ (c .before .before .before .before .before .before .before .before .before .before .before .before .write-fields .ensures) _ _ _ (c .before .before .before .before .before .before .before .before .write-extension .ensures) in
-    omega (arith, body-closes (a .table .now) (a .levels) (a .group) (a .pos) (a .sheet .now) (a .out .now) (R .2) (R .3) _ _ w (c .before .before .before .before .before .before .before .before .before .before .before .before .before .before .before .before .write-bytes .ensures .1) _ (c .before .before .before .before .before .before .before .before .before .before .before .before .before .before .before .before .write-bytes .ensures .0) _ _ _ v, c .before .before .before .before .before .before .before .before .before .before .before .before .before .before .before .before .before .before .before .before .before .before .before .good .1 .1 .0 .0)
+close-group-returns : (t : ℕ) → close-group-lts.Need-returns (close-group-claims t) (close-group-at t) close-group.Post
+close-group-returns t c = let a = c .before .before .before .before .before .before .before .before .before .before .before .before .before .before .before .before .before .args in whole-ends (a .scope) _ (c .before .before .before .before .before .before .before .before .before .before .before .scope .given .1) (a .pos) (a .free) (a .sheet .now) (a .out .now) (a .table .now) (a .levels) (c .before .before .before .before .before .before .before .before .before .before .before .before .before .before .before .before .before .pre .1 .1) _ _ _ (c .before .before .before .before .before .before .before .before .write-extension .ensures) _ (c .before .before .before .write-u32 .ensures)
 
-write-body-returns : (t : ℕ) → write-body-lts.Need-returns (write-body-claims t) (write-body-at t) write-body.Post
-write-body-returns t c = let a = c .before .before .before .before .before .before .before .before .before .before .before .before .before .before .before .before .before .before .before .before .before .before .before .args in let R = c .before .before .before .before .before .before .before .before .before .before .before .before .before .before .before .before .before .before .before .before .before .before .before .pre .1 in let P = R .0 in
-    let w = ap (λ (n : ℕ). 16 + n) (c .before .before .before .before .before .before .before .before .before .before .before .before .before .before .before .before .before .before .group-width .ensures .0 ∙ layout-width (a .table .now) (a .index .now) P _) in
-    let v = contents-stand (a .table .now) (a .levels) (a .group) (a .pos) (a .sheet .now) (a .out .now) (R .2) (R .3) _ _ w (c .before .before .before .before .before .before .before .before .before .before .before .before .before .before .before .before .write-bytes .ensures .1) _ (c .before .before .before .before .before .before .before .before .before .before .before .before .before .before .before .before .write-bytes .ensures .0) _ _ _ (c .before .before .before .before .before .before .before .before .before .before .before .before .write-fields .ensures) _ _ _ (c .before .before .before .before .before .before .before .before .write-extension .ensures) in
-    body-stands (a .table .now) (a .levels) (a .group) (a .pos) (a .sheet .now) (a .out .now) (R .2) (R .3) _ _ w (c .before .before .before .before .before .before .before .before .before .before .before .before .before .before .before .before .write-bytes .ensures .1) _ (c .before .before .before .before .before .before .before .before .before .before .before .before .before .before .before .before .write-bytes .ensures .0) _ _ _ v _ (c .before .before .before .write-u32 .ensures)
+close-group-returns-2 : (t : ℕ) → close-group-lts.Need-returns-2 (close-group-claims t) (close-group-at t) close-group.Post
+close-group-returns-2 t c = let a = c .before .before .before .before .before .before .before .args in fields-end (a .scope) _ (c .before .scope2 .given .1) (a .table .now) (a .levels) (a .pos) (a .free) (a .sheet .now) (a .out .now)
 
 abbrev write-extending-claims : ℕ → write-extending-lts.Claims
 write-extending-claims t = (has-mark-reads.Asked, has-mark-reads.Learnt, write-text-reads.Asked, write-text-reads.Learnt, write-nested-below t, write-nested.Post)
@@ -298,11 +283,11 @@ write-extending-returns t c = let a = c .before .before .before .before .before 
 
 write-extending-write-nested-requires : (t : ℕ) → write-extending-lts.Need-write-nested-requires (write-extending-claims t) (write-extending-at t) write-extending.Post
 write-extending-write-nested-requires t c κs = let a = c .before .before .before .before .before .before .before .args in let R = c .before .before .before .before .before .before .before .pre .1 in let t = a .table .now in let s = a .sheet .now in let o = a .out .now in let I = innerOf t (a .levels) in let k = ap (same (part 2 (a .pos) s)) (sym is-XU) ∙ sym (c .before .before .has-mark .ensures) ∙ c .before .if1 .left in let q = extending-inner (schema t) I (a .at) (a .free) (a .pos) s k in
-    (search needs, (R .0, (0, fits-opens _ _ _ _ _ (R .1) q)))
+    (search needs, (R .0, fits-opens _ _ _ _ _ (R .1) q))
 
 write-extending-returns-2 : (t : ℕ) → write-extending-lts.Need-returns-2 (write-extending-claims t) (write-extending-at t) write-extending.Post
 write-extending-returns-2 t c = let a = c .before .before .before .before .before .before .before .before .before .before .args in let R = c .before .before .before .before .before .before .before .before .before .before .pre .1 in let t = a .table .now in let s = a .sheet .now in let o = a .out .now in let I = innerOf t (a .levels) in let k = ap (same (part 2 (a .pos) s)) (sym is-XU) ∙ sym (c .before .before .before .before .before .has-mark .ensures) ∙ c .before .before .before .before .if1 .left in let q = extending-inner (schema t) I (a .at) (a .free) (a .pos) s k in
-    stands-opens _ _ _ _ _ (R .1) q _ _ _ _ (c .before .before .write-nested .ensures 0 (fits-opens _ _ _ _ _ (R .1) q))
+    stands-opens _ _ _ _ _ (R .1) q _ _ _ _ (c .before .before .write-nested .ensures)
 
 abbrev write-extension-claims : ℕ → write-extension-lts.Claims
 write-extension-claims t = (has-mark-reads.Asked, has-mark-reads.Learnt, read-u32-reads.Asked, read-u32-reads.Learnt, write-u32-reads.Asked, write-u32-reads.Learnt, write-bytes-reads.Asked, write-bytes-reads.Learnt, write-groups-below t, write-groups.Post)
@@ -449,29 +434,22 @@ write-fields-returns : (t : ℕ) → write-fields-lts.Need-returns (write-fields
 write-fields-returns t c = let a = c .before .before .before .before .before .before .before .before .args in let R = c .before .before .before .before .before .before .before .before .pre .1 in let t = a .table .now in let s = a .sheet .now in let o = a .out .now in let I = innerOf t (a .levels) in let es = enums t in let n = c .before .before .field-count .result in let sw = widthOf t (a .depth - 1) in let S = staticOf t (a .levels) (a .depth - 1) in let l = c .before .loop in let i = l .inv in fields-done _ _ _ _ n (l .i) (l .place) (l .end) (l .next) s _ I sw S es t (l .field) (i .4) (c .loop-test .left)
 
 abbrev write-group-claims : ℕ → write-group-lts.Claims
-write-group-claims t = (group-total-reads.Asked, group-total-reads.Learnt, read-u64-reads.Asked, read-u64-reads.Learnt, find-reads.Asked, find-reads.Learnt, write-body-below t, write-body.Post)
+write-group-claims t = (open-group-reads.Asked, open-group-reads.Learnt, write-fields-below t, write-fields.Post, close-group-below t, close-group.Post)
 
-write-group-read-u64-requires : (t : ℕ) → write-group-lts.Need-read-u64-requires (write-group-claims t) (write-group-at t) write-group.Post
-write-group-read-u64-requires t c κs = let a = c .before .before .before .before .before .args in let R = c .before .before .before .before .before .pre .1 in group-begins (a .table .now) (a .levels) (R .1 .0) (a .pos) (a .sheet .now) _ refl (a .out .now) (R .1 .1) .1
+write-group-open-group-requires : (t : ℕ) → write-group-lts.Need-open-group-requires (write-group-claims t) (write-group-at t) write-group.Post
+write-group-open-group-requires t c κs = let a = c .before .before .before .before .before .args in let R = c .before .before .before .before .before .pre .1 in (R .0, has-head (a .table .now) (a .levels) (a .depth) (a .at) (a .free) (a .pos) (a .sheet .now) (a .out .now) (a .scope) (R .1) (R .2))
 
-write-group-find-requires : (t : ℕ) → write-group-lts.Need-find-requires (write-group-claims t) (write-group-at t) write-group.Post
-write-group-find-requires t c κs = let P = c .before .before .before .before .before .before .pre .1 .0 in
-    (rw (sym (c .before .group-total .ensures .0 ∙ P .total)) at (P .placed), P .long, omega (arith, c .before .group-total .ensures .0, P .total, P .few), P .small)
+write-group-write-fields-requires : (t : ℕ) → write-group-lts.Need-write-fields-requires (write-group-claims t) (write-group-at t) write-group.Post
+write-group-write-fields-requires t c κs = let a = c .before .before .before .before .before .before .before .before .before .args in let R = c .before .before .before .before .before .before .before .before .before .pre .1 in let g = goes (a .table .now) (a .levels) (a .depth) (a .at) (a .free) (a .pos) (a .sheet .now) (a .out .now) _ (R .0) (a .scope) (R .1) (R .2) _ _ (c .before .before .before .open-group .ensures .0) (c .before .before .before .open-group .ensures .1) in
+    (omega (arith, g .falls .0, c .before .before .before .before .before .before .before .before .before .pre .0), (R .0, g .inside, g .low, g .fits))
 
-write-group-sub-write-body : (t : ℕ) → write-group-lts.Need-sub-write-body (write-group-claims t) (write-group-at t) write-group.Post
-write-group-sub-write-body t c = let a = c .before .before .before .before .before .before .before .args in let R = c .before .before .before .before .before .before .before .pre .1 in omega (arith, group-begins (a .table .now) (a .levels) (R .1 .0) (a .pos) (a .sheet .now) _ refl (a .out .now) (R .1 .1) .0)
-
-write-group-found : (t : ℕ) (c : write-group-lts.After-find (write-group-claims t) (write-group-at t) write-group.Post) → let a = c .before .before .before .before .before .before .before .args in c .find .result ≡ find (schema (a .table .now)) (le (part 8 (a .pos) (a .sheet .now)))
-write-group-found t c = let t = c .before .before .before .before .before .before .before .args .table .now in c .find .ensures .0 ∙ find-whole (schema t) _ _ (c .before .before .group-total .ensures .0 ∙ c .before .before .before .before .before .before .before .pre .1 .0 .total) ∙ ap (find (schema t)) (c .before .read-u64 .ensures)
-
-write-group-write-body-requires : (t : ℕ) → write-group-lts.Need-write-body-requires (write-group-claims t) (write-group-at t) write-group.Post
-write-group-write-body-requires t c κs = let a = c .before .before .before .before .before .before .before .before .args in let R = c .before .before .before .before .before .before .before .before .pre .1 in let g = write-group-found t (c .before) in
-    let b = group-begins (a .table .now) (a .levels) (R .1 .0) (a .pos) (a .sheet .now) _ g (a .out .now) (R .1 .1) in
-    (omega (arith, b .0, c .before .before .before .before .before .before .before .before .pre .0), (R .0, b .2, b .1, fits-opens _ _ _ _ _ (R .1 .1) (group-opens (a .table .now) (a .levels) (R .1 .0) (a .pos) (a .sheet .now) _ g)))
+write-group-close-group-requires : (t : ℕ) → write-group-lts.Need-close-group-requires (write-group-claims t) (write-group-at t) write-group.Post
+write-group-close-group-requires t c κs = let a = c .before .before .before .before .before .before .before .before .before .before .before .before .before .args in let R = c .before .before .before .before .before .before .before .before .before .before .before .before .before .pre .1 in let g = goes (a .table .now) (a .levels) (a .depth) (a .at) (a .free) (a .pos) (a .sheet .now) (a .out .now) _ (R .0) (a .scope) (R .1) (R .2) _ _ (c .before .before .before .before .before .before .before .open-group .ensures .0) (c .before .before .before .before .before .before .before .open-group .ensures .1) in
+    (omega (arith, g .falls .1, c .before .before .before .before .before .before .before .before .before .before .before .before .before .pre .0), (R .0, g .ends _ _ _ (c .before .before .before .write-fields .ensures) .0))
 
 write-group-returns : (t : ℕ) → write-group-lts.Need-returns (write-group-claims t) (write-group-at t) write-group.Post
-write-group-returns t c = let a = c .before .before .before .before .before .before .before .before .before .before .before .args in
-    λ b f. stands-opens _ _ _ _ _ f (group-opens (a .table .now) (a .levels) b (a .pos) (a .sheet .now) _ (write-group-found t (c .before .before .before .before))) _ _ _ _ (c .before .before .write-body .ensures)
+write-group-returns t c = let a = c .before .before .before .before .before .before .before .before .before .before .before .before .before .before .before .before .args in let R = c .before .before .before .before .before .before .before .before .before .before .before .before .before .before .before .before .pre .1 in let g = goes (a .table .now) (a .levels) (a .depth) (a .at) (a .free) (a .pos) (a .sheet .now) (a .out .now) _ (R .0) (a .scope) (R .1) (R .2) _ _ (c .before .before .before .before .before .before .before .before .before .before .open-group .ensures .0) (c .before .before .before .before .before .before .before .before .before .before .open-group .ensures .1) in
+    g .ends _ _ _ (c .before .before .before .before .before .before .write-fields .ensures) .1 _ _ _ (c .before .before .close-group .ensures)
 
 abbrev write-groups-Inv-loop : write-groups-lts.InvT-loop
 write-groups-Inv-loop table index sheet levels total pos at free out₀ i₀ place₀ next₀ end₀ out i place next end =
@@ -498,7 +476,7 @@ write-groups-returns : (t : ℕ) → write-groups-lts.Need-returns (write-groups
 write-groups-returns t c = let a = c .before .before .before .before .before .before .args in let R = c .before .before .before .before .before .before .pre .1 in let t = a .table .now in let s = a .sheet .now in let o = a .out .now in let I = innerOf t (a .levels) in let l = c .before .loop in let i = l .inv in items-done _ _ _ _ (a .total) (l .i) (l .place) (l .end) (l .next) s _ 4 (extendingOf t (a .levels)) (i .2) (c .loop-test .left)
 
 abbrev write-item-claims : ℕ → write-item-lts.Claims
-write-item-claims t = (wide-reads.Asked, wide-reads.Learnt, write-bytes-reads.Asked, write-bytes-reads.Learnt, tested-width-reads.Asked, tested-width-reads.Learnt, write-inline-reads.Asked, write-inline-reads.Learnt, write-text-reads.Asked, write-text-reads.Learnt, write-fields-below t, write-fields.Post, write-nested-below t, write-nested.Post)
+write-item-claims t = (wide-reads.Asked, wide-reads.Learnt, write-bytes-reads.Asked, write-bytes-reads.Learnt, tested-width-reads.Asked, tested-width-reads.Learnt, write-inline-reads.Asked, write-inline-reads.Learnt, write-text-reads.Asked, write-text-reads.Learnt, write-group-below t, write-group.Post, write-nested-below t, write-nested.Post)
 
 write-item-write-bytes-requires : (t : ℕ) → write-item-lts.Need-write-bytes-requires (write-item-claims t) (write-item-at t) write-item.Post
 write-item-write-bytes-requires t c κs = let a = c .before .before .before .before .before .before .before .before .before .args in let R = c .before .before .before .before .before .before .before .before .before .pre .1 in let t = a .table .now in let s = a .sheet .now in let o = a .out .now in let I = innerOf t (a .levels) in let es = enums t in let sw = widthOf t (a .depth) in let S = staticOf t (a .levels) (a .depth) in let e = c .before .before .before .kind .given .1 ∙ ap Plain (sym (c .before .wide .ensures .0)) in let q = same-opens _ _ (kind-plain I S es (a .kind) (a .at) (a .free) (drop (a .pos) s) _ e) in
@@ -516,14 +494,15 @@ write-item-write-text-requires : (t : ℕ) → write-item-lts.Need-write-text-re
 write-item-write-text-requires t c κs = let a = c .before .before .before .before .before .before .before .before .args in let R = c .before .before .before .before .before .before .before .before .pre .1 in let t = a .table .now in let s = a .sheet .now in let o = a .out .now in let I = innerOf t (a .levels) in let es = enums t in let sw = widthOf t (a .depth) in let S = staticOf t (a .levels) (a .depth) in let x = text-opens I S es (a .kind) (a .at) (a .free) (a .pos) s _ (c .before .before .kind4 .given .1) in
     text-room _ (x .0) (x .1) (a .at) (a .free) (a .pos) s o (x .2) (R .3)
 
-write-item-write-fields-requires : (t : ℕ) → write-item-lts.Need-write-fields-requires (write-item-claims t) (write-item-at t) write-item.Post
-write-item-write-fields-requires t c κs = let a = c .before .before .before .before .before .before .before .before .args in let R = c .before .before .before .before .before .before .before .before .pre .1 in let t = a .table .now in let s = a .sheet .now in let o = a .out .now in let I = innerOf t (a .levels) in let es = enums t in let sw = widthOf t (a .depth) in let S = staticOf t (a .levels) (a .depth) in let q = same-opens _ _ (kind-fields I S es (a .kind) (a .at) (a .free) (drop (a .pos) s) _ (c .before .before .kind5 .given .1)) in
+write-item-write-group-requires : (t : ℕ) → write-item-lts.Need-write-group-requires (write-item-claims t) (write-item-at t) write-item.Post
+unfolding groupOf placeOf Scoped deep
+write-item-write-group-requires t c κs = let a = c .before .before .before .before .before .before .before .before .args in let R = c .before .before .before .before .before .before .before .before .pre .1 in let t = a .table .now in let s = a .sheet .now in let o = a .out .now in let I = innerOf t (a .levels) in let es = enums t in let sw = widthOf t (a .depth) in let S = staticOf t (a .levels) (a .depth) in let q = same-opens _ _ (kind-fields I S es (a .kind) (a .at) (a .free) (drop (a .pos) s) _ (c .before .before .kind5 .given .1)) in
     let b = and-both (leb 1 (sw _)) (shallow (schema t) (a .depth) _) (sym (kind-static sw es (a .kind) (shallow (schema t) (a .depth)) _ (c .before .before .kind5 .given .1)) ∙ R .1) in
-    (search needs, (R .0, static-inside (schema t) (a .depth) _ (b .0), b .1, fits-opens _ _ _ _ _ (R .3) q))
+    (search needs, (R .0, (static-inside (schema t) (a .depth) _ (b .0), b .1), fits-opens _ _ _ _ _ (R .3) q))
 
 write-item-write-nested-requires : (t : ℕ) → write-item-lts.Need-write-nested-requires (write-item-claims t) (write-item-at t) write-item.Post
 write-item-write-nested-requires t c κs = let a = c .before .before .before .before .before .before .before .before .args in let R = c .before .before .before .before .before .before .before .before .pre .1 in let t = a .table .now in let s = a .sheet .now in let o = a .out .now in let I = innerOf t (a .levels) in let es = enums t in let sw = widthOf t (a .depth) in let S = staticOf t (a .levels) (a .depth) in let q = same-opens _ _ (kind-dynamic I S es (a .kind) (a .at) (a .free) (drop (a .pos) s) _ (c .before .before .kind6 .given .1)) in
-    (search needs, (R .0, (_, fits-opens _ _ _ _ _ (R .3) q)))
+    (search needs, (R .0, fits-opens _ _ _ _ _ (R .3) q))
 
 write-item-returns : (t : ℕ) → write-item-lts.Need-returns (write-item-claims t) (write-item-at t) write-item.Post
 write-item-returns t c = let a = c .before .before .before .before .before .before .before .before .before .before .before .before .args in let R = c .before .before .before .before .before .before .before .before .before .before .before .before .pre .1 in let t = a .table .now in let s = a .sheet .now in let o = a .out .now in let I = innerOf t (a .levels) in let es = enums t in let sw = widthOf t (a .depth) in let S = staticOf t (a .levels) (a .depth) in let e = c .before .before .before .before .before .before .kind .given .1 ∙ ap Plain (sym (c .before .before .before .before .wide .ensures .0)) in let q = same-opens _ _ (kind-plain I S es (a .kind) (a .at) (a .free) (drop (a .pos) s) _ e) in
@@ -542,12 +521,13 @@ write-item-returns-4 t c = let a = c .before .before .before .before .before .be
     text-stands _ (x .0) (x .1) (a .at) (a .free) (a .pos) s o (x .2) (R .3) _ _ _ (c .before .before .write-text .ensures .0) (c .before .before .write-text .ensures .1) (c .before .before .write-text .ensures .2)
 
 write-item-returns-5 : (t : ℕ) → write-item-lts.Need-returns-5 (write-item-claims t) (write-item-at t) write-item.Post
+unfolding groupOf placeOf
 write-item-returns-5 t c = let a = c .before .before .before .before .before .before .before .before .before .before .before .args in let R = c .before .before .before .before .before .before .before .before .before .before .before .pre .1 in let t = a .table .now in let s = a .sheet .now in let o = a .out .now in let I = innerOf t (a .levels) in let es = enums t in let sw = widthOf t (a .depth) in let S = staticOf t (a .levels) (a .depth) in let q = same-opens _ _ (kind-fields I S es (a .kind) (a .at) (a .free) (drop (a .pos) s) _ (c .before .before .before .before .before .kind5 .given .1)) in
-    stands-opens _ _ _ _ _ (R .3) q _ _ _ _ (c .before .before .write-fields .ensures)
+    stands-opens _ _ _ _ _ (R .3) q _ _ _ _ (c .before .before .write-group .ensures)
 
 write-item-returns-6 : (t : ℕ) → write-item-lts.Need-returns-6 (write-item-claims t) (write-item-at t) write-item.Post
 write-item-returns-6 t c = let a = c .before .before .before .before .before .before .before .before .before .before .before .args in let R = c .before .before .before .before .before .before .before .before .before .before .before .pre .1 in let t = a .table .now in let s = a .sheet .now in let o = a .out .now in let I = innerOf t (a .levels) in let es = enums t in let sw = widthOf t (a .depth) in let S = staticOf t (a .levels) (a .depth) in let q = same-opens _ _ (kind-dynamic I S es (a .kind) (a .at) (a .free) (drop (a .pos) s) _ (c .before .before .before .before .before .kind6 .given .1)) in
-    stands-opens _ _ _ _ _ (R .3) q _ _ _ _ (c .before .before .write-nested .ensures _ (fits-opens _ _ _ _ _ (R .3) q))
+    stands-opens _ _ _ _ _ (R .3) q _ _ _ _ (c .before .before .write-nested .ensures)
 
 abbrev write-items-Inv-loop : write-items-lts.InvT-loop
 write-items-Inv-loop table index sheet levels depth kind width total pos at free out₀ i₀ place₀ next₀ end₀ out i place next end =
@@ -612,17 +592,20 @@ abbrev write-nested-claims : ℕ → write-nested-lts.Claims
 write-nested-claims t = (write-u32-reads.Asked, write-u32-reads.Learnt, write-group-below t, write-group.Post)
 
 write-nested-write-u32-requires : (t : ℕ) → write-nested-lts.Need-write-u32-requires (write-nested-claims t) (write-nested-at t) write-nested.Post
-write-nested-write-u32-requires t c κs = let a = c .before .before .before .before .before .args in let R = c .before .before .before .before .before .pre .1 in let t = a .table .now in let s = a .sheet .now in let o = a .out .now in let I = innerOf t (a .levels) in let r = nested-room t (a .levels) (R .1 .0) (a .at) (a .free) (a .pos) s o (R .1 .1) in omega (arith, r .0, r .1)
+write-nested-write-u32-requires t c κs = let a = c .before .before .before .before .before .args in let R = c .before .before .before .before .before .pre .1 in let t = a .table .now in let s = a .sheet .now in let o = a .out .now in let I = innerOf t (a .levels) in let r = nested-room t (a .levels) (a .allowed) (a .at) (a .free) (a .pos) s o (R .1) in omega (arith, r .0, r .1)
 
 write-nested-write-group-requires : (t : ℕ) → write-nested-lts.Need-write-group-requires (write-nested-claims t) (write-nested-at t) write-nested.Post
-write-nested-write-group-requires t c κs = let a = c .before .before .before .before .before .before .before .before .before .args in let R = c .before .before .before .before .before .before .before .before .before .pre .1 in let t = a .table .now in let s = a .sheet .now in let o = a .out .now in let I = innerOf t (a .levels) in (search needs, (R .0, (R .1 .0, nested-fits t (a .levels) (R .1 .0) (a .at) (a .free) (a .pos) s o (R .1 .1) _ (c .before .before .before .write-u32 .ensures) _ refl)))
+unfolding groupOf placeOf Scoped deep
+write-nested-write-group-requires t c κs = let a = c .before .before .before .before .before .before .before .before .before .args in let R = c .before .before .before .before .before .before .before .before .before .pre .1 in let t = a .table .now in let s = a .sheet .now in let o = a .out .now in let I = innerOf t (a .levels) in (search needs, (R .0, (refl, refl), nested-fits t (a .levels) (a .allowed) (a .at) (a .free) (a .pos) s o (R .1) _ (c .before .before .before .write-u32 .ensures) _ refl))
 
-write-nested-add-t14 : (t : ℕ) → write-nested-lts.Need-add-t14 (write-nested-claims t) (write-nested-at t) write-nested.Post
-write-nested-add-t14 t c = let a = c .before .before .before .before .before .before .before .before .before .before .before .before .before .args in let R = c .before .before .before .before .before .before .before .before .before .before .before .before .before .pre .1 in let t = a .table .now in let s = a .sheet .now in let o = a .out .now in let I = innerOf t (a .levels) in let e = nested-end t (a .levels) (R .1 .0) (a .at) (a .free) (a .pos) s o (R .1 .1) _ (c .before .before .before .before .before .before .before .write-u32 .ensures) _ refl _ [] _ _ (c .before .before .before .write-group .ensures (R .1 .0) (nested-fits t (a .levels) (R .1 .0) (a .at) (a .free) (a .pos) s o (R .1 .1) _ (c .before .before .before .before .before .before .before .write-u32 .ensures) _ refl)) in omega (arith, e)
+write-nested-add-t15 : (t : ℕ) → write-nested-lts.Need-add-t15 (write-nested-claims t) (write-nested-at t) write-nested.Post
+unfolding groupOf placeOf
+write-nested-add-t15 t c = let a = c .before .before .before .before .before .before .before .before .before .before .before .before .before .args in let R = c .before .before .before .before .before .before .before .before .before .before .before .before .before .pre .1 in let t = a .table .now in let s = a .sheet .now in let o = a .out .now in let I = innerOf t (a .levels) in let e = nested-end t (a .levels) (a .allowed) (a .at) (a .free) (a .pos) s o (R .1) _ (c .before .before .before .before .before .before .before .write-u32 .ensures) _ refl _ [] _ _ (c .before .before .before .write-group .ensures) in omega (arith, e, c .before .before .before .before .before .before .before .write-u32 .kept .0, c .before .before .before .before .before .before .before .before .before .before .before .before .before .good .1 .1 .1 .1 .1 .1 .1 .1 .0 .0)
 
 write-nested-returns : (t : ℕ) → write-nested-lts.Need-returns (write-nested-claims t) (write-nested-at t) write-nested.Post
-write-nested-returns t c = let a = c .before .before .before .before .before .before .before .before .before .before .before .before .before .args in let R = c .before .before .before .before .before .before .before .before .before .before .before .before .before .pre .1 in let t = a .table .now in let s = a .sheet .now in let o = a .out .now in let I = innerOf t (a .levels) in λ b f. let N = nested-fits t (a .levels) b (a .at) (a .free) (a .pos) s o f _ (c .before .before .before .before .before .before .before .write-u32 .ensures) _ refl in
-    nested-stands t (a .levels) b (a .at) (a .free) (a .pos) s o f _ (c .before .before .before .before .before .before .before .write-u32 .ensures) _ refl _ _ _ _ (c .before .before .before .write-group .ensures b N) refl
+unfolding groupOf placeOf
+write-nested-returns t c = let a = c .before .before .before .before .before .before .before .before .before .before .before .before .before .args in let R = c .before .before .before .before .before .before .before .before .before .before .before .before .before .pre .1 in let t = a .table .now in let s = a .sheet .now in let o = a .out .now in let I = innerOf t (a .levels) in
+    nested-stands t (a .levels) (a .allowed) (a .at) (a .free) (a .pos) s o (R .1) _ (c .before .before .before .before .before .before .before .write-u32 .ensures) _ refl _ _ _ _ (c .before .before .before .write-group .ensures) refl
 
 abbrev write-value-claims : ℕ → write-value-lts.Claims
 write-value-claims t = (kind-at-reads.Asked, kind-at-reads.Learnt, kind-width-reads.Asked, kind-width-reads.Learnt, is-sequence-reads.Asked, is-sequence-reads.Learnt, read-u32-reads.Asked, read-u32-reads.Learnt, write-u32-reads.Asked, write-u32-reads.Learnt, write-bytes-reads.Asked, write-bytes-reads.Learnt, write-items-below t, write-items.Post)
@@ -707,11 +690,11 @@ write-value-same-length t c = let e = write-value-left t (c .before .before .bef
 write-value-returns : (t : ℕ) → write-value-lts.Need-returns (write-value-claims t) (write-value-at t) write-value.Post
 write-value-returns t c = finished _ _ _ _ _ _ _ _ (write-value-left t (c .before .before .before .before) .1) _ _ _ _ (c .before .before .write-items .ensures)
 
-pub +write-body+write-extending+write-extension+write-field+write-fields+write-group+write-groups+write-item+write-items+write-nested+write-value-spec :
+pub +close-group+write-extending+write-extension+write-field+write-fields+write-group+write-groups+write-item+write-items+write-nested+write-value-spec :
     {M : Type 1} → statement M
-+write-body+write-extending+write-extension+write-field+write-fields+write-group+write-groups+write-item+write-items+write-nested+write-value-spec =
++close-group+write-extending+write-extension+write-field+write-fields+write-group+write-groups+write-item+write-items+write-nested+write-value-spec =
     close
-    μ-write-body
+    μ-close-group
     μ-write-extending
     μ-write-extension
     μ-write-field
@@ -721,22 +704,22 @@ pub +write-body+write-extending+write-extension+write-field+write-fields+write-g
     μ-write-item
     μ-write-items
     μ-write-nested
-    μ-write-value (λ t. write-body-lts.spec (write-body-claims t) (write-body-at t)
-    write-body.Post (λ c κs. search needs) (λ c. search needs) (write-body-write-bytes-requires t) (write-body-write-fields-requires t) (write-body-write-extension-requires t) (λ c. search needs) (write-body-write-u32-requires t) (write-body-add-t12 t) (λ c. search needs) (write-body-returns t)) (λ t. write-extending-lts.spec (write-extending-claims t) (write-extending-at t)
+    μ-write-value (λ t. close-group-lts.spec (close-group-claims t) (close-group-at t)
+    close-group.Post (λ c. search needs) (close-group-write-extension-requires t) (close-group-sub-write-u32 t) (close-group-write-u32-requires t) (close-group-add-t18 t) (λ c. search needs) (λ c. search needs) (close-group-returns t) (close-group-returns-2 t)) (λ t. write-extending-lts.spec (write-extending-claims t) (write-extending-at t)
     write-extending.Post (write-extending-add-next t) (write-extending-has-mark-requires t) (write-extending-write-text-requires t) (λ c. search needs) (write-extending-returns t) (write-extending-write-nested-requires t) (λ c. search needs) (write-extending-returns-2 t)) (λ t. write-extension-lts.spec (write-extension-claims t) (write-extension-at t)
     write-extension.Post (λ c κs. search needs) (λ c. search needs) (write-extension-read-u32-requires t) (λ c. search needs) (write-extension-write-u32-requires t) (λ c. search needs) (write-extension-write-bytes-requires t) (λ c. search needs) (λ c. search needs) (λ c. search needs) (λ c. search needs) (write-extension-write-groups-requires t) (λ c. search needs) (write-extension-returns t) (write-extension-write-u32-requires-2 t) (λ c. search needs) (write-extension-returns-2 t)) (λ t. write-field-lts.spec (write-field-claims t) (write-field-at t)
     write-field.Post (λ c κs. search needs) (write-field-has-mark-requires t) (λ c κs. search needs) (write-field-fill-requires t) (write-field-add-t19 t) (λ c. search needs) (write-field-returns t) (write-field-fill-requires-2 t) (write-field-add-place t) (write-field-write-value-requires t) (write-field-same-length-2 t) (write-field-returns-2 t)) (λ t. write-fields-lts.spec (write-fields-claims t) (write-fields-at t)
     write-fields.Post
     write-fields-Inv-loop
     write-fields-μ-loop (λ c κs. search needs) (write-fields-field-count-requires t) (write-fields-sub-deeper t) (λ c. search needs) (write-fields-loop-holds t) (λ c κs. search needs) (write-fields-add-write-bytes t) (write-fields-write-bytes-requires t) (λ c. search needs) (λ c. search needs) (λ c. search needs) (λ c. search needs) (write-fields-loop-again t) (λ c κs. search needs) (write-fields-write-field-requires t) (write-fields-add-place-2 t) (λ c. search needs) (λ c. search needs) (λ c. search needs) (write-fields-loop-again-2 t) (λ c. search needs) (write-fields-returns t)) (λ t. write-group-lts.spec (write-group-claims t) (write-group-at t)
-    write-group.Post (λ c κs. search needs) (write-group-read-u64-requires t) (write-group-find-requires t) (write-group-sub-write-body t) (write-group-write-body-requires t) (λ c. search needs) (write-group-returns t)) (λ t. write-groups-lts.spec (write-groups-claims t) (write-groups-at t)
+    write-group.Post (write-group-open-group-requires t) (write-group-write-fields-requires t) (write-group-close-group-requires t) (λ c. search needs) (write-group-returns t)) (λ t. write-groups-lts.spec (write-groups-claims t) (write-groups-at t)
     write-groups.Post
     write-groups-Inv-loop
     write-groups-μ-loop (write-groups-loop-holds t) (write-groups-write-extending-requires t) (λ c. search needs) (λ c. search needs) (λ c. search needs) (write-groups-loop-again t) (λ c. search needs) (write-groups-returns t)) (λ t. write-item-lts.spec (write-item-claims t) (write-item-at t)
-    write-item.Post (λ c. search needs) (λ c κs. search needs) (write-item-write-bytes-requires t) (λ c. search needs) (λ c κs. search needs) (λ c κs. search needs) (write-item-write-bytes-requires-2 t) (λ c. search needs) (λ c κs. search needs) (write-item-write-inline-requires t) (λ c. search needs) (write-item-write-text-requires t) (λ c. search needs) (write-item-write-fields-requires t) (λ c. search needs) (write-item-write-nested-requires t) (λ c. search needs) (write-item-returns t) (λ c. search needs) (write-item-returns-2 t) (λ c. search needs) (write-item-returns-3 t) (λ c. search needs) (write-item-returns-4 t) (λ c. search needs) (write-item-returns-5 t) (λ c. search needs) (write-item-returns-6 t)) (λ t. write-items-lts.spec (write-items-claims t) (write-items-at t)
+    write-item.Post (λ c. search needs) (λ c κs. search needs) (write-item-write-bytes-requires t) (λ c. search needs) (λ c κs. search needs) (λ c κs. search needs) (write-item-write-bytes-requires-2 t) (λ c. search needs) (λ c κs. search needs) (write-item-write-inline-requires t) (λ c. search needs) (write-item-write-text-requires t) (λ c. search needs) (write-item-write-group-requires t) (λ c. search needs) (write-item-write-nested-requires t) (λ c. search needs) (write-item-returns t) (λ c. search needs) (write-item-returns-2 t) (λ c. search needs) (write-item-returns-3 t) (λ c. search needs) (write-item-returns-4 t) (λ c. search needs) (write-item-returns-5 t) (λ c. search needs) (write-item-returns-6 t)) (λ t. write-items-lts.spec (write-items-claims t) (write-items-at t)
     write-items.Post
     write-items-Inv-loop
     write-items-μ-loop (λ c. search needs) (λ c κs. search needs) (write-items-write-plain-requires t) (λ c. search needs) (write-items-returns t) (λ c. search needs) (write-items-write-texts-requires t) (λ c. search needs) (write-items-returns-2 t) (write-items-loop-holds t) (write-items-add-behind t) (write-items-write-item-requires t) (write-items-add-place t) (λ c. search needs) (λ c. search needs) (write-items-loop-again t) (λ c. search needs) (write-items-returns-3 t)) (λ t. write-nested-lts.spec (write-nested-claims t) (write-nested-at t)
-    write-nested.Post (λ c. search needs) (write-nested-write-u32-requires t) (λ c. search needs) (λ c. search needs) (λ c. search needs) (write-nested-write-group-requires t) (write-nested-add-t14 t) (λ c. search needs) (write-nested-returns t))
+    write-nested.Post (λ c. search needs) (write-nested-write-u32-requires t) (λ c. search needs) (λ c. search needs) (λ c. search needs) (write-nested-write-group-requires t) (write-nested-add-t15 t) (λ c. search needs) (write-nested-returns t))
     λ t. write-value-lts.spec (write-value-claims t) (write-value-at t)
     write-value.Post (λ c κs. search needs) (λ c κs. search needs) (λ c κs. search needs) (write-value-add-read-u32 t) (write-value-read-u32-requires t) (write-value-sub-write-u32 t) (write-value-write-u32-requires t) (write-value-add-write-bytes t) (write-value-write-bytes-requires t) (λ c. search needs) (write-value-mul-end t) (write-value-add-end t) (write-value-add-end-2 t) (write-value-write-items-requires t) (write-value-same-length t) (write-value-returns t)

@@ -4,6 +4,9 @@
 // from the writing that the caller has. A dynamic group is written into its own part of the output, so
 // that places count from its first byte: `at` is where bytes in place go, `free` is the first free place
 // of the data area, and `pos` is where the sheet goes on.
+use sheet::NO;
+use sheet::XT;
+use sheet::XU;
 ghost use mathlib.Core.Path.{_≡_};
 ghost use mathlib.Core.Bool.{Bool, true};
 ghost use mathlib.Core.List.{List, [], _∷_, _++_};
@@ -18,12 +21,6 @@ ghost use Rattle.message.specs.Check.{widthOf};
 ghost use Rattle.sheet.specs.Written.{wrote, itemsW, sheetW};
 ghost use Rattle.sheet.specs.Writers.{staticOf, plainOf, textOf, kindOf, itemOf, valueOf, fieldOf, nestedOf, extensionOf, extendingOf};
 ghost use Rattle.writing.specs.Write.{Fits, Stands, groupOf, placeOf, Scoped, openOf, headOf, HasHead, HasEnd, Ended};
-
-const XT: [u8; 2] = *b"XT";
-
-const XU: [u8; 2] = *b"XU";
-
-const NO: [u8; 2] = *b"NO";
 
 // Where the sheet goes on, and where the data area does.
 struct Ends {

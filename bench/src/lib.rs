@@ -1,43 +1,42 @@
-//! Timing: the median over rounds, both sides in turn within each round, so that a busy moment of the machine meets both.
+//! Timing: medians over many short rounds, both sides in turn within each, so that a busy moment or a change of the clock meets both.
 pub mod answers;
 pub mod messages;
 pub mod tables;
 
 use std::time::Instant;
 
-const ROUNDS: usize = 15;
-const LEAST_SECONDS: f64 = 0.004;
+const ROUNDS: usize = 201;
+const LEAST_SECONDS: f64 = 0.0003;
 
-/// Seconds for one call, over as many calls as take at least `LEAST_SECONDS`.
-fn once(f: &mut dyn FnMut()) -> f64 {
-    let mut calls = 1u32;
-    loop {
-        let start = Instant::now();
-        for _ in 0..calls {
-            f();
-        }
-        let seconds = start.elapsed().as_secs_f64();
-        if seconds >= LEAST_SECONDS {
-            return seconds / f64::from(calls);
-        }
+/// As many calls as take at least `LEAST_SECONDS`.
+fn batch(f: &mut dyn FnMut()) -> u32 {
+    let mut calls = 1;
+    while calls as f64 * once(f, calls) < LEAST_SECONDS {
         calls *= 2;
     }
+    calls
 }
 
-fn median(mut times: Vec<f64>) -> f64 {
-    times.sort_by(f64::total_cmp);
-    times[times.len() / 2]
-}
-
-/// Prints the proved side's time, the other's, and their ratio.
-pub fn compare(name: &str, proved: &mut dyn FnMut(), other: &mut dyn FnMut()) {
-    let (mut a, mut b) = (Vec::new(), Vec::new());
-    for _ in 0..ROUNDS {
-        a.push(once(proved));
-        b.push(once(other));
+/// Seconds for one call, over so many.
+fn once(f: &mut dyn FnMut(), calls: u32) -> f64 {
+    let start = Instant::now();
+    for _ in 0..calls {
+        f();
     }
-    let (a, b) = (median(a) * 1e6, median(b) * 1e6);
-    println!("{name:<34} {a:>10.3} {b:>10.3} {:>7.2}", a / b);
+    start.elapsed().as_secs_f64() / f64::from(calls)
+}
+
+fn median(mut values: Vec<f64>) -> f64 {
+    values.sort_by(f64::total_cmp);
+    values[values.len() / 2]
+}
+
+/// Prints the proved side's time, the other's, and the median of the rounds' ratios: within a round both sides meet the same clock.
+pub fn compare(name: &str, proved: &mut dyn FnMut(), other: &mut dyn FnMut()) {
+    let (ours, theirs) = (batch(proved), batch(other));
+    let rounds: Vec<_> = (0..ROUNDS).map(|_| (once(proved, ours), once(other, theirs))).collect();
+    let middle = |of: fn(&(f64, f64)) -> f64| median(rounds.iter().map(of).collect());
+    println!("{name:<34} {:>10.3} {:>10.3} {:>7.2}", middle(|r| r.0) * 1e6, middle(|r| r.1) * 1e6, middle(|r| r.0 / r.1));
 }
 
 pub fn heading(proved: &str, other: &str) {

@@ -31,9 +31,9 @@ leftOf (Whole a) area s m = []
 leftOf (Fields g) area s m = marksOf area s m
 
 -- Its fields stand at this place of the bytes b. Those of a dynamic group follow its head, and there is room for them once it is opened.
-abbrev pub Fits : List ℕ → List ℕ → ℕ → Scope → ℕ → Type 0
-Fits t b d (Whole a) at = (d ≡ 5) × (at ≡ 16)
-Fits t b d (Fields g) at = (at + widthOf t d g ≤ length b) × (g < length (schema t)) × (shallow (schema t) d g ≡ true)
+abbrev pub Lies : List ℕ → ℕ → Scope → List ℕ → ℕ → Type 0
+Lies t d (Whole a) b at = (d ≡ 5) × (at ≡ 16)
+Lies t d (Fields g) b at = (at + widthOf t d g ≤ length b) × (g < length (schema t)) × (shallow (schema t) d g ≡ true)
 
 -- Its frame f, in the frame o: a dynamic group has one of its own, a level deeper; a static group is in that of the group that holds it.
 abbrev pub Inside : Scope → Frame → Frame → Type 0
@@ -43,7 +43,7 @@ Inside (Fields g) o f = f ≡ o
 -- It is begun: its count c, behind k bytes of the sheet, is that of the fields of group number g and of what follows them, behind l bytes.
 pub record Begins (t i b m : List ℕ) (o : Frame) (d : ℕ) (z : Scope) (at k : ℕ) (c : Count) (g : ℕ) (f : Frame) (s l : ℕ) : Type 0 where
   pub ready : Ready t i b m f
-  pub fits : Fits t b d (Fields g) at
+  pub fits : Lies t d (Fields g) b at
   pub inside : Inside z o f
   pub counts : after k c ≡ after l (andThen (count (staticOf t (f .levels) d g (within b f) at (marksOf (f .area) s m))) (behindOf t (f .levels) z (within b f)))
 

@@ -22,7 +22,7 @@ ghost use Rattle.message.specs.Walk.{lost, found, Reader, Inner, byte, h
 ghost use Rattle.message.specs.Count.{count, andThen, counted};
 ghost use Rattle.message.specs.Check.{packed, scattered, marksOf, closing, countBy, countOf, after, placeBy, Claims, Lands, within, itemR, markedValueR, innerOf, widthOf, staticOf, Ready};
 ghost use Rattle.message.specs.declared.Frame.{Frame};
-ghost use Rattle.message.specs.Scopes.{groupOf, behindOf, leftOf, Fits, Opens};
+ghost use Rattle.message.specs.Scopes.{groupOf, behindOf, leftOf, Lies, Opens};
 
 // Which bytes of a data area are taken, as one number, since a struct would pass through memory at each
 // call: where the packed values end, and, once a value did not stand straight behind the others, this
@@ -546,7 +546,7 @@ fn check_group(
     taken: usize,
     before: usize,
 ) -> Step
-    requires { ⌜ (Ready (now table) (now index) (now bytes) (now marks) outer) × (Fits (now table) (now bytes) depth scope at) ⌝ }
+    requires { ⌜ (Ready (now table) (now index) (now bytes) (now marks) outer) × (Lies (now table) depth scope (now bytes) at) ⌝ }
     ensures { λ r. ⌜ countBy (λ s. leftOf scope (outer .area) s (now (marks .exit))) r ≡ after before (count (groupOf (now (table .entry)) (outer .levels) depth scope (within (now (bytes .entry)) outer) at (marksOf (outer .area) taken (now (marks .entry))))) ⌝ }
 {
     let opening = open_group(table, index, bytes, outer, scope, taken, before);
@@ -598,7 +598,7 @@ fn open_group(
     before: usize,
 ) -> Opened
     requires { ⌜ (Layout (now table) (now index)) × (frame .base + length (now bytes) ≤ 65536) ⌝ }
-    ensures { λ r. ⌜ ((m : List ℕ) (d at : ℕ) → Ready (now (table .entry)) (now (index .entry)) (now (bytes .entry)) m frame → Fits (now (table .entry)) (now (bytes .entry)) d scope at → Opens (now (table .entry)) (now (index .entry)) (now (bytes .entry)) m frame d scope at before (count (groupOf (now (table .entry)) (frame .levels) d scope (within (now (bytes .entry)) frame) at (marksOf (frame .area) taken m))) r) ⌝ }
+    ensures { λ r. ⌜ ((m : List ℕ) (d at : ℕ) → Ready (now (table .entry)) (now (index .entry)) (now (bytes .entry)) m frame → Lies (now (table .entry)) d scope (now (bytes .entry)) at → Opens (now (table .entry)) (now (index .entry)) (now (bytes .entry)) m frame d scope at before (count (groupOf (now (table .entry)) (frame .levels) d scope (within (now (bytes .entry)) frame) at (marksOf (frame .area) taken m))) r) ⌝ }
 {
     match scope {
         schema::Scope::Whole { allowed } => open_dynamic(

@@ -14,9 +14,10 @@ use Rattle.schema.specs.declared.Scope.{Scope}
 use Rattle.schema.specs.declared.Scope.the-variants.{Whole, Fields}
 use Rattle.schema.proofs.Groups.{layout-width}
 use Rattle.message.specs.Sheet.{GB, markBytes}
+use Rattle.sheet.specs.Show.{takes}
 use Rattle.sheet.specs.Writers.{innerOf, staticOf}
 use Rattle.parsing.specs.Count.{capped}
-use Rattle.parsing.specs.Parse.{refused, Finds, recordFault, openedOf, groupOf, closeOf, Ready, Shallow, Within, opened, unopened, level, Opens}
+use Rattle.parsing.specs.Parse.{refused, Finds, recordFault, openedOf, groupOf, closeOf, Ready, Shallow, Within, opened, unopened, Opens}
 use Rattle.parsing.specs.declared.Opened.{Opened}
 use Rattle.parsing.proofs.Answers.{capped-le}
 use Rattle.parsing.proofs.Records.{record-inside}
@@ -31,7 +32,7 @@ unopens n f = record { fails = λ _. f; opens = λ z. absurd (n z) }
 pub opens-whole : (t k s : List ℕ) → Layout t k → (pos d : ℕ) → Ready s pos d → (a l y : ℕ) → y ≡ recordFault (markBytes GB) 8 (drop pos s) → y ≡ 0
     → (g : ℕ) → g ≡ find (schema t) (le (part 8 (pos + 2) s)) → g < length (schema t) → allows (schema t) a g ≡ true → (l ≡ 0 → ⊥)
     → (w : ℕ) → w ≡ widthIn k g → (e : ℕ) → e ≡ capped (d + (16 + w)) → Opens t s l 5 (Whole a) pos d (opened g (l - 1) (pos + 10) e)
-unfolding groupOf closeOf level
+unfolding groupOf closeOf takes
 opens-whole t k s P pos d R a l y is z g ig h p o w iw e ie =
     let gs = schema t in
     let I = innerOf t (l - 1) in
@@ -57,7 +58,7 @@ module _ (t s : List ℕ) (levels pos d : ℕ) (scope : Scope) where
   open-whole o a e f depth h = let q : depth ≡ 5 = rw e at h in rw (e, q) f
 
   pub open-fields : (g : ℕ) → scope ≡ Fields g → Ready s pos d → (depth : ℕ) → Within t depth scope → Opens t s levels depth scope pos d (opened g levels pos d)
-  unfolding Within groupOf closeOf level
+  unfolding Within groupOf closeOf takes
   open-fields g e R depth h =
       let q : Shallow t depth g = rw e at h in
       let W = staticOf t levels depth g in
@@ -73,7 +74,7 @@ abbrev pub weight : ℕ → Scope → ℕ
 weight depth (Whole a) = 1
 weight depth (Fields g) = 10 * depth + 1
 
-pub less-left : (t : List ℕ) (levels depth l : ℕ) (scope : Scope) → Within t depth scope → l + level scope ≡ levels → 64 * l + 10 * depth < 64 * levels + weight depth scope
-unfolding Within level
+pub less-left : (t : List ℕ) (levels depth l : ℕ) (scope : Scope) → Within t depth scope → l + takes scope ≡ levels → 64 * l + 10 * depth < 64 * levels + weight depth scope
+unfolding Within takes
 less-left t levels depth l (Whole a) h e = omega (arith, h, e)
 less-left t levels depth l (Fields g) h e = omega (arith, e)

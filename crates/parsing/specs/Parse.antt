@@ -13,6 +13,7 @@ use Rattle.schema.specs.declared.Scope.{Scope}
 use Rattle.schema.specs.declared.Scope.the-variants.{Whole, Fields}
 use Rattle.message.specs.Sheet.{GB, GE}
 use Rattle.sheet.specs.Written.{Writing, stopped, wrote, Writer, due, noneW, thenW, markedW}
+use Rattle.sheet.specs.Show.{takes}
 use Rattle.sheet.specs.Writers.{staticOf, nestedOf, extensionOf}
 use Rattle.parsing.specs.Count.{Count, failed, counted, count, capped, after}
 use Rattle.parsing.specs.declared.Step.{Step}
@@ -103,16 +104,11 @@ opened g l next e = record { fault = 0; group = g; levels = l; pos = next; lengt
 abbrev pub unopened : ℕ → Opened
 unopened k = record { fault = k; group = 0; levels = 0; pos = 0; length = 0 }
 
--- How many levels a group takes.
-unfoldable pub level : Scope → ℕ
-level (Whole a) = 1
-level (Fields g) = 0
-
 -- The group's fields come next. A fault in them is the group's, and where there is none the group goes on with what closes it.
 pub record Opening (t s : List ℕ) (levels depth : ℕ) (scope : Scope) (pos d : ℕ) (o : Opened) : Type 0 where
   pub ready : Ready s (o .pos) (o .length)
   pub shallows : Shallow t depth (o .group)
-  pub lower : o .levels + level scope ≡ levels
+  pub lower : o .levels + takes scope ≡ levels
   pub stops : (v : Step) → Finds s (o .length) (staticOf t (o .levels) depth (o .group)) (o .pos) v → (v .number ≡ 0 → ⊥) → Finds s d (groupOf t levels depth scope) pos v
   pub goes : (v : Step) → Finds s (o .length) (staticOf t (o .levels) depth (o .group)) (o .pos) v → v .number ≡ 0
       → (c : Count) → Counts s (v .length) (closeOf t (o .levels) scope) (v .place) c → Counts s d (groupOf t levels depth scope) pos c

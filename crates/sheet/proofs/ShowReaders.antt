@@ -26,7 +26,8 @@ use Rattle.message.specs.Walk.{Reading, refused, done, prefixed, next, Here, he
 use Rattle.message.specs.Check.{itemR, markedValueR, innerOf, widthOf, staticOf}
 use Rattle.message.proofs.Count.{length-mark, items-one}
 use Rattle.message.proofs.CheckFields.{field-required, field-optional, field-there, value-one}
-use Rattle.sheet.specs.Show.{Passage, passage, whole, just, then, extensionOf, groupOf, takes, headOf, numberOf, idOf, endOf, Lies, Reads, Fits, Shown}
+use Rattle.message.specs.Scopes.{Lies}
+use Rattle.sheet.specs.Show.{Passage, passage, whole, just, then, extensionOf, groupOf, takes, headOf, numberOf, idOf, endOf, Reads, Fits, Shown}
 use Rattle.sheet.proofs.Writers.{tested-plain}
 use Rattle.sheet.proofs.ShowLaws.{need-done, next-done, Opens, alike, Left, shown-none, shown-opens, opened, first-fits, called, written}
 
@@ -478,13 +479,13 @@ pub record Readable (t : List ℕ) (l d : ℕ) (b : List ℕ) (at : ℕ) (scope 
 module _ (t : List ℕ) (l d : ℕ) (b : List ℕ) (at : ℕ) where
   pub group-parts : (scope : Scope) → Lies t d scope b at → (g n : ℕ) → g ≡ numberOf t scope b → n ≡ l - takes scope
       → Opens (groupOf t l d scope b at) (then (just (idOf scope b)) (then (passage (staticOf t n d g) b at) (endOf t n scope b)))
-  unfolding Lies groupOf takes numberOf idOf endOf next
+  unfolding groupOf takes numberOf idOf endOf next
   group-parts (Whole a) h g n ig in′ s r = rw (ig, in′, h .0, h .1) (body-opens t (l - 1) _ b s (head t l a b s r .body))
   group-parts (Fields g′) h g n ig in′ s r = let q = in′ ∙ sub-zero l in rw (ig, q) (record { base = r .base; area = r .area; marks = r .marks; taken = r .taken; is = next-alone _ ∙ r .is })
 
   pub group-readable : (k : List ℕ) → Layout t k → (scope : Scope) → Lies t d scope b at → (g : ℕ) → g ≡ numberOf t scope b
       → (s : List ℕ) → Reads (groupOf t l d scope b at) s → Readable t l d b at scope g
-  unfolding Lies groupOf takes headOf numberOf
+  unfolding groupOf takes headOf numberOf
   group-readable k P (Whole a) h g ig s r =
       let H = head t l a b s r in
       rw (ig, h .0, h .1) (record { some = H .some; long = H .long; wide = body-wide t (l - 1) _ b s (H .body); inside = H .inside; flat = P .shallows _ })

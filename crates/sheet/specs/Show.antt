@@ -88,11 +88,6 @@ unfoldable pub endOf : List ℕ → ℕ → Scope → List ℕ → Passage
 endOf t levels (Whole allowed) b = then (passage (extensionOf t levels) b 12) (just GE)
 endOf t levels (Fields group) b = just []
 
--- Its fields stand at `at` of b. Of a dynamic group the reading tells the rest.
-unfoldable pub Lies : List ℕ → ℕ → Scope → List ℕ → ℕ → Type 0
-Lies t depth (Whole allowed) b at = (depth ≡ 5) × (at ≡ 16)
-Lies t depth (Fields group) b at = (at + widthOf t depth group ≤ length b) × (group < length (schema t)) × (shallow (schema t) depth group ≡ true)
-
 -- WHAT IS WRITTEN
 
 -- s is the sheet of the passage.

@@ -15,7 +15,8 @@ ghost use Rattle.schema.specs.FieldKinds.{kindFrom};
 ghost use Rattle.message.specs.Sheet.{ST, markBytes};
 ghost use Rattle.message.specs.Walk.{done, byte, word, strict, itemsR, walk};
 ghost use Rattle.message.specs.Check.{widthOf, staticOf};
-ghost use Rattle.sheet.specs.Show.{passage, takes, headOf, idOf, numberOf, endOf, groupOf, Lies, plainOf, itemOf, valueOf, fieldOf, nestedOf, extensionOf, extendingOf, Fits, Shown};
+ghost use Rattle.message.specs.Scopes.{Lies};
+ghost use Rattle.sheet.specs.Show.{passage, takes, headOf, idOf, numberOf, endOf, groupOf, plainOf, itemOf, valueOf, fieldOf, nestedOf, extensionOf, extendingOf, Fits, Shown};
 
 // "a two-byte mark before each record"
 pub const VA: [u8; 2] = *b"VA";

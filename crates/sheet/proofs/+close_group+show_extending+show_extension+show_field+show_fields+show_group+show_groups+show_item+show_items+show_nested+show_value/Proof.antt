@@ -18,7 +18,7 @@ use Rattle.schema.specs.declared.FieldKind.the-variants.{Plain}
 use Rattle.message.specs.Walk.{byte, word, here, strict, itemsR, fieldsR}
 use Rattle.message.specs.Check.{innerOf, widthOf, staticOf}
 use Rattle.message.proofs.CheckFields.{plain-wide, items-left, wide-number, wide-inline, wide-indirect, wide-static, wide-dynamic, kind-static, start-inside, start-static, start-width, start-shallow}
-use Rattle.sheet.specs.Show.{passage, just, then, itemOf, valueOf, fieldOf, extensionOf, extendingOf, groupOf, takes, endOf, Lies}
+use Rattle.sheet.specs.Show.{passage, just, then, itemOf, valueOf, fieldOf, extensionOf, extendingOf, groupOf, takes, endOf}
 use Rattle.sheet.proofs.ShowLaws.{Opens, Left, begun, opened, first-fits, called, fits-opens, shown-opens, shown-none, shown-just, shown-mark, shown-bytes, mark-room, bytes-room, just-room, alike, shown-then}
 use Rattle.sheet.proofs.ShowReaders.{is-VA, is-ST, is-SG, is-SQ, is-GB, is-XT, is-XU, marked-inline, inline-count, inline-length, marked-inner, item-fits, items-next, items-done, field-fits, fields-next, fields-done, field-plain, field-absent, field-present, field-always, value-item, sequence-inside, sequence-opens, wide-plain, item-plain, item-number, item-inline, item-static, item-text, text-inside, item-group, group-inside, items-plain, extension-none, extension-inside, extension-empty, extension-some, extending-inside, extending-known, extending-kept, end-whole, end-fields, head-whole, group-parts, Readable, group-readable}
 use Prim.Native.Nat.{ℕ}
@@ -494,7 +494,7 @@ show-item-show-mark-requires : (t : ℕ) → show-item-lts.Need-show-mark-requir
 show-item-show-mark-requires t c κs = let a = c .before .before .before .before .before .before .before .before .args in let R = c .before .before .before .before .before .before .before .before .pre .1 in let t = a .table .now in let b = a .bytes .now in let I = innerOf t (a .levels) in let es = enums t in let S = staticOf t (a .levels) (a .depth) in let e = c .before .before .kind5 .given .1 in let L = opened _ _ _ _ _ _ _ (item-static I S es b (a .at) (a .kind) _ e) (begun _ _ _ (R .4)) in mark-room SG _ _ (first-fits _ _ _ _ _ _ _ L)
 
 show-item-show-group-requires : (t : ℕ) → show-item-lts.Need-show-group-requires (show-item-claims t) (show-item-at t) show-item.Post
-unfolding groupOf takes Lies
+unfolding groupOf takes
 show-item-show-group-requires t c κs = let a = c .before .before .before .before .before .before .before .before .before .before .before .before .args in let R = c .before .before .before .before .before .before .before .before .before .before .before .before .pre .1 in let t = a .table .now in let b = a .bytes .now in let I = innerOf t (a .levels) in let es = enums t in let sw = widthOf t (a .depth) in let S = staticOf t (a .levels) (a .depth) in let e = c .before .before .before .before .before .before .kind5 .given .1 in let L = opened _ _ _ _ _ _ _ (item-static I S es b (a .at) (a .kind) _ e) (begun _ _ _ (R .4)) in
     let w = wide-static sw es (a .kind) _ e in
     let q = and-both (leb 1 (sw _)) (shallow (schema t) (a .depth) _) (sym (kind-static sw es (a .kind) (shallow (schema t) (a .depth)) _ e) ∙ R .3) in
@@ -576,7 +576,7 @@ show-nested-show-mark-requires : (t : ℕ) → show-nested-lts.Need-show-mark-re
 show-nested-show-mark-requires t c κs = let a = c .before .before .before .before .before .before .args in let R = c .before .before .before .before .before .before .pre .1 in let t = a .table .now in let b = a .bytes .now in let L = opened _ _ _ _ _ _ _ (marked-inner GB b (a .place) t (a .levels) (a .allowed) _) (begun _ _ _ (R .3)) in mark-room GB _ _ (first-fits _ _ _ _ _ _ _ L)
 
 show-nested-show-group-requires : (t : ℕ) → show-nested-lts.Need-show-group-requires (show-nested-claims t) (show-nested-at t) show-nested.Post
-unfolding groupOf takes Lies
+unfolding groupOf takes
 show-nested-show-group-requires t c κs = let a = c .before .before .before .before .before .before .before .before .before .before .before .args in let R = c .before .before .before .before .before .before .before .before .before .before .before .pre .1 in let t = a .table .now in let b = a .bytes .now in let L = opened _ _ _ _ _ _ _ (marked-inner GB b (a .place) t (a .levels) (a .allowed) _) (begun _ _ _ (R .3)) in let m : a .place + (4 + c .before .before .before .before .before .before .read-u32 .result) - a .place ≡ 4 + word (a .place) b = add-sub-cancel-left (a .place) _ ∙ ap (λ (n : ℕ). 4 + n) (c .before .before .before .before .before .before .read-u32 .ensures .0) in
     (search needs, (R .0, search needs, (refl, refl), rw m (called _ _ _ _ _ _ _ L _ _ (shown-mark GB _ is-GB _ _ _ _ (c .before .before .before .before .show-mark .ensures .0) (c .before .before .before .before .show-mark .ensures .1)) .fits)))
 

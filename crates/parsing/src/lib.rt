@@ -489,7 +489,7 @@ fn check_fields(
 
 // The field whose record stands at `field` of the table: absent, "`SQ` count u32, then the items", or
 // one value. That is checked as one item, so that `check_items` is called in one place only, where it
-// is compiled without a call.
+// is compiled without a call; a dynamic group needs no loop of one turn.
 fn check_field(
     table: &[u8],
     index: &[u16],
@@ -519,6 +519,17 @@ fn check_field(
         total = wire::read_u32(sheet, pos + 2);
         start = pos + 6;
         length = longer(before, 4 + total * width);
+    } else if let schema::FieldKind::Dynamic { allowed } = kind {
+        return check_group(
+            table,
+            index,
+            sheet,
+            levels,
+            5,
+            schema::Scope::Whole { allowed },
+            pos,
+            before,
+        );
     }
     check_items(
         table,

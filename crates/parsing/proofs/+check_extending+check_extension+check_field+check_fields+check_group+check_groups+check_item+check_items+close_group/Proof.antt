@@ -247,7 +247,7 @@ check-extension-returns-4 : (t : ℕ) → check-extension-lts.Need-returns-4 (ch
 check-extension-returns-4 t c = let a = c .before .before .before .before .before .before .args in let t = a .table .now in rw (c .passed .ensures) (extension-none (a .sheet .now) (a .pos) (a .before) (c .before .before .before .before .before .before .pre .1 .1) (schema t) (innerOf t (a .levels)) (ap (same (part 2 (a .pos) (a .sheet .now))) (sym is-XT) ∙ sym (c .before .before .stands .ensures) ∙ c .before .if1 .left))
 
 abbrev check-field-claims : ℕ → check-field-lts.Claims
-check-field-claims t = (is-absent-reads.Asked, is-absent-reads.Learnt, passed-reads.Asked, passed-reads.Learnt, kind-at-reads.Asked, kind-at-reads.Learnt, kind-width-reads.Asked, kind-width-reads.Learnt, is-sequence-reads.Asked, is-sequence-reads.Learnt, record-fault-reads.Asked, record-fault-reads.Learnt, refused-reads.Asked, refused-reads.Learnt, read-u32-reads.Asked, read-u32-reads.Learnt, longer-reads.Asked, longer-reads.Learnt, check-items-below t, check-items.Post)
+check-field-claims t = (is-absent-reads.Asked, is-absent-reads.Learnt, passed-reads.Asked, passed-reads.Learnt, kind-at-reads.Asked, kind-at-reads.Learnt, kind-width-reads.Asked, kind-width-reads.Learnt, is-sequence-reads.Asked, is-sequence-reads.Learnt, record-fault-reads.Asked, record-fault-reads.Learnt, refused-reads.Asked, refused-reads.Learnt, read-u32-reads.Asked, read-u32-reads.Learnt, longer-reads.Asked, longer-reads.Learnt, check-group-below t, check-group.Post, check-items-below t, check-items.Post)
 
 check-field-returns : (t : ℕ) → check-field-lts.Need-returns (check-field-claims t) (check-field-at t) check-field.Post
 check-field-returns t c = let a = c .before .before .before .before .before .before .args in let t = a .table .now in rw (c .passed .ensures) (absent-passes (a .sheet .now) (a .pos) (a .before) (innerOf t (a .levels)) (widthOf t (a .depth)) (staticOf t (a .levels) (a .depth)) (fieldAt (enums t) (drop (a .field) t)) _ (c .before .before .is-absent .ensures (enums t)) (c .before .if1 .taken) (c .before .before .before .before .before .before .pre .1 .1))
@@ -270,14 +270,21 @@ check-field-longer-requires t c κs = omega (arith, mul-le-mul-right {m = c .rea
 check-field-check-items-requires : (t : ℕ) → check-field-lts.Need-check-items-requires (check-field-claims t) (check-field-at t) check-field.Post
 check-field-check-items-requires t c κs = let a = c .before .before .before .before .before .before .before .before .before .args in let t = a .table .now in let R = c .before .before .before .before .before .before .before .before .before .pre .1 .1 in
     let d = rw (sym (c .before .before .before .kind-at .ensures (enums t))) at (c .before .before .before .before .before .before .before .before .before .pre .1 .3) in
-    let r : Ready (a .sheet .now) (c .if2 .start) (c .if2 .length) = ⊎-elim (λ w. record { small = R .small; inside = omega (arith, w .6, record-inside (a .sheet .now) (a .pos) (R .inside) _ 4 _ (w .1 .ensures) (w .2 .left)); low = omega (arith, w .7, w .4 .ensures .1) }) (λ w. rw (w .2, w .3) R) (c .if2 .came) in
+    let r : Ready (a .sheet .now) (c .if2 .start) (c .if2 .length) = ⊎-elim (λ w. record { small = R .small; inside = omega (arith, w .6, record-inside (a .sheet .now) (a .pos) (R .inside) _ 4 _ (w .1 .ensures) (w .2 .left)); low = omega (arith, w .7, w .4 .ensures .1) }) (λ w. rw (w .3, w .4) R) (c .if2 .came) in
     (search needs, (c .before .before .before .before .before .before .before .before .before .pre .1 .0, r, c .before .before .kind-width .ensures .0 (enums t) ∙ wide-kind t (a .index .now) (c .before .before .before .before .before .before .before .before .before .pre .1 .0) (a .depth) _ d, d))
 
 check-field-returns-3 : (t : ℕ) → check-field-lts.Need-returns-3 (check-field-claims t) (check-field-at t) check-field.Post
-check-field-returns-3 t c = let a = c .before .before .before .before .before .before .before .before .before .before .args in let t = a .table .now in let k = c .before .before .before .before .kind-at .ensures (enums t) in let d = rw (sym k) at (c .before .before .before .before .before .before .before .before .before .before .pre .1 .3) in
+unfolding groupOf
+check-field-returns-3 t c = let a = c .before .before .before .before .before .before .before .before .before .before .before .before .before .args in let t = a .table .now in let k = c .before .before .before .before .before .before .before .kind-at .ensures (enums t) in
+    field-there (a .sheet .now) (a .pos) (a .before) (innerOf t (a .levels)) (widthOf t (a .depth)) (staticOf t (a .levels) (a .depth)) (fieldAt (enums t) (drop (a .field) t)) _ (c .before .before .before .before .before .before .before .before .before .is-absent .ensures (enums t)) (c .before .before .before .before .before .before .before .before .if1 .left) _
+    (λ at fr. count-as _ _ (value-one (innerOf t (a .levels)) (widthOf t (a .depth)) (staticOf t (a .levels) (a .depth)) (fieldAt (enums t) (drop (a .field) t)) at fr (a .pos) (a .sheet .now) _ k (sym (c .before .before .before .before .before .is-sequence .ensures (enums t)) ∙ c .before .before .before .before .if2 .left))
+    (item-dynamic (a .sheet .now) (a .pos) (a .before) (innerOf t (a .levels)) (staticOf t (a .levels) (a .depth)) (enums t) _ _ _ (c .before .before .kind .given .1) (c .check-group .ensures) at fr))
+
+check-field-returns-4 : (t : ℕ) → check-field-lts.Need-returns-4 (check-field-claims t) (check-field-at t) check-field.Post
+check-field-returns-4 t c = let a = c .before .before .before .before .before .before .before .before .before .before .args in let t = a .table .now in let k = c .before .before .before .before .kind-at .ensures (enums t) in let d = rw (sym k) at (c .before .before .before .before .before .before .before .before .before .before .pre .1 .3) in
     field-there (a .sheet .now) (a .pos) (a .before) (innerOf t (a .levels)) (widthOf t (a .depth)) (staticOf t (a .levels) (a .depth)) (fieldAt (enums t) (drop (a .field) t)) _ (c .before .before .before .before .before .before .is-absent .ensures (enums t)) (c .before .before .before .before .before .if1 .left) _ (⊎-elim
     (λ w. sequence-good (a .sheet .now) (a .pos) (a .before) (innerOf t (a .levels)) (widthOf t (a .depth)) (staticOf t (a .levels) (a .depth)) (fieldAt (enums t) (drop (a .field) t)) _ k (sym (c .before .before .is-sequence .ensures (enums t)) ∙ w .0 .taken) (c .before .before .before .before .before .before .before .before .before .before .pre .1 .1) _ (as-record is-SQ _ _ (w .1 .ensures)) (w .2 .left) (wides-static (schema t) (innerOf t (a .levels)) (a .depth)) _ _ _ (w .3 .ensures .0) (c .before .before .before .kind-width .ensures .0 (enums t) ∙ wide-kind t (a .index .now) (c .before .before .before .before .before .before .before .before .before .before .pre .1 .0) (a .depth) _ d) (w .4 .ensures .0) _ (rw (w .5, w .6, w .7) at (c .check-items .ensures)))
-    (λ w. λ at fr. count-as _ _ (value-one (innerOf t (a .levels)) (widthOf t (a .depth)) (staticOf t (a .levels) (a .depth)) (fieldAt (enums t) (drop (a .field) t)) at fr (a .pos) (a .sheet .now) _ k (sym (c .before .before .is-sequence .ensures (enums t)) ∙ w .0 .left) ∙ sym (items-one _ _ at fr _)) (rw (w .1, w .2, w .3) at (c .check-items .ensures) at fr))
+    (λ w. λ at fr. count-as _ _ (value-one (innerOf t (a .levels)) (widthOf t (a .depth)) (staticOf t (a .levels) (a .depth)) (fieldAt (enums t) (drop (a .field) t)) at fr (a .pos) (a .sheet .now) _ k (sym (c .before .before .is-sequence .ensures (enums t)) ∙ w .0 .left) ∙ sym (items-one _ _ at fr _)) (rw (w .2, w .3, w .4) at (c .check-items .ensures) at fr))
     (c .before .if2 .came))
 
 abbrev check-fields-Inv-loop : check-fields-lts.InvT-loop
@@ -488,7 +495,7 @@ unfolding Within
     μ-close-group (λ t. check-extending-lts.spec (check-extending-claims t) (check-extending-at t)
     check-extending.Post (λ c κs. search needs) (check-extending-check-kept-requires t) (check-extending-returns t) (λ c κs. search needs) (check-extending-returns-2 t)) (λ t. check-extension-lts.spec (check-extension-claims t) (check-extension-at t)
     check-extension.Post (λ c κs. search needs) (λ c κs. search needs) (λ c κs. search needs) (check-extension-returns t) (λ c. search needs) (check-extension-read-u32-requires t) (λ c κs. search needs) (check-extension-returns-2 t) (λ c. search needs) (λ c. search needs) (λ c κs. search needs) (λ c. search needs) (check-extension-check-groups-requires t) (check-extension-returns-3 t) (λ c κs. search needs) (check-extension-returns-4 t)) (λ t. check-field-lts.spec (check-field-claims t) (check-field-at t)
-    check-field.Post (λ c κs. search needs) (λ c. search needs) (λ c κs. search needs) (check-field-returns t) (λ c κs. search needs) (λ c κs. search needs) (λ c κs. search needs) (λ c κs. search needs) (λ c κs. search needs) (check-field-returns-2 t) (λ c. search needs) (check-field-read-u32-requires t) (λ c. search needs) (check-field-mul-longer t) (check-field-add-longer t) (check-field-longer-requires t) (check-field-check-items-requires t) (check-field-returns-3 t)) (λ t. check-fields-lts.spec (check-fields-claims t) (check-fields-at t)
+    check-field.Post (λ c κs. search needs) (λ c. search needs) (λ c κs. search needs) (check-field-returns t) (λ c κs. search needs) (λ c κs. search needs) (λ c κs. search needs) (λ c κs. search needs) (λ c κs. search needs) (check-field-returns-2 t) (λ c. search needs) (check-field-read-u32-requires t) (λ c. search needs) (check-field-mul-longer t) (check-field-add-longer t) (check-field-longer-requires t) (λ c. search needs) (λ c κs. search needs) (check-field-returns-3 t) (check-field-check-items-requires t) (check-field-returns-4 t)) (λ t. check-fields-lts.spec (check-fields-claims t) (check-fields-at t)
     check-fields.Post
     check-fields-Inv-loop
     check-fields-μ-loop (λ c κs. search needs) (check-fields-field-count-requires t) (check-fields-sub-deeper t) (λ c. search needs) (check-fields-loop-holds t) (λ c κs. search needs) (λ c κs. search needs) (λ c κs. search needs) (check-fields-returns t) (λ c. search needs) (λ c. search needs) (λ c. search needs) (λ c. search needs) (λ c. search needs) (check-fields-loop-again t) (check-fields-check-field-requires t) (check-fields-returns-2 t) (λ c. search needs) (λ c. search needs) (λ c. search needs) (check-fields-loop-again-2 t) (λ c κs. search needs) (check-fields-returns-3 t)) (λ t. check-group-lts.spec (check-group-claims t) (check-group-at t)

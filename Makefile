@@ -39,7 +39,7 @@ ifneq ($(and $(wildcard /usr/include/flatbuffers/reflection.h),$(shell command -
 	mkdir -p target/flatbuffers
 	flatc --cpp -o target/flatbuffers bench/flatbuffers/blank.fbs
 	flatc --binary --schema -o target/flatbuffers bench/flatbuffers/blank.fbs
-	$(CXX) -std=c++17 -O3 -Wall -Wextra -Itarget/flatbuffers -Iinclude bench/flatbuffers/compare.cpp target/staticlib/libcapi.a -lflatbuffers -o target/flatbuffers/compare
+	$(CXX) -std=c++17 -O3 -Wall -Wextra -iquote target/flatbuffers -Iinclude bench/flatbuffers/compare.cpp target/staticlib/libcapi.a -lflatbuffers -o target/flatbuffers/compare
 	target/flatbuffers/compare samples/blank.table target/flatbuffers/blank.bfbs
 endif
 

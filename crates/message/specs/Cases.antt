@@ -10,7 +10,8 @@ use Rattle.schema.specs.declared.Verdict.{Verdict}
 use Rattle.schema.specs.declared.Verdict.the-variants.{Accepted, Refused}
 use Rattle.schema.specs.Faults.{need, also}
 use Rattle.schema.specs.Schema.{member, passes, testFault, textOk, kindWidth, valueWidth, fieldWidth, fieldsWidth, fieldsOf, superOf, width, shallowKind, shallowFields, shallow, find, known, under, allows}
-use Rattle.schema.specs.Table.{scalarWidth, kindOf, fieldAt, fieldsAt, valuesAt, groupAt, enumsFrom, groupsFrom, placesFrom, enums, schema, places, isEnum, isDue, dueAfter, shapeFrom, shapeVerdict, rank, enumVerdict, symbolVerdict, groupVerdict, sizeOk, referenceOk, fieldVerdict, recordVerdict, recordsFrom, recordsVerdict, anyId, idVerdict, widthsFrom, widthsVerdict, tableVerdict}
+use Rattle.schema.specs.Symbols.{rank}
+use Rattle.schema.specs.Table.{scalarWidth, kindOf, fieldAt, fieldsAt, valuesAt, groupAt, enumsFrom, groupsFrom, placesFrom, enums, schema, places, isEnum, isDue, dueAfter, shapeFrom, shapeVerdict, enumVerdict, symbolVerdict, groupVerdict, sizeOk, referenceOk, fieldVerdict, recordVerdict, recordsFrom, recordsVerdict, anyId, idVerdict, widthsFrom, widthsVerdict, tableVerdict}
 use Rattle.message.specs.Marks.{free, mark, padsZero, padsBefore}
 use Rattle.message.specs.Sheet.{markBytes, kindMark, fieldMark}
 use Rattle.message.specs.Walk.{Reading, refused, done, prefixed, next, strict, noneR, thenR, markedR, optionalR, plainR, inlineR, inArea, locate, onward, indirectR, textR, innerR, itemsR, listR, kindR, valueR, fieldR, fieldsR, staticR, extendingR, groupsR, extensionR, extensionIn, behindR, padded, bodyR, headR, groupR, walk, messageR}

@@ -1,4 +1,6 @@
 pub mod Records
+pub mod Symbols
 pub mod Types
 pub mod Groups
 pub mod Depth
+pub mod Claims

@@ -1,17 +1,13 @@
 -- The table's records where they stand: what is defined of the table's bytes that are left, at an index of the whole table.
-use Prim.Native.Nat.{ℕ, suc, _+_, _-_, _*_, _<_, _≤_}
+use Prim.Native.Nat.{ℕ, suc, _+_, _-_, _<_, _≤_}
 use mathlib.Core.Path.{_≡_}
-use mathlib.Core.Bool.{true, false}
 use mathlib.Core.List.{List, [], _∷_}
 use native.Mathlib.Omega.{arith}
-use native.Mathlib.Nat.{sub-zero, add-zero, mul-zero}
 use lib.ListN.{getD, drop}
 use lib.Seq.{drop-drop, getD-drop}
 use lib.Dec.{eqb}
-use borrow.Author.Tests.{eq-eqb, ne-eqb}
 use Rattle.wire.specs.Bytes.{part, le}
-use Rattle.schema.specs.Schema.{member}
-use Rattle.schema.specs.Table.{symbolValue, fieldType, fieldSize, reference, kindOf, fieldAt, fieldsAt, valuesAt}
+use Rattle.schema.specs.Table.{fieldType, fieldSize, reference, kindOf, fieldAt, fieldsAt}
 
 -- a byte, and a number, of what is left at p
 pub byte-at : (t : List ℕ) (p i : ℕ) → getD (drop p t) i 0 ≡ getD t (p + i) 0
@@ -43,33 +39,3 @@ module _ (es : List (List ℕ)) (t : List ℕ) (p : ℕ) where
   pub fields-none : (n i : ℕ) → n ≤ i → fieldsAt es (n - i) (drop p t) ≡ []
   unfolding fieldsAt
   fields-none n i h = let e : n - i ≡ 0 = omega arith in rw e
-
--- SYMBOLS
-
--- of the n symbols' records that begin at p, the values of those behind the first i
-abbrev pub valuesFrom : List ℕ → ℕ → ℕ → ℕ → List ℕ
-valuesFrom t p n i = valuesAt (n - i) (drop (p + 16 * i) t)
-
-module _ (t : List ℕ) (p n v : ℕ) where
-  pub symbol-all : member v (valuesAt n (drop p t)) ≡ member v (valuesFrom t p n 0)
-  symbol-all = rw (sub-zero, mul-zero, add-zero)
-
-  module _ (i : ℕ) (h : i < n) where
-    values-more : valuesFrom t p n i ≡ symbolValue (drop (p + 16 * i) t) ∷ valuesFrom t p n (i + 1)
-    unfolding valuesAt
-    values-more =
-        let e : n - i ≡ suc (n - (i + 1)) = omega arith in
-        let f : p + 16 * i + 16 ≡ p + 16 * (i + 1) = omega arith in
-        rw (e, drop-drop 16 (p + 16 * i) t, f)
-
-    pub symbol-hit : v ≡ symbolValue (drop (p + 16 * i) t) → member v (valuesFrom t p n i) ≡ true
-    unfolding member
-    symbol-hit e = rw (values-more, eq-eqb _ _ e)
-
-    pub symbol-miss : (v ≡ symbolValue (drop (p + 16 * i) t) → ⊥) → member v (valuesFrom t p n i) ≡ member v (valuesFrom t p n (i + 1))
-    unfolding member
-    symbol-miss e = rw (values-more, ne-eqb _ _ e)
-
-  pub symbol-end : (i : ℕ) → n ≤ i → member v (valuesFrom t p n i) ≡ false
-  unfolding member valuesAt
-  symbol-end i h = let e : n - i ≡ 0 = omega arith in rw e

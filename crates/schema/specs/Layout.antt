@@ -6,6 +6,7 @@ use Prim.Native.Nat.{ℕ, _+_, _*_, _<_, _≤_}
 use lib.ListN.{length, drop, getD}
 use lib.Dec.{ltb}
 use Rattle.schema.specs.Schema.{superOf, width, shallow}
+use Rattle.schema.specs.Symbols.{Ordered}
 use Rattle.schema.specs.Table.{fieldCount, valuesAt, groupAt, enums, schema}
 
 -- The index: 0.. the places of the groups' records, 64.. the groups' widths, 128.. the places of the enumerations' first symbols,
@@ -49,5 +50,6 @@ pub record Layout (t k : List ℕ) : Type 0 where
   pub shallows : (g : ℕ) → shallow (schema t) 5 g ≡ true
   pub symbols : (e : ℕ) → e < 64 → getD (enums t) e [] ≡ valuesAt (symbolTotal k e) (drop (symbolPlace k e) t)
   pub held : (e : ℕ) → e < 64 → symbolPlace k e + 16 * symbolTotal k e ≤ length t
+  pub ordered : (e : ℕ) → Ordered (getD (enums t) e [])
   pub lists : length (enums t) ≤ 64
   pub supers : (g : ℕ) → superOf (schema t) g ≤ g

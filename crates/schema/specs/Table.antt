@@ -11,6 +11,7 @@ use Rattle.schema.specs.declared.Verdict.{Verdict}
 use Rattle.schema.specs.declared.Verdict.the-variants.{Accepted, Refused}
 use Rattle.schema.specs.Faults.{need, also}
 use Rattle.schema.specs.Schema.{Kind, plain, inline, indirect, static, dynamic, any, flag, below, symbol, Field, Group, width, shallow, known}
+use Rattle.schema.specs.Symbols.{rank}
 
 -- MARKS
 
@@ -167,10 +168,6 @@ shapeVerdict t = shapeFrom (recordCount t) (record { enumerations = 0; groups = 
 
 -- 32, 33, 34, RECORD BY RECORD
 
--- A symbol's place among the i32, which rise from -2^31.
-unfoldable pub rank : List ℕ → ℕ
-rank t = cond (ltb (symbolValue t) 0x80000000) (symbolValue t + 0x80000000) (symbolValue t - 0x80000000)
-
 unfoldable pub enumVerdict : ℕ → List ℕ → Verdict
 enumVerdict p t = need (allZero (part 12 4 t)) (Refused 32 p) Accepted
 
@@ -178,7 +175,7 @@ enumVerdict p t = need (allZero (part 12 4 t)) (Refused 32 p) Accepted
 unfoldable pub symbolVerdict : ℕ → ℕ → List ℕ → Verdict
 symbolVerdict low p t =
     need (allZero (part 10 6 t)) (Refused 32 p)
-    (need (leb low (rank t)) (Refused 34 p) Accepted)
+    (need (leb low (rank (symbolValue t))) (Refused 34 p) Accepted)
 
 -- own: the group's number.
 unfoldable pub groupVerdict : List Group → ℕ → ℕ → List ℕ → Verdict
@@ -215,7 +212,7 @@ unfoldable pub recordsFrom : ℕ → List Group → ℕ → ℕ → ℕ → ℕ 
 recordsFrom ne gs zero next low p t = Accepted
 recordsFrom ne gs (suc n) next low p t =
     also (recordVerdict ne gs next low p t)
-    (recordsFrom ne gs n (cond (marked GR t) (next + 1) next) (cond (marked SY t) (rank t + 1) 0) (p + 16) (drop 16 t))
+    (recordsFrom ne gs n (cond (marked GR t) (next + 1) next) (cond (marked SY t) (rank (symbolValue t) + 1) 0) (p + 16) (drop 16 t))
 
 unfoldable pub recordsVerdict : List ℕ → Verdict
 recordsVerdict t = recordsFrom (length (enums t)) (schema t) (recordCount t) 0 0 0 t

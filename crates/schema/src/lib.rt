@@ -3,13 +3,14 @@
 // `index` is what Layout.antt says of an accepted table: where its records stand, and how wide its
 // groups are. Callers ask for a number of it by name, never by its position.
 ghost use mathlib.Core.Path.{_≡_};
-ghost use mathlib.Core.Bool.{_&&_};
+ghost use mathlib.Core.Bool.{cond, _&&_};
 ghost use mathlib.Core.List.{List, []};
 ghost use Prim.Native.Nat.{ℕ, _+_, _*_, _<_, _≤_, _^_};
 ghost use lib.ListN.{length, take, drop, getD};
 ghost use lib.Dec.{eqb};
 ghost use Rattle.wire.specs.Bytes.{part};
 ghost use Rattle.schema.specs.Schema.{textOk, member, find, known, allows, kindWidth, valueWidth, fieldWidth};
+ghost use Rattle.schema.specs.Symbols.{rank, halve};
 ghost use Rattle.schema.specs.Table.{scalarWidth, symbolCount, symbolValue, typeId, idFlag, superNumber, fieldCount, fieldType, fieldSize, reference, fieldAt, enums, schema};
 ghost use Rattle.schema.specs.Layout.{groupPlace, groupTotal, enumTotal, symbolPlace, symbolTotal, staticDepth, widthIn, Placed, Layout};
 ghost use Rattle.schema.specs.FieldKinds.{kindFrom, textKind, testedKind, kindFault, plainField, Widths};
@@ -37,6 +38,14 @@ pub enum FieldKind {
     Indirect { utf8: bool },
     Static { group: usize },
     Dynamic { allowed: usize },
+}
+
+// Where the search for a symbol stands: `count` symbols from number `first` on are in question. `at` is
+// the number of the one that equals the value, and as long as none was found, of no symbol.
+struct Search {
+    at: usize,
+    first: usize,
+    count: usize,
 }
 
 // How much of a group is walked: a dynamic group whole, for the kind of number `allowed`; of a static
@@ -122,11 +131,11 @@ pub fn symbol_count(table: &[u8], at: usize) -> usize
 }
 
 // The value of the symbol whose record stands at `at`, as unsigned.
-pub fn symbol_value(table: &[u8], at: usize) -> usize
+pub fn symbol_value(table: &[u8], at: usize) -> u32
     requires { ⌜ at + 16 ≤ length (now table) ⌝ }
-    ensures { λ r. ⌜ (r ≡ symbolValue (drop at (now (table .entry)))) × (r < 2 ^ 32) ⌝ }
+    ensures { λ r. ⌜ r ≡ symbolValue (drop at (now (table .entry))) ⌝ }
 {
-    wire::read_u32(table, at + 2)
+    wire::read_u32(table, at + 2) as u32
 }
 
 // A GROUP'S RECORD
@@ -216,21 +225,68 @@ pub fn allows(table: &[u8], index: &[u16], allowed: usize, group: usize) -> bool
     true
 }
 
-// Whether the value is a symbol of enumeration number `list`.
-pub fn has_symbol(table: &[u8], index: &[u16], list: usize, value: usize) -> bool
+// THE SEARCH FOR A SYMBOL
+
+// A value's place among the i32, which rise from -2^31.
+pub fn rank(value: u32) -> u32
+    ensures { λ r. ⌜ r ≡ rank value ⌝ }
+{
+    std::num::wrapping_add_u32(value, 0x8000_0000)
+}
+
+// The value of symbol number i of enumeration number `list`, as unsigned.
+fn symbol_at(table: &[u8], index: &[u16], list: usize, i: usize) -> u32
+    requires { ⌜ (Layout (now table) (now index)) × (list < 64) × (i < length (getD (enums (now table)) list [])) ⌝ }
+    ensures { λ r. ⌜ r ≡ getD (getD (enums (now (table .entry))) list []) i 0 ⌝ }
+{
+    symbol_value(table, symbol_place(index, list) + 16 * i)
+}
+
+// `yes` where the test holds, else `no`.
+fn pick(test: bool, yes: usize, no: usize) -> usize
+    ensures { λ r. ⌜ r ≡ cond test yes no ⌝ }
+{
+    if test {
+        return yes;
+    }
+    no
+}
+
+// One step: it looks at the symbol in the middle, and leaves the first half of the symbols or the last.
+// Both choices go by one comparison and compile to moves, since branches here could not be predicted.
+fn halve(table: &[u8], index: &[u16], list: usize, value: u32, search: Search) -> Search
+    requires { ⌜ (Layout (now table) (now index)) × (list < 64) × (0 < search .count) × (search .first + search .count ≤ length (getD (enums (now table)) list [])) ⌝ }
+    ensures { λ r. ⌜ r ≡ halve (getD (enums (now (table .entry))) list []) value search ⌝ }
+{
+    let half = search.count / 2;
+    let middle = search.first + half;
+    let symbol = symbol_at(table, index, list, middle);
+    Search {
+        at: pick(symbol == value, middle, search.at),
+        first: pick(
+            rank(symbol) < rank(value),
+            search.first + (search.count - half),
+            search.first,
+        ),
+        count: half,
+    }
+}
+
+// Whether the value is a symbol of enumeration number `list`. Nine steps decide any list.
+pub fn has_symbol(table: &[u8], index: &[u16], list: usize, value: u32) -> bool
     requires { ⌜ (Layout (now table) (now index)) × (list < 64) ⌝ }
     ensures { λ r. ⌜ r ≡ member value (getD (enums (now (table .entry))) list []) ⌝ }
 {
-    let n = symbol_total(index, list);
-    let start = symbol_place(index, list);
-    let mut i = 0;
-    while i < n {
-        if value == symbol_value(table, start + 16 * i) {
-            return true;
-        }
-        i += 1;
+    let total = symbol_total(index, list);
+    let mut search = Search {
+        at: total,
+        first: 0,
+        count: total,
+    };
+    while 0 < search.count {
+        search = halve(table, index, list, value, search);
     }
-    false
+    search.at < total
 }
 
 // A FIELD'S RECORD
@@ -446,7 +502,7 @@ pub fn test_fault(table: &[u8], index: &[u16], tested: Tested, bytes: &[u8], at:
             if 64 <= list {
                 return 10;
             }
-            if has_symbol(table, index, list, wire::read_u32(bytes, at)) {
+            if has_symbol(table, index, list, wire::read_u32(bytes, at) as u32) {
                 return 0;
             }
             10

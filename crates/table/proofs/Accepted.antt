@@ -9,7 +9,8 @@ use lib.Dec.{leb, ltb, eqb}
 use borrow.Author.Tests.{eqb-true, eqb-false, ltb-true, ltb-false, eq-eqb, lt-ltb, not-true}
 use Rattle.schema.specs.declared.Verdict.the-variants.{Accepted}
 use Rattle.schema.specs.Schema.{Group, find, known, superOf, width, shallow}
-use Rattle.schema.specs.Table.{GR, SY, rank, recordVerdict, marked, idFlag, typeId, groupAt, groupsFrom, enumsFrom, placesFrom, recordCount, enums, schema, places, shapeVerdict, groupVerdict, recordsFrom, recordsVerdict, widthsFrom, widthsVerdict, tableVerdict}
+use Rattle.schema.specs.Symbols.{rank}
+use Rattle.schema.specs.Table.{GR, SY, symbolValue, recordVerdict, marked, idFlag, typeId, groupAt, groupsFrom, enumsFrom, placesFrom, recordCount, enums, schema, places, shapeVerdict, groupVerdict, recordsFrom, recordsVerdict, widthsFrom, widthsVerdict, tableVerdict}
 use Rattle.table.specs.Measure.{Sound}
 use Rattle.table.proofs.Laws.{record-group}
 use Rattle.table.proofs.Records.{drop-next, symbol-no-group, symbol-no-enum, field-no-group, field-no-enum, enum-no-group, group-no-enum, group-no-field, group-no-symbol}
@@ -23,7 +24,7 @@ unfolding groupsFrom
 few-groups es (end z) l = omega arith
 few-groups {t = t} es (symbol _ _ m f) l = rw (symbol-no-group t m) (few-groups es f l)
 few-groups {t = t} es (field _ _ m f) l = rw (field-no-group t m) (few-groups es f l)
-few-groups {t = t} es (enum _ _ m _ f) l = rw (enum-no-group t m) (few-groups es f l)
+few-groups {t = t} es (enum _ _ m _ _ f) l = rw (enum-no-group t m) (few-groups es f l)
 few-groups {t = t} es (group _ m k f) l = let r = few-groups es f (omega arith) in rw m (omega (arith, r))
 
 few-enums : {n e g o : ℕ} {t : List ℕ} → Formed n e g o t → e ≤ 64 → e + length (enumsFrom n t) ≤ 64
@@ -31,7 +32,7 @@ unfolding enumsFrom
 few-enums (end z) l = omega arith
 few-enums {t = t} (symbol _ _ m f) l = rw (symbol-no-enum t m) (few-enums f l)
 few-enums {t = t} (field _ _ m f) l = rw (field-no-enum t m) (few-enums f l)
-few-enums {t = t} (enum _ _ m k f) l = let r = few-enums f (omega arith) in rw m (omega (arith, r))
+few-enums {t = t} (enum _ _ m k _ f) l = let r = few-enums f (omega arith) in rw m (omega (arith, r))
 few-enums {t = t} (group _ m _ f) l = rw (group-no-enum t m) (few-enums f l)
 
 same-many : (es : List (List ℕ)) (n p : ℕ) (t : List ℕ) → length (placesFrom n p t) ≡ length (groupsFrom es n t)
@@ -103,10 +104,10 @@ module _ (es : List (List ℕ)) (ne : ℕ) (gs : List Group) where
       past (y ∷ gs) (suc g) (suc k) l d e = past gs g k (omega arith) d e
   fresh {t = t} (symbol _ _ m f) low p h d k id l x = let n = symbol-no-group t m in fresh f _ _ (rw n at (also-accepted _ _ h .1)) (rw n at d) k id l x
   fresh {t = t} (field _ _ m f) low p h d k id l x = let n = field-no-group t m in fresh f _ _ (rw n at (also-accepted _ _ h .1)) (rw n at d) k id l x
-  fresh {t = t} (enum _ _ m _ f) low p h d k id l x = let n = enum-no-group t m in fresh f _ _ (rw n at (also-accepted _ _ h .1)) (rw n at d) k id l x
+  fresh {t = t} (enum _ _ m _ _ f) low p h d k id l x = let n = enum-no-group t m in fresh f _ _ (rw n at (also-accepted _ _ h .1)) (rw n at d) k id l x
   fresh {n = suc n} {g = g} {t = t} (group _ m _ f) low p h d k id l x = go (eqb k g) refl (λ q. fresh f _ _ (rw m at (v .1)) (drop-next gs _ _ g all) k id q x)
     where
-      v : (recordVerdict ne gs g low p t ≡ Accepted) × (recordsFrom ne gs n (cond (marked GR t) (g + 1) g) (cond (marked SY t) (rank t + 1) 0) (p + 16) (drop 16 t) ≡ Accepted)
+      v : (recordVerdict ne gs g low p t ≡ Accepted) × (recordsFrom ne gs n (cond (marked GR t) (g + 1) g) (cond (marked SY t) (rank (symbolValue t) + 1) 0) (p + 16) (drop 16 t) ≡ Accepted)
       v = also-accepted _ _ h
 
       all : drop g gs ≡ groupAt es t ∷ groupsFrom es n (drop 16 t)

@@ -12,6 +12,7 @@ use Rattle.schema.specs.declared.Verdict.the-variants.{Accepted, Refused}
 use Rattle.schema.specs.Faults.{need, also}
 use Rattle.schema.specs.Schema.{Kind, Group, fieldsOf, superOf, width, shallowFields, shallow}
 use Rattle.schema.specs.Table.{EN, SY, GR, FD, marked, symbolCount, superNumber, fieldCount, fieldType, fieldSize, reference, scalarWidths, scalarWidth, kindOf, fieldAt, fieldsAt, groupAt, groupsFrom, recordCount, enums, schema, Due, isEnum, isDue, dueAfter, shapeFrom, shapeVerdict, sizeOk, referenceOk, fieldVerdict, groupVerdict, recordsFrom, recordsVerdict, anyId, idVerdict, widthsVerdict, tableVerdict}
+use Rattle.schema.specs.Symbols.{Ordered}
 use Rattle.schema.specs.Layout.{widthIn, Layout}
 use Rattle.table.specs.Index.{Whole, Placing}
 use Rattle.table.specs.Measure.{soundKind, soundFields, Sound, Known}
@@ -37,7 +38,7 @@ pub data Formed : ℕ → ℕ → ℕ → ℕ → List ℕ → Type 0 where
   end : {e g o : ℕ} {t : List ℕ} → o ≡ 0 → Formed 0 e g o t
   symbol : {n e g o : ℕ} {t : List ℕ} → 0 < o → g ≡ 0 → marked SY t ≡ true → Formed n e g (o - 1) (drop 16 t) → Formed (suc n) e g o t
   field : {n e g o : ℕ} {t : List ℕ} → 0 < o → (g ≡ 0 → ⊥) → marked FD t ≡ true → Formed n e g (o - 1) (drop 16 t) → Formed (suc n) e g o t
-  enum : {n e g o : ℕ} {t : List ℕ} → o ≤ 0 → g ≡ 0 → marked EN t ≡ true → e < 64 → Formed n (e + 1) g (symbolCount t) (drop 16 t) → Formed (suc n) e g o t
+  enum : {n e g o : ℕ} {t : List ℕ} → o ≤ 0 → g ≡ 0 → marked EN t ≡ true → e < 64 → symbolCount t ≤ 256 → Formed n (e + 1) g (symbolCount t) (drop 16 t) → Formed (suc n) e g o t
   group : {n e g o : ℕ} {t : List ℕ} → o ≤ 0 → marked GR t ≡ true → g < 64 → Formed n e (g + 1) (fieldCount t) (drop 16 t) → Formed (suc n) e g o t
 
 abbrev due : ℕ → ℕ → ℕ → Due
@@ -71,7 +72,8 @@ formed (suc n) e g o p t h =
         begin : (c : Bool) → isEnum (due e g o) t ≡ c → Formed (suc n) e g o t
         begin true z =
             let m = enum-is (due e g o) t z in
-            enum l (m .0) (m .1) (enum-due (due e g o) t l z is .0) (ih (e + 1) g (symbolCount t) (rw (after-enum (due e g o) t l z) at r))
+            let c = enum-due (due e g o) t l z is in
+            enum l (m .0) (m .1) (c .0) (c .2) (ih (e + 1) g (symbolCount t) (rw (after-enum (due e g o) t l z) at r))
         begin false z =
             let m = group-due (due e g o) t l z is in
             group l (m .0) (m .1) (ih e (g + 1) (fieldCount t) (rw (after-group (due e g o) t l z) at r))
@@ -158,7 +160,7 @@ module _ (es : List (List ℕ)) (ne : ℕ) (gs : List Group) where
       let s = field-sound es ne (length gs) (g - 1) p t (sym (record-field ne gs g low p t m) ∙ v .0) in
       let k : o ≡ suc (o - 1) = omega arith in
       (rw n (r .0), λ q. rw (k, s) (r .1 q))
-  sounds {t = t} (enum l z m _ f) low p h =
+  sounds {t = t} (enum l z m _ _ f) low p h =
       let n = enum-no-group t m in
       let r = sounds f _ _ (rw n at (also-accepted _ _ h .1)) in
       (rw n (r .0), λ q. absurd (q z))
@@ -209,8 +211,8 @@ module _ (t k : List ℕ) (p : Placing t k) (kn : Known t k (length (schema t)))
       go true e = kn .clear g l (ltb-true g 64 e)
       go false e = refl
 
-  pub layout-of : Whole t → ((g : ℕ) → superOf (schema t) g ≤ g) → Layout t k
-  layout-of w low = record {
+  pub layout-of : Whole t → ((g : ℕ) → superOf (schema t) g ≤ g) → ((e : ℕ) → Ordered (getD (enums t) e [])) → Layout t k
+  layout-of w low ordered = record {
     long = p .long;
     small = w .small;
     few = p .few;
@@ -221,6 +223,7 @@ module _ (t k : List ℕ) (p : Placing t k) (kn : Known t k (length (schema t)))
     shallows = λ g. shallows g (ltb g (length (schema t))) refl;
     symbols = p .symbols;
     held = p .held;
+    ordered = ordered;
     lists = p .lists;
     supers = low;
   }

@@ -2,15 +2,15 @@
 use mathlib.Core.Path.{_≡_, refl, sym, ap, _∙_}
 use mathlib.Core.Bool.{Bool, true, false, not, cond, _&&_}
 use mathlib.Core.List.{List, [], _∷_, _++_}
-use Prim.Native.Nat.{ℕ, _+_, _-_, _*_, _%_, _<_, _≤_}
+use Prim.Native.Nat.{ℕ, _+_, _-_, _*_, _<_, _≤_}
 use native.Mathlib.Omega.{arith}
 use lib.ListN.{length, take, drop, drop-of-length-le}
 use lib.Seq.{length-take-le}
 use lib.Dec.{leb, ltb, eqb}
-use borrow.Author.Tests.{ltb-true, ltb-false, eqb-true, eqb-false, eq-eqb, ne-eqb}
+use borrow.Author.Tests.{eqb-true, eqb-false, eq-eqb, ne-eqb}
 use Rattle.schema.specs.Schema.{Group, find, known}
 use Rattle.schema.specs.Layout.{Placed}
-use Rattle.schema.specs.Table.{symbolValue, fieldType, fieldSize, reference, sizeOk, referenceOk, anyId, SY, GR, FD, marked, rank, recordVerdict, fieldVerdict, symbolVerdict, groupVerdict, enumVerdict}
+use Rattle.schema.specs.Table.{fieldType, fieldSize, reference, sizeOk, referenceOk, anyId, SY, GR, FD, marked, recordVerdict, fieldVerdict, symbolVerdict, groupVerdict, enumVerdict}
 use Rattle.wire.specs.Bytes.{part, le, allZero}
 use Rattle.wire.proofs.Laws.{part-add}
 use Rattle.schema.proofs.Records.{number-at}
@@ -40,15 +40,6 @@ cond-yes c x y e = rw e
 
 pub cond-no : {X : Type 0} (c : Bool) (x y : X) → c ≡ false → cond c x y ≡ y
 cond-no c x y e = rw e
-
--- a symbol's rank by its value
-pub rank-is : (v : ℕ) (t : List ℕ) → v ≡ symbolValue t → v < 0x100000000 → (v + 0x80000000) % 0x100000000 ≡ rank t
-unfolding rank
-rank-is v t is l = rw (← is) (go (ltb v 0x80000000) refl)
-  where
-    go : (c : Bool) → ltb v 0x80000000 ≡ c → (v + 0x80000000) % 0x100000000 ≡ cond c (v + 0x80000000) (v - 0x80000000)
-    go true e = omega (arith, ltb-true v 0x80000000 e)
-    go false e = omega (arith, ltb-false v 0x80000000 e)
 
 -- ZEROS
 

@@ -4,3 +4,4 @@ pub mod Widths
 pub mod Formed
 pub mod Accepted
 pub mod Values
+pub mod Claims

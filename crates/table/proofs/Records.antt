@@ -11,7 +11,8 @@ use lib.Dec.{leb, ltb, eqb}
 use borrow.Author.Tests.{eq-eqb, ne-eqb, eqb-true, eqb-false, leb-true, ltb-true, ltb-false, lt-ltb, le-ltb}
 use Rattle.wire.specs.Bytes.{same}
 use Rattle.schema.specs.Schema.{Group}
-use Rattle.schema.specs.Table.{EN, SY, GR, FD, marked, symbolCount, fieldCount, valuesAt, groupAt, enumsFrom, groupsFrom, placesFrom, recordCount, enums, schema, places, Due, isEnum, isDue, dueAfter, shapeFrom, shapeVerdict, rank, recordVerdict, recordsFrom, recordsVerdict}
+use Rattle.schema.specs.Symbols.{rank}
+use Rattle.schema.specs.Table.{EN, SY, GR, FD, marked, symbolCount, symbolValue, fieldCount, valuesAt, groupAt, enumsFrom, groupsFrom, placesFrom, recordCount, enums, schema, places, Due, isEnum, isDue, dueAfter, shapeFrom, shapeVerdict, recordVerdict, recordsFrom, recordsVerdict}
 use Rattle.schema.specs.declared.Verdict.{Verdict}
 use Rattle.schema.specs.declared.Verdict.the-variants.{Accepted, Refused}
 use Rattle.schema.specs.Faults.{need, also}
@@ -435,7 +436,7 @@ module _ (t : List ℕ) (d : Due) (i : ℕ) (h : recordCount t ≤ i) where
 module _ (t : List ℕ) (w : Whole t) (ne : ℕ) (gs : List Group) (next low i : ℕ) (h : 16 * i + 16 ≤ length t) where
   pub records-turn : (v : Verdict) → v ≡ recordVerdict ne gs next low (16 * i) (drop (16 * i) t)
       → recordsFrom ne gs (recordCount t - i) next low (16 * i) (drop (16 * i) t)
-      ≡ also v (recordsFrom ne gs (recordCount t - (i + 1)) (cond (marked GR (drop (16 * i) t)) (next + 1) next) (cond (marked SY (drop (16 * i) t)) (rank (drop (16 * i) t) + 1) 0) (16 * (i + 1)) (drop (16 * (i + 1)) t))
+      ≡ also v (recordsFrom ne gs (recordCount t - (i + 1)) (cond (marked GR (drop (16 * i) t)) (next + 1) next) (cond (marked SY (drop (16 * i) t)) (rank (symbolValue (drop (16 * i) t)) + 1) 0) (16 * (i + 1)) (drop (16 * (i + 1)) t))
   unfolding recordsFrom
   records-turn v e = let n : 16 * i + 16 ≡ 16 * (i + 1) = omega arith in rw (one-less t w i h, ← e, further t w i h, n)
 

@@ -1,8 +1,8 @@
 -- A group's width and static depth, as the index has them of the groups that were looked at.
 use mathlib.Core.Path.{_≡_}
-use mathlib.Core.Bool.{Bool, true, cond, _&&_}
+use mathlib.Core.Bool.{Bool, true, _&&_}
 use mathlib.Core.List.{List, [], _∷_}
-use Prim.Native.Nat.{ℕ, _+_, _-_, _<_, _≤_}
+use Prim.Native.Nat.{ℕ, _+_, _<_, _≤_}
 use lib.ListN.{length, getD}
 use lib.Dec.{ltb, leb}
 use Rattle.schema.specs.declared.Verdict.{Verdict}
@@ -27,14 +27,6 @@ soundFields ng own (f ∷ fs) = soundKind ng own (f .kind) && soundFields ng own
 
 abbrev pub Sound : List Group → Type 0
 Sound gs = (g : ℕ) → soundFields (length gs) g (fieldsOf gs g) ≡ true
-
--- What 34 leaves of an enumeration's values: as signed numbers they rise, from this rank on.
-unfoldable pub rankOf : ℕ → ℕ
-rankOf v = cond (ltb v 0x80000000) (v + 0x80000000) (v - 0x80000000)
-
-unfoldable pub risingFrom : ℕ → List ℕ → Bool
-risingFrom low [] = true
-risingFrom low (v ∷ vs) = leb low (rankOf v) && risingFrom (rankOf v + 1) vs
 
 -- e measures group g: its static depth, whether all static groups that it names have a width, and its width.
 pub record Measured (gs : List Group) (g : ℕ) (e : Extent) : Type 0 where

@@ -6,7 +6,8 @@ ghost use Prim.Native.Nat.{_+_, _-_, _*_, _%_, _<_, _≤_, _^_, max, ℕ};
 ghost use lib.ListN.{length, drop, set, replicate, getD, take};
 ghost use lib.Dec.{ltb, eqb, leb};
 ghost use Rattle.wire.specs.Bytes.{part, allZero, le};
-ghost use Rattle.schema.specs.Table.{SY, GR, marked, idFlag, optionalFlag, sequenceFlag, isDue, isEnum, shapeVerdict, rank, enumVerdict, symbolVerdict, groupVerdict, sizeOk, referenceOk, fieldVerdict, recordVerdict, recordsVerdict, anyId, enums, schema, tableVerdict, symbolCount, symbolValue, typeId, superNumber, fieldCount, fieldType, fieldSize, reference, Due, widthsVerdict, fieldAt};
+ghost use Rattle.schema.specs.Symbols.{rank};
+ghost use Rattle.schema.specs.Table.{SY, GR, marked, idFlag, optionalFlag, sequenceFlag, isDue, isEnum, shapeVerdict, enumVerdict, symbolVerdict, groupVerdict, sizeOk, referenceOk, fieldVerdict, recordVerdict, recordsVerdict, anyId, enums, schema, tableVerdict, symbolCount, symbolValue, typeId, superNumber, fieldCount, fieldType, fieldSize, reference, Due, widthsVerdict, fieldAt};
 ghost use Rattle.schema.specs.Layout.{Placed, Layout};
 ghost use Rattle.table.specs.Index.{dueOf, Whole, Begun, Placing, Shaped, Taken, Checked};
 ghost use Rattle.table.specs.Measure.{Sound, Measured, Known, Judged, Answer};
@@ -162,9 +163,9 @@ fn check_enum(table: &[u8], p: usize) -> schema::Verdict
 // A symbol's place among the i32, which rise from -2^31.
 fn symbol_rank(table: &[u8], p: usize) -> usize
     requires { ⌜ p + 16 ≤ length (now table) ⌝ }
-    ensures { λ r. ⌜ (r ≡ rank (drop p (now (table .entry)))) × (r < 2 ^ 32) ⌝ }
+    ensures { λ r. ⌜ (r ≡ rank (symbolValue (drop p (now (table .entry))))) × (r < 2 ^ 32) ⌝ }
 {
-    (schema::symbol_value(table, p) + 0x8000_0000) % 0x1_0000_0000
+    schema::rank(schema::symbol_value(table, p)) as usize
 }
 
 fn check_symbol(table: &[u8], p: usize, low: usize) -> schema::Verdict
@@ -320,7 +321,7 @@ fn check_record(table: &[u8], index: &[u16], p: usize, next: usize, low: usize) 
 // The least rank that rises after the record at p.
 fn rising(table: &[u8], p: usize) -> usize
     requires { ⌜ p + 16 ≤ length (now table) ⌝ }
-    ensures { λ r. ⌜ r ≡ cond (marked SY (drop p (now (table .entry)))) (rank (drop p (now (table .entry))) + 1) 0 ⌝ }
+    ensures { λ r. ⌜ r ≡ cond (marked SY (drop p (now (table .entry)))) (rank (symbolValue (drop p (now (table .entry)))) + 1) 0 ⌝ }
 {
     if wire::has_mark(table, p, SY) {
         return symbol_rank(table, p) + 1;

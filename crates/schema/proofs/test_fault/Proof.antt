@@ -81,6 +81,7 @@ test-fault-spec =
     (λ c. search needs)
     returns-4
     read-u32-requires-2
+    (λ c. search needs)
     (λ c κs. search needs)
     returns-5
     returns-6

@@ -2,6 +2,7 @@ use mathlib.Core.Path.{sym, _∙_}
 use borrow.Author.Needs.{needs}
 use borrow.Author.Tests.{not-true, not-false}
 use Rattle.table.proofs.Formed.{whole-of, after-30, after-31, after-34, after-ids, after-35, schema-sound, supers-low, layout-of}
+use Rattle.table.proofs.Values.{lists-ordered}
 use Rattle.table.proofs.Widths.{known-none}
 use Rattle.table.proofs.Laws.{never}
 use Rattle.table.proofs.index_table.Statement.{statement}
@@ -33,8 +34,16 @@ check-widths-requires c κs = let a = c .before .before .before .before .before 
     ((c .before .before .before .before .before .before .before .before .before .before .before .before .check-shape .ensures .placing (c .before .before .before .before .before .before .before .before .enum-told .given .1)), known-none (a .table .now) _ (c .before .before .before .before .before .before .before .before .before .before .before .before .check-shape .ensures .blank (c .before .before .before .before .before .before .before .before .enum-told .given .1)), schema-sound (a .table .now) (sym (c .before .before .before .before .before .before .before .before .before .before .before .before .check-shape .ensures .verdict) ∙ c .before .before .before .before .before .before .before .before .enum-told .given .1) (sym (c .before .before .before .before .before .before .check-records .ensures) ∙ c .before .before .before .before .enum-told2 .given .1))
 
 returns-5 : tie.Need-returns-5
-returns-5 c = let a = c .before .before .before .before .before .before .before .before .before .before .before .before .before .before .before .before .before .before .before .before .args in
-    record { verdict = c .before .before .check-widths .ensures .verdict ∙ after-35 (a .table .now) (not-false _ (c .before .before .before .before .before .before .before .before .before .before .before .before .before .before .before .before .before .if1 .left)) (sym (c .before .before .before .before .before .before .before .before .before .before .before .before .before .before .before .check-shape .ensures .verdict) ∙ c .before .before .before .before .before .before .before .before .before .before .before .enum-told .given .1) (sym (c .before .before .before .before .before .before .before .before .before .check-records .ensures) ∙ c .before .before .before .before .before .before .before .enum-told2 .given .1) (sym (c .before .before .before .before .before .any-id .ensures) ∙ not-false _ (c .before .before .before .before .if2 .left)); layout = λ q. layout-of (a .table .now) _ (c .before .before .check-widths .ensures .placing q) (c .before .before .check-widths .ensures .known q) (whole-of (a .table .now) (not-false _ (c .before .before .before .before .before .before .before .before .before .before .before .before .before .before .before .before .before .if1 .left))) (supers-low (a .table .now) (sym (c .before .before .before .before .before .before .before .before .before .before .before .before .before .before .before .check-shape .ensures .verdict) ∙ c .before .before .before .before .before .before .before .before .before .before .before .enum-told .given .1) (sym (c .before .before .before .before .before .before .before .before .before .check-records .ensures) ∙ c .before .before .before .before .before .before .before .enum-told2 .given .1)) }
+returns-5 c =
+    let t = c .before .before .before .before .before .before .before .before .before .before .before .before .before .before .before .before .before .before .before .before .args .table .now in
+    let z = not-false _ (c .before .before .before .before .before .before .before .before .before .before .before .before .before .before .before .before .before .if1 .left) in
+    let s = sym (c .before .before .before .before .before .before .before .before .before .before .before .before .before .before .before .check-shape .ensures .verdict) ∙ c .before .before .before .before .before .before .before .before .before .before .before .enum-told .given .1 in
+    let r = sym (c .before .before .before .before .before .before .before .before .before .check-records .ensures) ∙ c .before .before .before .before .before .before .before .enum-told2 .given .1 in
+    let w = c .before .before .check-widths .ensures in
+    record {
+      verdict = w .verdict ∙ after-35 t z s r (sym (c .before .before .before .before .before .any-id .ensures) ∙ not-false _ (c .before .before .before .before .if2 .left));
+      layout = λ q. layout-of t _ (w .placing q) (w .known q) (whole-of t z) (supers-low t s r) (lists-ordered t s r);
+    }
 
 pub index-table-spec : {M : Type 1} → statement M
 index-table-spec =

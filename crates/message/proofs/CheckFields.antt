@@ -193,6 +193,11 @@ module _ (I : Inner) (S : ℕ → Reader) (b : List ℕ) (base area : ℕ) (m : 
     unfolding kindFrom kindWidth kindMark kindR
     items-indirect sw w n at iw u e = let q : w ≡ 4 = iw ∙ rw e in rw (q, e)
 
+    pub items-number : (w v n at : ℕ) → w ≡ v → (x : Tested) → kind ≡ Number x
+        → itemsR w (itemR I S (kindFrom es kind)) n (here strict b base area) at m ≡ itemsR v (itemR I S (testedKind es x)) n (here strict b base area) at m
+    unfolding kindFrom
+    items-number w v n at q x e = rw (q, e)
+
     module _ (at : ℕ) where
       pub item-plain : (sw : ℕ → ℕ) (c : ℕ) → kind ≡ Plain c → at + kindWidth sw (kindFrom es kind) ≤ length b → count (itemR I S (kindFrom es kind) (here strict b base area) at m) ≡ counted (2 + c) m
       unfolding kindFrom kindWidth

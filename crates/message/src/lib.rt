@@ -332,6 +332,48 @@ fn check_number(
     }
 }
 
+fn check_numbers(
+    table: &[u8],
+    index: &[u16],
+    bytes: &[u8],
+    base: usize,
+    tested: schema::Tested,
+    total: usize,
+    at: usize,
+    taken: usize,
+    before: usize,
+) -> Step
+    requires { ⌜ (Layout (now table) (now index)) × (at + total * kindWidth (widthIn (now index)) (testedKind (enums (now table)) tested) ≤ length (now bytes)) × (base + length (now bytes) ≤ 65536) ⌝ }
+    ensures { λ r. ⌜ ((I : Inner) (S : ℕ → Reader) (area : ℕ) (F : ℕ → List ℕ) → countBy F r ≡ after before (count (itemsR (kindWidth (widthIn (now (index .entry))) (testedKind (enums (now (table .entry))) tested)) (itemR I S (testedKind (enums (now (table .entry))) tested)) total (here strict (now (bytes .entry)) base area) at (F taken)))) ⌝ }
+{
+    let width = wire::wide(schema::tested_width(tested));
+    let mut i = 0;
+    let mut place = at;
+    let mut length = before;
+    let mut holds = taken;
+    while i < total {
+        let number = check_number(table, index, bytes, base, tested, place, holds, length);
+        match number {
+            Step::Counted {
+                length: sum,
+                taken: now,
+            } => {
+                length = sum;
+                holds = now;
+            }
+            Step::Refused { number, place } => {
+                return Step::Refused { number, place };
+            }
+        }
+        place += width;
+        i += 1;
+    }
+    Step::Counted {
+        length,
+        taken: holds,
+    }
+}
+
 // "Inline text: 7, 8, 9."
 fn check_inline(
     bytes: &[u8],
@@ -912,8 +954,8 @@ fn check_value(
     )
 }
 
-// So many items, each of `width` bytes. Plain values need no test, and are only counted; strings, of
-// which there may be thousands, have a loop of their own.
+// So many items, each of `width` bytes. Plain values need no test, and are only counted; strings, and
+// numbers with a test, of which there may be thousands, have loops of their own.
 fn check_items(
     table: &[u8],
     index: &[u16],
@@ -939,6 +981,19 @@ fn check_items(
     }
     if let schema::FieldKind::Indirect { utf8 } = kind {
         return check_texts(bytes, marks, frame, utf8, total, at, taken, before);
+    }
+    if let schema::FieldKind::Number { tested } = kind {
+        return check_numbers(
+            table,
+            index,
+            bytes,
+            frame.base,
+            tested,
+            total,
+            at,
+            taken,
+            before,
+        );
     }
     let mut i = 0;
     let mut place = at;

@@ -23,7 +23,7 @@ use Rattle.message.specs.Check.{marksOf, closing, after, within, itemR, 
 use Rattle.message.proofs.Count.{count-inner}
 use Rattle.message.proofs.CheckAnswers.{refuses, counts, stays, goes-on, passed, stopped, bounded}
 use Rattle.message.proofs.CheckMarks.{retaken, pads-none}
-use Rattle.message.proofs.CheckFields.{leads-nowhere, leads-to, fields-passed, fields-stopped, fields-end, plain-wide, fields-plain, flag-wide, flag-unset, field-optional, field-set, ItemsAt, one-item, sequence-nowhere, sequence-items, items-passed, items-stopped, items-end, items-left, items-plain, items-indirect, item-plain, item-number, item-inline, item-indirect, item-static, item-dynamic, wide-number, wide-inline, wide-indirect, wide-static, wide-dynamic, kind-static, start-inside, start-static, start-width, start-shallow, ready}
+use Rattle.message.proofs.CheckFields.{leads-nowhere, leads-to, fields-passed, fields-stopped, fields-end, plain-wide, fields-plain, flag-wide, flag-unset, field-optional, field-set, ItemsAt, one-item, sequence-nowhere, sequence-items, items-passed, items-stopped, items-end, items-left, items-plain, items-indirect, items-number, item-plain, item-number, item-inline, item-indirect, item-static, item-dynamic, wide-number, wide-inline, wide-indirect, wide-static, wide-dynamic, kind-static, start-inside, start-static, start-width, start-shallow, ready}
 use Rattle.message.proofs.CheckGroups.{nested-passed, extension-zero, extension-nowhere, extension-empty, extension-some, extending-short, extending-known, extending-kept, rest-plain, closing-clean}
 use Rattle.message.proofs.CheckScopes.{weight, inside-falls, inside-long, inside-left, opens-begun, opens-refused, closes-dynamic, closes-static}
 use borrow.Fn.Kinds.{In}
@@ -70,6 +70,7 @@ use Rattle.message.proofs.+check_dynamic+check_extending+check_extensio
 use Rattle.message.proofs.check_absent.Reads as check-absent-reads
 use Rattle.message.proofs.check_inline.Reads as check-inline-reads
 use Rattle.message.proofs.check_number.Reads as check-number-reads
+use Rattle.message.proofs.check_numbers.Reads as check-numbers-reads
 use Rattle.message.proofs.check_pads.Reads as check-pads-reads
 use Rattle.message.proofs.check_text.Reads as check-text-reads
 use Rattle.message.proofs.check_texts.Reads as check-texts-reads
@@ -588,7 +589,7 @@ check-items-μ-loop table index bytes marks₀ frame depth kind width total at t
     total - i
 
 abbrev check-items-claims : ℕ → check-items-lts.Claims
-check-items-claims t = (wide-reads.Asked, wide-reads.Learnt, longer-reads.Asked, longer-reads.Learnt, check-texts-reads.Asked, check-texts-reads.Learnt, check-item-below t, check-item.Post)
+check-items-claims t = (wide-reads.Asked, wide-reads.Learnt, longer-reads.Asked, longer-reads.Learnt, check-texts-reads.Asked, check-texts-reads.Learnt, check-numbers-reads.Asked, check-numbers-reads.Learnt, check-item-below t, check-item.Post)
 
 check-items-mul-longer : (t : ℕ) → check-items-lts.Need-mul-longer (check-items-claims t) (check-items-at t) check-items.Post check-items-Inv-loop check-items-μ-loop
 check-items-mul-longer t c = omega (arith, mul-le-mul-right {m = c .before .before .before .before .before .before .before .before .args .total} {n = 4294967296} (2 + c .wide .result) (omega (arith, c .before .before .before .before .before .before .before .before .pre .1 .2)), c .wide .ensures .1)
@@ -604,19 +605,32 @@ check-items-returns-2 : (t : ℕ) → check-items-lts.Need-returns-2 (check-item
 check-items-returns-2 t c = let a = c .before .before .before .before .before .before .before .before .before .before .before .before .args in let t = a .table .now in
     c .before .before .check-texts .ensures ∙ ap (λ x. after (a .before) (count x)) (sym (items-indirect (innerOf t (a .frame .levels)) (staticOf t (a .frame .levels) (a .depth)) (a .bytes .now) (a .frame .base) (a .frame .area) (marksOf (a .frame .area) (a .taken) (a .marks .now)) (enums t) (a .kind) (widthOf t (a .depth)) (a .width) (a .total) (a .at) (c .before .before .before .before .before .before .before .before .before .before .before .before .pre .1 .4) _ (c .before .before .before .before .before .kind2 .given .1)))
 
-check-items-loop-holds : (t : ℕ) → check-items-lts.Need-loop-holds (check-items-claims t) (check-items-at t) check-items.Post check-items-Inv-loop check-items-μ-loop
-check-items-loop-holds t c = let a = c .before .before .before .before .before .before .args in (search needs, search needs, rw sub-zero (c .before .before .before .before .before .before .pre .1 .1), search needs, rw sub-zero refl)
-
-check-items-check-item-requires : (t : ℕ) → check-items-lts.Need-check-item-requires (check-items-claims t) (check-items-at t) check-items.Post check-items-Inv-loop check-items-μ-loop
-check-items-check-item-requires t c κs = let a = c .before .before .before .before .before .before .before .before .before .args in let i = c .before .before .loop .inv in let w = items-left (a .total) (c .before .before .loop .i) (a .width) (c .before .loop-test .taken) in
-    (search needs, (ready _ _ _ _ _ _ (c .before .before .before .before .before .before .before .before .before .pre .1 .0) (i .1 ∙ c .before .before .before .before .before .before .before .before .before .pre .1 .0 .same), omega (arith, i .2, w, c .before .before .before .before .before .before .before .before .before .pre .1 .4), c .before .before .before .before .before .before .before .before .before .pre .1 .5))
+check-items-check-numbers-requires : (t : ℕ) → check-items-lts.Need-check-numbers-requires (check-items-claims t) (check-items-at t) check-items.Post check-items-Inv-loop check-items-μ-loop
+check-items-check-numbers-requires t c κs = let a = c .before .before .before .before .before .before .before .before .before .args in let p = c .before .before .before .before .before .before .before .before .before .pre .1 in let t = a .table .now in
+    let w = wide-number (widthIn (a .index .now)) (enums t) (a .kind) _ (c .before .kind3 .given .1) in
+    let v = wide-kind t (a .index .now) (p .0 .layout) (a .depth) (kindFrom (enums t) (a .kind)) (p .5) in
+    (p .0 .layout, rw (p .4 ∙ sym v ∙ w) at (p .1), p .0 .small)
 
 check-items-returns-3 : (t : ℕ) → check-items-lts.Need-returns-3 (check-items-claims t) (check-items-at t) check-items.Post check-items-Inv-loop check-items-μ-loop
-check-items-returns-3 t c = let a = c .before .before .before .before .before .before .before .before .before .before .before .before .before .before .before .args in
+check-items-returns-3 t c = let a = c .before .before .before .before .before .before .before .before .before .before .args in let p = c .before .before .before .before .before .before .before .before .before .before .pre .1 in let t = a .table .now in
+    let w = wide-number (widthIn (a .index .now)) (enums t) (a .kind) _ (c .before .before .kind3 .given .1) in
+    let v = wide-kind t (a .index .now) (p .0 .layout) (a .depth) (kindFrom (enums t) (a .kind)) (p .5) in
+    let I = innerOf t (a .frame .levels) in let S = staticOf t (a .frame .levels) (a .depth) in
+    c .check-numbers .ensures I S (a .frame .area) (λ s. marksOf (a .frame .area) s (a .marks .now)) ∙ ap (λ x. after (a .before) (count x)) (sym (items-number I S (a .bytes .now) (a .frame .base) (a .frame .area) (marksOf (a .frame .area) (a .taken) (a .marks .now)) (enums t) (a .kind) (a .width) _ (a .total) (a .at) (p .4 ∙ sym v ∙ w) _ (c .before .before .kind3 .given .1)))
+
+check-items-loop-holds : (t : ℕ) → check-items-lts.Need-loop-holds (check-items-claims t) (check-items-at t) check-items.Post check-items-Inv-loop check-items-μ-loop
+check-items-loop-holds t c = let a = c .before .before .before .before .before .before .before .args in (search needs, search needs, rw sub-zero (c .before .before .before .before .before .before .before .pre .1 .1), search needs, rw sub-zero refl)
+
+check-items-check-item-requires : (t : ℕ) → check-items-lts.Need-check-item-requires (check-items-claims t) (check-items-at t) check-items.Post check-items-Inv-loop check-items-μ-loop
+check-items-check-item-requires t c κs = let a = c .before .before .before .before .before .before .before .before .before .before .args in let i = c .before .before .loop .inv in let w = items-left (a .total) (c .before .before .loop .i) (a .width) (c .before .loop-test .taken) in
+    (search needs, (ready _ _ _ _ _ _ (c .before .before .before .before .before .before .before .before .before .before .pre .1 .0) (i .1 ∙ c .before .before .before .before .before .before .before .before .before .before .pre .1 .0 .same), omega (arith, i .2, w, c .before .before .before .before .before .before .before .before .before .before .pre .1 .4), c .before .before .before .before .before .before .before .before .before .before .pre .1 .5))
+
+check-items-returns-4 : (t : ℕ) → check-items-lts.Need-returns-4 (check-items-claims t) (check-items-at t) check-items.Post check-items-Inv-loop check-items-μ-loop
+check-items-returns-4 t c = let a = c .before .before .before .before .before .before .before .before .before .before .before .before .before .before .before .before .args in
     items-stopped (a .width) _ (within (a .bytes .now) (a .frame)) (a .total) (c .before .before .before .before .before .before .before .before .loop .i) (c .before .before .before .before .before .before .before .before .loop .place) (c .before .before .before .before .before .before .before .before .loop .length) (marksOf (a .frame .area) (c .before .before .before .before .before .before .before .before .loop .holds) (c .before .before .before .before .before .before .before .before .loop .marks)) _ _ (c .before .before .before .before .before .check-item .ensures) (c .before .before .before .before .before .before .before .loop-test .taken) _ _ _ (c .before .item2 .given .1) ∙ sym (c .before .before .before .before .before .before .before .before .loop .inv .4)
 
 check-items-loop-again : (t : ℕ) → check-items-lts.Need-loop-again (check-items-claims t) (check-items-at t) check-items.Post check-items-Inv-loop check-items-μ-loop
-check-items-loop-again t c = let a = c .before .before .before .before .before .before .before .before .before .before .before .before .before .before .before .args in let i = c .before .before .before .before .before .before .before .before .loop .inv in let w = items-left (a .total) (c .before .before .before .before .before .before .before .before .loop .i) (a .width) (c .before .before .before .before .before .before .before .loop-test .taken) in (
+check-items-loop-again t c = let a = c .before .before .before .before .before .before .before .before .before .before .before .before .before .before .before .before .args in let i = c .before .before .before .before .before .before .before .before .loop .inv in let w = items-left (a .total) (c .before .before .before .before .before .before .before .before .loop .i) (a .width) (c .before .before .before .before .before .before .before .loop-test .taken) in (
   search needs,
   search needs,
   omega (arith, i .2, w),
@@ -624,8 +638,8 @@ check-items-loop-again t c = let a = c .before .before .before .before .before .
   i .4 ∙ items-passed (a .width) _ (within (a .bytes .now) (a .frame)) (a .total) (c .before .before .before .before .before .before .before .before .loop .i) (c .before .before .before .before .before .before .before .before .loop .place) (c .before .before .before .before .before .before .before .before .loop .length) (marksOf (a .frame .area) (c .before .before .before .before .before .before .before .before .loop .holds) (c .before .before .before .before .before .before .before .before .loop .marks)) _ _ (c .before .before .before .before .before .check-item .ensures) (c .before .before .before .before .before .before .before .loop-test .taken) _ _ (c .before .item .given .1),
 )
 
-check-items-returns-4 : (t : ℕ) → check-items-lts.Need-returns-4 (check-items-claims t) (check-items-at t) check-items.Post check-items-Inv-loop check-items-μ-loop
-check-items-returns-4 t c = let a = c .before .before .before .before .before .before .before .before .args in
+check-items-returns-5 : (t : ℕ) → check-items-lts.Need-returns-5 (check-items-claims t) (check-items-at t) check-items.Post check-items-Inv-loop check-items-μ-loop
+check-items-returns-5 t c = let a = c .before .before .before .before .before .before .before .before .before .args in
     items-end (a .width) _ (within (a .bytes .now) (a .frame)) (a .total) (c .before .loop .i) (c .before .loop .place) (c .before .loop .length) (marksOf (a .frame .area) (c .before .loop .holds) (c .before .loop .marks)) _ _ refl (c .loop-test .left) (c .before .loop .inv .3) ∙ sym (c .before .loop .inv .4)
 
 abbrev check-nested-claims : ℕ → check-nested-lts.Claims
@@ -759,7 +773,7 @@ pub +check-dynamic+check-extending+check-extension+check-field+check-fields+chec
     check-item.Post (λ c. search needs) (λ c κs. search needs) (λ c. search needs) (λ c κs. search needs) (λ c. search needs) (check-item-check-number-requires t) (λ c. search needs) (check-item-check-inline-requires t) (λ c. search needs) (check-item-check-text-requires t) (λ c. search needs) (λ c κs. search needs) (check-item-check-group-requires t) (λ c. search needs) (λ c κs. search needs) (check-item-check-dynamic-requires t) (check-item-returns t) (check-item-returns-2 t) (check-item-returns-3 t) (λ c. search needs) (check-item-returns-4 t) (λ c. search needs) (check-item-returns-5 t) (λ c. search needs) (check-item-returns-6 t)) (λ t. check-items-lts.spec (check-items-claims t) (check-items-at t)
     check-items.Post
     check-items-Inv-loop
-    check-items-μ-loop (λ c. search needs) (λ c κs. search needs) (λ c. search needs) (check-items-mul-longer t) (λ c κs. search needs) (check-items-returns t) (λ c. search needs) (check-items-check-texts-requires t) (λ c. search needs) (check-items-returns-2 t) (check-items-loop-holds t) (check-items-check-item-requires t) (λ c. search needs) (λ c. search needs) (λ c. search needs) (check-items-returns-3 t) (λ c. search needs) (λ c. search needs) (λ c. search needs) (check-items-loop-again t) (λ c. search needs) (check-items-returns-4 t)) (λ t. check-nested-lts.spec (check-nested-claims t) (check-nested-at t)
+    check-items-μ-loop (λ c. search needs) (λ c κs. search needs) (λ c. search needs) (check-items-mul-longer t) (λ c κs. search needs) (check-items-returns t) (λ c. search needs) (check-items-check-texts-requires t) (λ c. search needs) (check-items-returns-2 t) (λ c. search needs) (check-items-check-numbers-requires t) (check-items-returns-3 t) (check-items-loop-holds t) (check-items-check-item-requires t) (λ c. search needs) (λ c. search needs) (λ c. search needs) (check-items-returns-4 t) (λ c. search needs) (λ c. search needs) (λ c. search needs) (check-items-loop-again t) (λ c. search needs) (check-items-returns-5 t)) (λ t. check-nested-lts.spec (check-nested-claims t) (check-nested-at t)
     check-nested.Post (λ c. search needs) (λ c. search needs) (λ c. search needs) (λ c. search needs) (λ c. search needs) (λ c. search needs) (λ c. search needs) (λ c. search needs) (check-nested-check-group-requires t) (λ c. search needs) (λ c κs. search needs) (λ c. search needs) (λ c. search needs) (check-nested-returns t) (λ c. search needs) (check-nested-returns-2 t)) (λ t. check-rest-lts.spec (check-rest-claims t) (check-rest-at t)
     check-rest.Post (check-rest-check-extension-requires t) (λ c. search needs) (check-rest-check-pads-requires t) (λ c. search needs) (λ c. search needs) (check-rest-returns t) (λ c. search needs) (check-rest-returns-2 t))
     (λ t. check-value-lts.spec (check-value-claims t) (check-value-at t)

@@ -34,13 +34,17 @@ impl Entry {
     }
 }
 
+/// Zeros at the end are not stored, so that long inputs stay small.
+pub fn stored_length(input: &[u8]) -> usize {
+    input.iter().rposition(|&byte| byte != 0).map_or(0, |at| at + 1)
+}
+
 /// The bytes of a file with these records.
 pub fn encode(entries: &[Entry]) -> Vec<u8> {
     let mut file = Vec::new();
     for entry in entries {
         let input = entry.input();
-        // Zeros at the end are not stored, so that long inputs stay small.
-        let stored = input.iter().rposition(|&b| b != 0).map_or(0, |at| at + 1);
+        let stored = stored_length(input);
         let (kind, lent, numbers) = match entry {
             Entry::Table(_) => (0, [0; 3], [0; 2]),
             Entry::Ask(q) => (q.kind as u32, [q.scratch, q.sheet, q.output], [q.field, q.item]),

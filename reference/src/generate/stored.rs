@@ -5,13 +5,16 @@ use std::collections::BTreeMap;
 
 use super::{batch, edges};
 use crate::question::{ask, Kind, Question};
-use crate::vectors::{answer_lines, encode, Entry, FILES};
+use crate::vectors::{answer_lines, encode, stored_length, Entry, FILES};
 use crate::FaultNumber;
 
 /// How many random batches are looked at.
 const BATCHES: u64 = 2_500;
 /// Longer random inputs are left out, but for zeros at their end.
 const LONGEST: usize = 320;
+/// Questions under a longer random table too: long lists of symbols are
+/// among the edges.
+const LONGEST_TABLE: usize = 800;
 
 /// One stored file: its questions and the answers due.
 pub struct File {
@@ -79,9 +82,7 @@ impl Shelf {
     }
 
     fn put_if_wanted(&mut self, table: &[u8], question: Question) {
-        let input = &question.input;
-        let stored = input.iter().rposition(|&byte| byte != 0);
-        if stored.is_some_and(|last| last >= LONGEST) {
+        if stored_length(&question.input) > LONGEST || stored_length(table) > LONGEST_TABLE {
             return;
         }
         let number = match ask(table, &question).answer {

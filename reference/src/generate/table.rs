@@ -201,14 +201,21 @@ pub fn random_table(random: &mut Random) -> TablePlan {
     plan
 }
 
+/// Few symbols, near 0 or at the ends; one list in sixteen may have as many
+/// as there can be, close together or far apart.
 fn random_symbols(random: &mut Random) -> Vec<i32> {
-    let mut symbols: Vec<i32> = (0..1 + random.below(6))
-        .map(|_| match random.below(8) {
-            0 => i32::MIN,
-            1 => i32::MAX,
-            _ => random.below(30) as i32 - 10,
-        })
-        .collect();
+    let mut symbols: Vec<i32> = if random.one_in(16) {
+        let shift = random.below(24);
+        (0..1 + random.below(256)).map(|_| random.number() as i32 >> shift).collect()
+    } else {
+        (0..1 + random.below(6))
+            .map(|_| match random.below(8) {
+                0 => i32::MIN,
+                1 => i32::MAX,
+                _ => random.below(30) as i32 - 10,
+            })
+            .collect()
+    };
     symbols.sort();
     symbols.dedup();
     symbols

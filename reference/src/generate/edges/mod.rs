@@ -5,6 +5,7 @@
 mod message;
 mod read;
 mod sheet;
+mod symbols;
 mod table;
 
 use super::table::TablePlan;
@@ -25,6 +26,7 @@ pub fn edges() -> Vec<Edge> {
     let mut edges = Edges(Vec::new());
     table::add(&mut edges);
     message::add(&mut edges);
+    symbols::add(&mut edges);
     sheet::add(&mut edges);
     read::add(&mut edges);
     edges.0

@@ -1,8 +1,8 @@
 //! Messages to time, each in canonical form.
 
-use crate::tables::{blank, field, group};
+use crate::tables::{blank, enumeration, field, group};
 
-/// A table, a message that it accepts, and what the pair is called.
+/// A table, a message of it, and what the pair is called.
 pub struct Case {
     pub name: &'static str,
     pub table: Vec<u8>,
@@ -54,6 +54,21 @@ fn one_field(name: &'static str, record: Vec<u8>, value: &[u8]) -> Case {
     Case { name, table: group(Some(1), 0, &[record]), message: dynamic(1, &4u32.to_le_bytes(), value) }
 }
 
+/// 10,000 symbols of an enumeration that has so many; `pick` says which stands where.
+fn symbols(name: &'static str, count: u16, pick: impl Fn(u32) -> u32) -> Case {
+    let mut table = enumeration(count);
+    table.extend(group(Some(1), 0, &[field(20, false, true, 0, 0)]));
+    let mut value = 10_000u32.to_le_bytes().to_vec();
+    value.extend((0..10_000).map(pick).flat_map(u32::to_le_bytes));
+    Case { name, table, message: dynamic(1, &4u32.to_le_bytes(), &value) }
+}
+
+/// A number below `count`, by no rule that a processor could learn.
+fn scattered(number: u32, count: u32) -> u32 {
+    let mixed = u64::from(number + 1).wrapping_mul(0x9e37_79b9_7f4a_7c15);
+    ((mixed ^ mixed >> 29).wrapping_mul(0xbf58_476d_1ce4_e5b9) >> 32) as u32 % count
+}
+
 /// Groups one in the other, eight levels deep.
 fn nested() -> Case {
     let mut inner = dynamic(1, &[0; 5], &[]);
@@ -72,6 +87,21 @@ fn small_groups() -> Case {
     let mut table = group(Some(1), 0, &[field(23, false, true, 0, 0)]);
     table.extend(group(Some(2), 0, &[field(5, false, false, 0, 0)]));
     Case { name: "2,700 small groups", table, message: dynamic(1, &4u32.to_le_bytes(), &sequence_of(&groups)) }
+}
+
+/// Symbols of long and of short enumerations. The last case is refused for its last symbol.
+pub fn symbol_cases() -> Vec<Case> {
+    vec![
+        symbols("10,000 symbols, the only one", 1, |_| 0),
+        symbols("10,000 symbols of 2", 2, |i| scattered(i, 2)),
+        symbols("10,000 symbols of 4", 4, |i| scattered(i, 4)),
+        symbols("10,000 symbols of 8", 8, |i| scattered(i, 8)),
+        symbols("10,000 symbols of 256", 256, |i| scattered(i, 256)),
+        symbols("10,000 times the first of 256", 256, |_| 0),
+        symbols("10,000 times the middle of 256", 256, |_| 128),
+        symbols("10,000 times the last of 256", 256, |_| 255),
+        symbols("9,999 of 256, then a missing one", 256, |i| if i < 9_999 { scattered(i, 256) } else { 256 }),
+    ]
 }
 
 pub fn cases() -> Vec<Case> {

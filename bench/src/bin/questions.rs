@@ -13,19 +13,25 @@ fn time_table(name: &str, table: &[u8]) {
     );
 }
 
-/// One message: its check, its sheet, the sheet's message, and rewriting. Both sides must write the same bytes.
-fn time_message(case: &messages::Case) {
+fn time_check(case: &messages::Case) {
     let messages::Case { name, table, message } = case;
     let (mut scratch, mut other) = (vec![0u8; message.len()], vec![0u8; message.len()]);
-    let (mut room, mut other_room) = (vec![0u8; 11 * message.len()], vec![0u8; 11 * message.len()]);
-    let (mut output, mut other_output) = (vec![0u8; message.len()], vec![0u8; message.len()]);
-
-    assert_eq!(ours(blink_native::check_message(table, message, &mut scratch)), Ok(()), "{name}");
+    let answer = theirs(blink_reference::check_message(table, message, &mut other));
+    assert_eq!(ours(blink_native::check_message(table, message, &mut scratch)), answer, "{name}");
     compare(
         &format!("check: {name}"),
         &mut || _ = black_box(blink_native::check_message(black_box(table), black_box(message), &mut scratch)),
         &mut || _ = black_box(blink_reference::check_message(black_box(table), black_box(message), &mut other)),
     );
+}
+
+/// One message that is accepted: its check, its sheet, the sheet's message, and rewriting. Both sides must write the same bytes.
+fn time_message(case: &messages::Case) {
+    time_check(case);
+    let messages::Case { name, table, message } = case;
+    let (mut scratch, mut other) = (vec![0u8; message.len()], vec![0u8; message.len()]);
+    let (mut room, mut other_room) = (vec![0u8; 11 * message.len()], vec![0u8; 11 * message.len()]);
+    let (mut output, mut other_output) = (vec![0u8; message.len()], vec![0u8; message.len()]);
 
     let length = blink_reference::message_to_sheet(table, message, &mut other, &mut other_room).expect("a sheet");
     let sheet = other_room[..length].to_vec();
@@ -81,6 +87,9 @@ fn main() {
     let cases = messages::cases();
     for case in &cases {
         time_message(case);
+    }
+    for case in &messages::symbol_cases() {
+        time_check(case);
     }
     time_readings(&cases[0]);
 }

@@ -36,9 +36,9 @@ pub fn compare(name: &str, proved: &mut dyn FnMut(), other: &mut dyn FnMut()) {
     let (ours, theirs) = (batch(proved), batch(other));
     let rounds: Vec<_> = (0..ROUNDS).map(|_| (once(proved, ours), once(other, theirs))).collect();
     let middle = |of: fn(&(f64, f64)) -> f64| median(rounds.iter().map(of).collect());
-    println!("{name:<34} {:>10.3} {:>10.3} {:>7.2}", middle(|r| r.0) * 1e6, middle(|r| r.1) * 1e6, middle(|r| r.0 / r.1));
+    println!("{name:<40} {:>10.3} {:>10.3} {:>7.2}", middle(|r| r.0) * 1e6, middle(|r| r.1) * 1e6, middle(|r| r.0 / r.1));
 }
 
 pub fn heading(proved: &str, other: &str) {
-    println!("{:<34} {proved:>10} {other:>10} {:>7}", "microseconds a call, median", "ratio");
+    println!("{:<40} {proved:>10} {other:>10} {:>7}", "microseconds a call, median", "ratio");
 }

@@ -89,14 +89,13 @@ fn small_groups() -> Case {
     Case { name: "2,700 small groups", table, message: dynamic(1, &4u32.to_le_bytes(), &sequence_of(&groups)) }
 }
 
-/// Symbols of long and of short enumerations. The last case is refused for its last symbol.
+/// What the search for a symbol costs, whichever it is, in short and in long lists. The last case is refused for its last symbol.
 pub fn symbol_cases() -> Vec<Case> {
     vec![
         symbols("10,000 symbols, the only one", 1, |_| 0),
         symbols("10,000 symbols of 2", 2, |i| scattered(i, 2)),
         symbols("10,000 symbols of 4", 4, |i| scattered(i, 4)),
         symbols("10,000 symbols of 8", 8, |i| scattered(i, 8)),
-        symbols("10,000 symbols of 256", 256, |i| scattered(i, 256)),
         symbols("10,000 times the first of 256", 256, |_| 0),
         symbols("10,000 times the middle of 256", 256, |_| 128),
         symbols("10,000 times the last of 256", 256, |_| 255),
@@ -114,6 +113,7 @@ pub fn cases() -> Vec<Case> {
         one_field("60 KB in one string", field(17, false, false, 0, 0), &text(&long)),
         one_field("3,000 short strings", field(17, false, true, 0, 0), &sequence_of(&strings)),
         one_field("10,000 u32", field(5, false, true, 0, 0), &numbers),
+        symbols("10,000 symbols of 256", 256, |i| scattered(i, 256)),
         nested(),
         small_groups(),
     ]

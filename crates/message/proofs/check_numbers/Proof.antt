@@ -5,14 +5,12 @@ use native.Mathlib.Nat.{sub-zero}
 use mathlib.Core.Path.{_≡_, sym, _∙_, refl}
 use mathlib.Core.List.{List}
 use lib.ListN.{length}
-use Rattle.schema.specs.Schema.{kindWidth}
 use Rattle.schema.specs.Table.{enums}
 use Rattle.schema.specs.Layout.{widthIn}
 use Rattle.schema.specs.FieldKinds.{testedKind}
 use Rattle.message.specs.Walk.{here, strict, Reader, Inner, itemsR}
 use Rattle.message.specs.Count.{count}
 use Rattle.message.specs.Check.{after, itemR}
-use Rattle.message.proofs.CheckAnswers.{bounded}
 use Rattle.message.proofs.CheckFields.{items-passed, items-stopped, items-end, items-left}
 use Rattle.message.proofs.check_numbers.Statement.{statement}
 use Rattle.message.proofs.check_numbers.Tie as tie

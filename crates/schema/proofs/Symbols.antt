@@ -1,5 +1,5 @@
 -- An enumeration's symbols where they stand in the table, and the search for one of them: what a step does, and that nine decide.
-use Prim.Native.Nat.{ℕ, zero, suc, _+_, _-_, _*_, _/_, _<_, _≤_, _^_}
+use Prim.Native.Nat.{ℕ, zero, suc, _+_, _-_, _*_, _/_, _%_, _<_, _≤_, _^_}
 use mathlib.Core.Path.{_≡_, refl, sym, ap, _∙_}
 use mathlib.Core.Logic.{_⊎_, inl, inr}
 use mathlib.Core.Bool.{Bool, true, false, cond, _||_}
@@ -9,6 +9,9 @@ use native.Mathlib.Nat.{pow-succ'}
 use lib.ListN.{length, drop, getD}
 use lib.Seq.{drop-drop}
 use lib.Dec.{ltb, eqb}
+use lib.IntN.{pos, negsuc}
+use lib.Signed.{ltZ}
+use Rattle.wire.specs.Bytes.{signed}
 use borrow.Author.Tests.{eq-eqb, ne-eqb, eqb-true, eqb-false, ltb-true, ltb-false, lt-ltb, le-ltb}
 use Rattle.schema.specs.Schema.{member}
 use Rattle.schema.specs.Symbols.{rank, Ordered, start, halve, steps}
@@ -44,6 +47,34 @@ module _ (t k : List ℕ) (l : Layout t k) (e : ℕ) (h : e < 64) where
     pub symbol-stands : symbolValue (drop (symbolPlace k e + 16 * i) t) ≡ getD symbols i 0
     symbol-stands =
         sym (rw (l .symbols e h) (values-at (symbolTotal k e) i (drop (symbolPlace k e) t) (omega (arith, symbols-count)) ∙ rw (drop-drop (16 * i) (symbolPlace k e) t)))
+
+-- THEIR ORDER
+
+same-order : (a b c d : ℕ) → (a < b → c < d) → (b ≤ a → d ≤ c) → ltb a b ≡ ltb c d
+same-order a b c d f g = go (ltb a b) refl
+  where
+    go : (x : Bool) → ltb a b ≡ x → x ≡ ltb c d
+    go true e = sym (lt-ltb c d (f (ltb-true a b e)))
+    go false e = sym (le-ltb c d (g (ltb-false a b e)))
+
+pub rank-order : (v w : ℕ) → v < 2 ^ 32 → w < 2 ^ 32 → ltb (rank v) (rank w) ≡ ltZ (signed 31 v) (signed 31 w)
+unfolding rank
+rank-order v w h l = go (ltb v (2 ^ 31)) (ltb w (2 ^ 31)) refl refl
+  where
+    a : ℕ
+    a = (v + 0x80000000) % 0x100000000
+
+    b : ℕ
+    b = (w + 0x80000000) % 0x100000000
+
+    go : (c d : Bool) → ltb v (2 ^ 31) ≡ c → ltb w (2 ^ 31) ≡ d → ltb a b ≡ ltZ (cond c (pos v) (negsuc (2 ^ 32 - 1 - v))) (cond d (pos w) (negsuc (2 ^ 32 - 1 - w)))
+    go true true p q = let x = ltb-true v (2 ^ 31) p in let y = ltb-true w (2 ^ 31) q in same-order a b v w (λ z. omega arith) (λ z. omega arith)
+    go true false p q = let x = ltb-true v (2 ^ 31) p in let y = ltb-false w (2 ^ 31) q in le-ltb a b (omega arith)
+    go false true p q = let x = ltb-false v (2 ^ 31) p in let y = ltb-true w (2 ^ 31) q in lt-ltb a b (omega arith)
+    go false false p q =
+        let x = ltb-false v (2 ^ 31) p in
+        let y = ltb-false w (2 ^ 31) q in
+        same-order a b (2 ^ 32 - 1 - w) (2 ^ 32 - 1 - v) (λ z. omega arith) (λ z. omega arith)
 
 -- MEMBERS
 

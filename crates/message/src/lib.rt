@@ -332,6 +332,7 @@ fn check_number(
     }
 }
 
+// So many numbers in a row, each with its test.
 fn check_numbers(
     table: &[u8],
     index: &[u16],

@@ -15,7 +15,7 @@ pub record Ordered (vs : List ℕ) : Type 0 where
   pub few : length vs ≤ 256
   pub rise : (i j : ℕ) → i < j → j < length vs → rank (getD vs i 0) < rank (getD vs j 0)
 
--- All symbols are in question, and none was found: no symbol has the number of those that there are.
+-- All symbols are in question, and none is found yet: they are numbered from 0, so `length vs` is the number of none.
 abbrev pub start : List ℕ → Search
 start vs = record { at = length vs; first = 0; count = length vs }
 

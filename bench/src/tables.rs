@@ -74,7 +74,8 @@ pub fn enumerations() -> Vec<u8> {
     table
 }
 
-/// 64 groups, each below the one before, with ids.
-pub fn chain() -> Vec<u8> {
-    (0..64u16).flat_map(|number| group(Some(u64::from(number) + 1), number, &[field(5, false, false, 0, 0)])).collect()
+/// Groups with ids, each below the one before and with the same fields. 63 groups of 64 fields are as long as a table may be.
+pub fn chain(groups: u16, fields: usize) -> Vec<u8> {
+    let fields = vec![field(5, false, false, 0, 0); fields];
+    (0..groups).flat_map(|number| group(Some(u64::from(number) + 1), number, &fields)).collect()
 }

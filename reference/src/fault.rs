@@ -1,6 +1,7 @@
-//! Why a question is refused, with document 01's numbers.
+//! Why a question is refused, with the papers' numbers.
 
-/// The fault numbers of document 01. `number as u8` is the paper's number.
+/// The fault numbers of document 01, and 36 of document 02. `number as u8` is
+/// the paper's number.
 #[derive(Clone, Copy, Debug, PartialEq, Eq, PartialOrd, Ord)]
 #[repr(u8)]
 pub enum FaultNumber {
@@ -34,6 +35,7 @@ pub enum FaultNumber {
     TableOutOfRange = 33,
     TableOrder = 34,
     TableWidthOrDepth = 35,
+    TableInheritance = 36,
     SheetEnds = 40,
     MarkNotDue = 41,
     SheetTooLong = 42,
@@ -45,7 +47,7 @@ pub enum FaultNumber {
     OtherKind = 48,
 }
 
-/// A refusal: the first fault in document 01's order, and its place, counted
+/// A refusal: the first fault in the papers' order, and its place, counted
 /// from the first byte of the message, table or sheet.
 #[derive(Clone, Copy, Debug, PartialEq, Eq)]
 pub struct Fault {

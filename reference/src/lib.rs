@@ -2,7 +2,8 @@
 //!
 //! Written from the papers alone, so that a wrong definition in the proved
 //! reader and writer is noticed. "Document 01" is the paper of the house
-//! rules, which decides; "document 004" is the specification of the format.
+//! rules, which decides, "document 02" that of the later changes to them;
+//! "document 004" is the specification of the format.
 //!
 //! A [`Schema`] is prepared once by [`check_table`] and then asked about many
 //! messages. The functions of this module are the same questions in one

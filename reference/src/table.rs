@@ -1,4 +1,5 @@
-//! The table check: faults 30 to 35, in document 01's order.
+//! The table check: faults 30 to 35 in document 01's order, then document
+//! 02's fault 36.
 
 use crate::fault::{require, Fault, FaultNumber};
 use crate::schema::{Field, Group, Record, Schema, Symbols, Type, MAX_ENUMERATIONS, MAX_GROUPS};
@@ -28,7 +29,8 @@ impl<'t> Schema<'t> {
         self.check_records()?;
         let some_id = !self.ids.is_empty();
         require(some_id, FaultNumber::TableOrder, table.len())?;
-        self.measure_groups()
+        self.measure_groups()?;
+        self.check_inheritance()
     }
 
     /// Fault 30, and the table as records.
@@ -195,6 +197,22 @@ impl<'t> Schema<'t> {
             group.width = width as u16;
             group.static_depth = depth;
             group.judged = judged;
+        }
+        Ok(())
+    }
+
+    /// Fault 36, group by group: a field list begins with the super's records.
+    /// The super's own list is held against its super in turn, so a group is
+    /// compared with its direct super alone.
+    fn check_inheritance(&self) -> Result<(), Fault> {
+        for group in &self.groups[..self.group_count] {
+            let head = usize::from(group.first_field) - 1;
+            let super_plus_1 = usize::from(u16_at(&self.records[head], 11));
+            if let Some(above) = super_plus_1.checked_sub(1) {
+                let inherited = self.field_records(&self.groups[above]);
+                let kept = self.field_records(group).starts_with(inherited);
+                require(kept, FaultNumber::TableInheritance, head * RECORD)?;
+            }
         }
         Ok(())
     }

@@ -80,7 +80,8 @@ fn main() {
         ("static tower", tables::tower(false)),
         ("tower of sequences", tables::tower(true)),
         ("64 KiB of enumerations", tables::enumerations()),
-        ("64 groups in a chain", tables::chain()),
+        ("64 groups in a chain", tables::chain(64, 1)),
+        ("63 in a chain, 64 fields each", tables::chain(63, 64)),
     ] {
         time_table(name, &table);
     }

@@ -1,12 +1,8 @@
 -- Laws of tests.
 use mathlib.Core.Path.{_≡_, refl}
-use mathlib.Core.Bool.{Bool, true, false, _||_, and-eq-true-iff}
-use mathlib.Core.List.{List, [], _∷_}
+use mathlib.Core.Bool.{Bool, true, false, _||_}
 use Prim.Native.Nat.{ℕ}
 use native.Mathlib.Omega.{arith}
-use lib.Dec.{eqb}
-use borrow.Author.Tests.{eq-eqb, eqb-true}
-use Rattle.wire.specs.Bytes.{same}
 
 pub true-false : (c : Bool) → c ≡ true → c ≡ false → ⊥
 true-false c e f = let z : _≡_ {A = ℕ} 0 1 = cc in omega arith
@@ -31,21 +27,3 @@ or-unless false d f = f refl
 pub unless-or : (c d : Bool) → c || d ≡ true → c ≡ false → d ≡ true
 unless-or true d e z = absurd (true-false true refl z)
 unless-or false d e z = e
-
--- lists that are the same are equal
-
-pub same-eq : (x y : List ℕ) → same x y ≡ true → x ≡ y
-unfolding same
-same-eq [] [] e = refl
-same-eq [] (y ∷ ys) e = cc
-same-eq (x ∷ xs) [] e = cc
-same-eq (x ∷ xs) (y ∷ ys) e =
-    let h = and-eq-true-iff (eqb x y) (same xs ys) .0 e in
-    let p : x ≡ y = eqb-true x y (h .0) in
-    let q : xs ≡ ys = same-eq xs ys (h .1) in
-    cc
-
-pub same-refl : (x : List ℕ) → same x x ≡ true
-unfolding same
-same-refl [] = refl
-same-refl (x ∷ xs) = rw (eq-eqb x x refl) (same-refl xs)

@@ -1,7 +1,7 @@
 -- Where an item lies, case by case as the code finds it.
 use mathlib.Core.Path.{_≡_, refl}
 use mathlib.Core.Bool.{true, false}
-use mathlib.Core.List.{List}
+use mathlib.Core.List.{List, [], _∷_, _++_}
 use Prim.Native.Nat.{ℕ, zero, suc, _+_, _-_, _*_, _^_, _<_, _≤_}
 use native.Mathlib.Omega.{arith}
 use native.Mathlib.Nat.{sub-zero, mul-zero, add-zero, zero-add, add-assoc, mul-le-mul}
@@ -120,3 +120,11 @@ module _ (sw : ℕ → ℕ) (b : List ℕ) (es : List (List ℕ)) (t : List ℕ)
   laid-at (suc n) (suc k) p at x h e l =
       let q : p + 16 + 16 * k ≡ p + 16 * suc k = omega arith in
       rw (e, drop-drop 16 p t, ← q, ← add-assoc) (laid-at n k (p + 16) _ _ (omega arith) refl (rw (drop-drop 16 p t) at (l .1)))
+
+-- AMONG MORE FIELDS
+
+pub item-front : (sw : ℕ → ℕ) (fs more : List Field) (b : List ℕ) (at n i : ℕ) → n < length fs → itemFrom sw (fs ++ more) b at n i ≡ itemFrom sw fs b at n i
+unfolding itemFrom
+item-front sw [] more b at n i l = absurd (omega arith)
+item-front sw (f ∷ fs) more b at zero i l = refl
+item-front sw (f ∷ fs) more b at (suc n) i l = item-front sw fs more b (at + fieldWidth sw f) n i (omega arith)

@@ -3,7 +3,7 @@
 -- table's bytes, of which the first 16 are the record at hand, and the number of records left.
 use mathlib.Core.Bool.{Bool, false, not, cond, _&&_, _||_}
 use mathlib.Core.List.{List, [], _∷_}
-use Prim.Native.Nat.{ℕ, zero, suc, _+_, _-_, _/_, _%_}
+use Prim.Native.Nat.{ℕ, zero, suc, _+_, _-_, _*_, _/_, _%_}
 use lib.ListN.{length, take, drop, getD}
 use lib.Dec.{leb, ltb, eqb}
 use Rattle.wire.specs.Bytes.{part, le, same, allZero}
@@ -234,12 +234,34 @@ widthsFrom gs g (p ∷ ps) = need (leb (width gs 5 g) 4096 && shallow gs 5 g) (R
 unfoldable pub widthsVerdict : List ℕ → Verdict
 widthsVerdict t = widthsFrom (schema t) 0 (places t)
 
+-- 36, GROUP BY GROUP
+
+-- Document 02, request 5: "A field list must begin with the super group's fields, record for record." t begins with the group's record, s with the
+-- super's. They are compared by their bytes, so a reference to an equal enumeration is another field.
+unfoldable pub beginsWith : List ℕ → List ℕ → Bool
+beginsWith t s = leb (fieldCount s) (fieldCount t) && same (part (16 * fieldCount s) 16 t) (part (16 * fieldCount s) 16 s)
+
+-- The group whose record stands at p has no super, or begins with the fields of its super.
+unfoldable pub inherits : List ℕ → ℕ → Bool
+inherits t p =
+    let super = superNumber (drop p t) in
+    eqb super 0 || beginsWith (drop p t) (drop (getD (places t) (super - 1) 0) t)
+
+unfoldable pub supersFrom : List ℕ → List ℕ → Verdict
+supersFrom t [] = Accepted
+supersFrom t (p ∷ ps) = need (inherits t p) (Refused 36 p) (supersFrom t ps)
+
+unfoldable pub supersVerdict : List ℕ → Verdict
+supersVerdict t = supersFrom t (places t)
+
 -- THE TABLE'S VERDICT
 -- "Table order: 30, then 31 over all records, then 32, 33, 34 record by record, then 34 for no id at all, then 35 group by group."
+-- "New refusal 36, group by group, place the `GR` record, tested after every 35."
 unfoldable pub tableVerdict : List ℕ → Verdict
 tableVerdict t =
     need (ltb 0 (length t) && (leb (length t) 65536 && eqb (length t % 16) 0)) (Refused 30 0)
     (also (shapeVerdict t)
     (also (recordsVerdict t)
     (also (idVerdict t)
-    (widthsVerdict t))))
+    (also (widthsVerdict t)
+    (supersVerdict t)))))

@@ -9,12 +9,11 @@ use lib.Seq.{take-at, drop-at, length-take-le}
 use lib.Dec.{leb, eqb}
 use borrow.Author.Tests.{le-leb, leb-true}
 use Rattle.wire.specs.Bytes.{part, le, bytesOf, same}
-use Rattle.wire.proofs.Laws.{length-bytes}
+use Rattle.wire.proofs.Laws.{length-bytes, same-eq, same-refl}
 use Rattle.schema.specs.Faults.{need}
 use Rattle.schema.specs.Schema.{Test, passes, textOk}
 use Rattle.message.specs.Sheet.{Mark, VA, ST, SG, SQ, GB, XT, XU, markBytes, NO}
 use Rattle.message.specs.Walk.{Reader, byte, prefixed, markedR, optionalR, plainR, inlineR}
-use Rattle.message.proofs.Tests.{same-eq, same-refl}
 use Rattle.message.proofs.Count.{length-mark}
 use Rattle.message.proofs.Sat.{said, sat-need, sat-cond, sat-prefixed, sat-map}
 use Rattle.sheet.specs.Written.{Writing, Writer, headed, grab, due, markedW, optionalW, plainW, counted, inlineW}

@@ -8,6 +8,7 @@ use native.Mathlib.Nat.{sub-zero}
 use lib.ListN.{length, drop, getD, replicate, length-take, length-drop}
 use lib.Seq.{drop-drop}
 use Rattle.wire.specs.Bytes.{part, bytesOf, same}
+use Rattle.wire.proofs.Laws.{same-eq}
 use Rattle.schema.specs.Schema.{Test, flag, below, symbol, Kind, plain, Field, kindWidth, valueWidth, fieldsOf, width}
 use Rattle.schema.specs.Table.{fieldsAt, fieldCount, enums, schema}
 use Rattle.schema.specs.Layout.{groupPlace, Layout}
@@ -18,7 +19,6 @@ use Rattle.schema.specs.declared.Tested.{Tested}
 use Rattle.schema.specs.declared.Tested.the-variants.{Flag, Millis, Nanos, Symbol}
 use Rattle.schema.proofs.Groups.{placed-fields}
 use Rattle.message.specs.Sheet.{SQ, NO, kindMark, fieldMark}
-use Rattle.message.proofs.Tests.{same-eq}
 use Rattle.sheet.specs.Written.{Writing, stopped, wrote, Writer, InnerW, headed, joined, nextW, placed, noneW, markedW, optionalW, indirectW, itemsW, listB, kindW, valueW, fieldW, fieldsW, staticW}
 use Rattle.sheet.specs.Writers.{itemW, markedValueW, plainOf, textOf}
 

@@ -2,20 +2,22 @@
 use mathlib.Core.Path.{_≡_, refl, sym, ap, _∙_}
 use mathlib.Core.Bool.{Bool, true, false, not, cond, _&&_}
 use mathlib.Core.List.{List, [], _∷_}
-use Prim.Native.Nat.{ℕ, zero, suc, _+_, _<_, _≤_}
+use Prim.Native.Nat.{ℕ, zero, suc, _+_, _-_, _<_, _≤_}
 use native.Mathlib.Omega.{arith}
 use lib.ListN.{length, take, drop}
 use lib.Dec.{leb, ltb, eqb}
 use borrow.Author.Tests.{eqb-true, eqb-false, ltb-true, ltb-false, eq-eqb, lt-ltb, not-true}
 use Rattle.schema.specs.declared.Verdict.the-variants.{Accepted}
-use Rattle.schema.specs.Schema.{Group, find, known, superOf, width, shallow}
+use Rattle.schema.specs.Schema.{Group, find, known, fieldsOf, superOf, width, shallow}
 use Rattle.schema.specs.Symbols.{rank}
-use Rattle.schema.specs.Table.{GR, SY, symbolValue, recordVerdict, marked, idFlag, typeId, groupAt, groupsFrom, enumsFrom, placesFrom, recordCount, enums, schema, places, shapeVerdict, groupVerdict, recordsFrom, recordsVerdict, widthsFrom, widthsVerdict, tableVerdict}
+use Rattle.schema.specs.Table.{GR, SY, symbolValue, recordVerdict, marked, idFlag, typeId, groupAt, groupsFrom, enumsFrom, placesFrom, recordCount, enums, schema, places, shapeVerdict, groupVerdict, recordsFrom, recordsVerdict, widthsFrom, widthsVerdict, supersVerdict, tableVerdict}
 use Rattle.table.specs.Measure.{Sound}
+use Rattle.table.specs.Claims.{Begins}
 use Rattle.table.proofs.Laws.{record-group}
 use Rattle.table.proofs.Records.{drop-next, symbol-no-group, symbol-no-enum, field-no-group, field-no-enum, enum-no-group, group-no-enum, group-no-field, group-no-symbol}
 use Rattle.schema.proofs.Depth.{and-both}
 use Rattle.table.proofs.Formed.{need-accepted, also-accepted, Formed, end, symbol, field, enum, group, formed, shallow-out, schema-sound, supers-low}
+use Rattle.table.proofs.Supers.{groups-placed, begins-super}
 
 -- HOW MANY
 
@@ -34,15 +36,6 @@ few-enums {t = t} (symbol _ _ m f) l = rw (symbol-no-enum t m) (few-enums f l)
 few-enums {t = t} (field _ _ m f) l = rw (field-no-enum t m) (few-enums f l)
 few-enums {t = t} (enum _ _ m k _ f) l = let r = few-enums f (omega arith) in rw m (omega (arith, r))
 few-enums {t = t} (group _ m _ f) l = rw (group-no-enum t m) (few-enums f l)
-
-same-many : (es : List (List ℕ)) (n p : ℕ) (t : List ℕ) → length (placesFrom n p t) ≡ length (groupsFrom es n t)
-unfolding placesFrom groupsFrom
-same-many es zero p t = refl
-same-many es (suc n) p t = go (marked GR t) _ _ (same-many es n (p + 16) (drop 16 t))
-  where
-    go : (c : Bool) (ps : List ℕ) (gs : List Group) → length ps ≡ length gs → length (cond c (p ∷ ps) ps) ≡ length (cond c (groupAt es t ∷ gs) gs)
-    go true ps gs e = ap suc e
-    go false ps gs e = e
 
 -- 35
 
@@ -136,6 +129,7 @@ pub record Sane (t : List ℕ) : Type 0 where
   pub shallows : (g : ℕ) → shallow (schema t) 5 g ≡ true
   pub sound : Sound (schema t)
   pub supers : (g : ℕ) → superOf (schema t) g ≤ g
+  pub begins : (g : ℕ) → 0 < superOf (schema t) g → Begins (fieldsOf (schema t) g) (fieldsOf (schema t) (superOf (schema t) g - 1))
   pub groups : length (schema t) ≤ 64
   pub lists : length (enums t) ≤ 64
   pub fresh : (g id : ℕ) → Names (schema t) g id → known (take g (schema t)) id ≡ false
@@ -146,18 +140,19 @@ accepted t e = record {
   shallows = λ g. shallows g (ltb g (length (schema t))) refl;
   sound = schema-sound t shape records;
   supers = supers-low t shape records;
+  begins = begins-super t (supers-low t shape records) (phases .3);
   groups = groups;
   lists = lists;
   fresh = new;
   unique = unique;
 }
   where
-    phases : (shapeVerdict t ≡ Accepted) × (recordsVerdict t ≡ Accepted) × (widthsVerdict t ≡ Accepted)
+    phases : (shapeVerdict t ≡ Accepted) × (recordsVerdict t ≡ Accepted) × (widthsVerdict t ≡ Accepted) × (supersVerdict t ≡ Accepted)
     phases = unfold tableVerdict in
         let a = also-accepted _ _ (need-accepted _ _ _ _ e .1) in
         let b = also-accepted _ _ (a .1) in
-        let c = also-accepted _ _ (b .1) in
-        (a .0, b .0, c .1)
+        let c = also-accepted _ _ (also-accepted _ _ (b .1) .1) in
+        (a .0, b .0, c .0, c .1)
 
     shape : shapeVerdict t ≡ Accepted
     shape = phases .0
@@ -174,8 +169,8 @@ accepted t e = record {
     lists : length (enums t) ≤ 64
     lists = unfold enums in omega (arith, few-enums form (omega arith))
 
-    many : length (places t) ≡ length (schema t)
-    many = unfold places schema in same-many (enums t) (recordCount t) 0 t
+    many : length (schema t) ≡ length (places t)
+    many = groups-placed t
 
     shallows : (g : ℕ) (c : Bool) → ltb g (length (schema t)) ≡ c → shallow (schema t) 5 g ≡ true
     shallows g true q = unfold widthsVerdict in

@@ -11,7 +11,7 @@ use Rattle.schema.specs.declared.Verdict.{Verdict}
 use Rattle.schema.specs.declared.Verdict.the-variants.{Accepted, Refused}
 use Rattle.schema.specs.Faults.{need, also}
 use Rattle.schema.specs.Schema.{Kind, Group, fieldsOf, superOf, width, shallowFields, shallow}
-use Rattle.schema.specs.Table.{EN, SY, GR, FD, marked, symbolCount, superNumber, fieldCount, fieldType, fieldSize, reference, scalarWidths, scalarWidth, kindOf, fieldAt, fieldsAt, groupAt, groupsFrom, recordCount, enums, schema, Due, isEnum, isDue, dueAfter, shapeFrom, shapeVerdict, sizeOk, referenceOk, fieldVerdict, groupVerdict, recordsFrom, recordsVerdict, anyId, idVerdict, widthsVerdict, tableVerdict}
+use Rattle.schema.specs.Table.{EN, SY, GR, FD, marked, symbolCount, superNumber, fieldCount, fieldType, fieldSize, reference, scalarWidths, scalarWidth, kindOf, fieldAt, fieldsAt, groupAt, groupsFrom, recordCount, enums, schema, Due, isEnum, isDue, dueAfter, shapeFrom, shapeVerdict, sizeOk, referenceOk, fieldVerdict, groupVerdict, recordsFrom, recordsVerdict, anyId, idVerdict, widthsVerdict, supersVerdict, tableVerdict}
 use Rattle.schema.specs.Symbols.{Ordered}
 use Rattle.schema.specs.Layout.{widthIn, Layout}
 use Rattle.table.specs.Index.{Whole, Placing}
@@ -272,6 +272,6 @@ module _ (t : List ℕ) where
         unfolding tableVerdict idVerdict
         after-ids e = sym (need-yes _ _ _ z ∙ also-pass _ _ s ∙ also-pass _ _ r ∙ also-stop _ _ 34 (length t) (need-no _ _ _ e))
 
-        pub after-35 : anyId (schema t) ≡ true → widthsVerdict t ≡ tableVerdict t
+        pub by-groups : anyId (schema t) ≡ true → also (widthsVerdict t) (supersVerdict t) ≡ tableVerdict t
         unfolding tableVerdict idVerdict
-        after-35 e = sym (need-yes _ _ _ z ∙ also-pass _ _ s ∙ also-pass _ _ r ∙ also-pass _ _ (need-yes _ _ _ e))
+        by-groups e = sym (need-yes _ _ _ z ∙ also-pass _ _ s ∙ also-pass _ _ r ∙ also-pass _ _ (need-yes _ _ _ e))

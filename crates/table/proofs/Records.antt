@@ -10,6 +10,7 @@ use lib.Seq.{drop-drop, getD-set-same, getD-set-other, drop-cons}
 use lib.Dec.{leb, ltb, eqb}
 use borrow.Author.Tests.{eq-eqb, ne-eqb, eqb-true, eqb-false, leb-true, ltb-true, ltb-false, lt-ltb, le-ltb}
 use Rattle.wire.specs.Bytes.{same}
+use Rattle.wire.proofs.Laws.{same-eq}
 use Rattle.schema.specs.Schema.{Group}
 use Rattle.schema.specs.Symbols.{rank}
 use Rattle.schema.specs.Table.{EN, SY, GR, FD, marked, symbolCount, symbolValue, fieldCount, valuesAt, groupAt, enumsFrom, groupsFrom, placesFrom, recordCount, enums, schema, places, Due, isEnum, isDue, dueAfter, shapeFrom, shapeVerdict, recordVerdict, recordsFrom, recordsVerdict}
@@ -23,16 +24,9 @@ use Rattle.table.proofs.Laws.{never}
 
 -- MARKS
 
-pub same-is : (xs ys : List ℕ) → same xs ys ≡ true → xs ≡ ys
-unfolding same
-same-is [] [] e = refl
-same-is [] (y ∷ ys) e = absurd (let z : _≡_ {A = ℕ} 0 1 = cc in omega arith)
-same-is (x ∷ xs) [] e = absurd (let z : _≡_ {A = ℕ} 0 1 = cc in omega arith)
-same-is (x ∷ xs) (y ∷ ys) e = let h = and-both (eqb x y) (same xs ys) e in let f = eqb-true x y (h .0) in let r = same-is xs ys (h .1) in rw (f, r)
-
 -- a record has one mark
 pub other-mark : (t m n : List ℕ) → marked m t ≡ true → marked n t ≡ same m n
-other-mark t m n e = rw (same-is (take 2 t) m e)
+other-mark t m n e = rw (same-eq (take 2 t) m e)
 
 module _ (t : List ℕ) where
   pub enum-no-group : marked EN t ≡ true → marked GR t ≡ false

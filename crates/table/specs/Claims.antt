@@ -1,16 +1,37 @@
--- Of every accepted table, request 4 (document 02): "symbols rise", and "nine steps decide any list".
-use Prim.Native.Nat.{ℕ}
+-- Of every accepted table, what document 02's requests 4 and 5 say of it.
+use Prim.Native.Nat.{ℕ, _-_, _<_}
 use mathlib.Core.Path.{_≡_}
-use mathlib.Core.List.{List, []}
-use lib.ListN.{getD}
+use mathlib.Core.Bool.{true}
+use mathlib.Core.List.{List, [], _++_}
+use lib.ListN.{length, take, getD}
 use Rattle.schema.specs.declared.Verdict.the-variants.{Accepted}
+use Rattle.schema.specs.Schema.{Field, Group, fieldsWidth, fieldsOf, superOf, under}
 use Rattle.schema.specs.Symbols.{Ordered, start, steps}
-use Rattle.schema.specs.Table.{enums, tableVerdict}
+use Rattle.schema.specs.Table.{enums, schema, tableVerdict}
 use Rattle.schema.specs.Claims.{Decides}
 
+-- Request 4: "symbols rise", and "nine steps decide any list".
 pub record Lists (t : List ℕ) : Type 0 where
   pub ordered : (e : ℕ) → Ordered (getD (enums t) e [])
   pub nine : (e v : ℕ) → Decides (getD (enums t) e []) v (steps 9 (getD (enums t) e []) v (start (getD (enums t) e [])))
 
+-- The fields xs begin with the fields ys.
+abbrev pub Begins : List Field → List Field → Type 0
+Begins xs ys = (rest : List Field) × (xs ≡ ys ++ rest)
+
+-- Field n of group g is field n of group a, and stands at the same place behind the head, whatever the widths of static groups.
+pub record SameField (gs : List Group) (a g n : ℕ) : Type 0 where
+  pub there : n < length (fieldsOf gs g)
+  pub same : (none : Field) → getD (fieldsOf gs g) n none ≡ getD (fieldsOf gs a) n none
+  pub place : (sw : ℕ → ℕ) → fieldsWidth sw (take n (fieldsOf gs g)) ≡ fieldsWidth sw (take n (fieldsOf gs a))
+
+-- Request 5: "A field list must begin with the super group's fields", and so with those of every group above it.
+pub record Inherits (gs : List Group) : Type 0 where
+  pub super : (g : ℕ) → 0 < superOf gs g → Begins (fieldsOf gs g) (fieldsOf gs (superOf gs g - 1))
+  pub above : (a g : ℕ) → under gs g a g ≡ true → Begins (fieldsOf gs g) (fieldsOf gs a)
+  -- "we read density as speed": what is read as a field of a is that field in every group below a too
+  pub field : (a g n : ℕ) → under gs g a g ≡ true → n < length (fieldsOf gs a) → SameField gs a g n
+
 pub record AcceptedTables : Type 0 where
   pub lists : (t : List ℕ) → tableVerdict t ≡ Accepted → Lists t
+  pub inherits : (t : List ℕ) → tableVerdict t ≡ Accepted → Inherits (schema t)

@@ -8,7 +8,7 @@ use lib.Dec.{ltb, leb}
 use Rattle.schema.specs.declared.Verdict.{Verdict}
 use Rattle.schema.specs.declared.Verdict.the-variants.{Accepted}
 use Rattle.schema.specs.Schema.{Kind, plain, inline, indirect, static, dynamic, Field, Group, fieldsOf, fieldsWidth, width, shallowFields, shallow}
-use Rattle.schema.specs.Table.{schema, widthsVerdict}
+use Rattle.schema.specs.Table.{schema}
 use Rattle.schema.specs.Layout.{staticDepth}
 use Rattle.table.specs.declared.Extent.{Extent}
 use Rattle.table.specs.Index.{Placing}
@@ -57,8 +57,8 @@ pub record Summed (gs : List Group) (fs rest : List Field) (w depth : ℕ) (fill
   pub deep : (d : ℕ) → shallowFields (shallow gs d) (width gs d) fs ≡ ((filled && leb depth d) && shallowFields (shallow gs d) (width gs d) rest)
   pub wide : (d : ℕ) → shallowFields (shallow gs d) (width gs d) fs ≡ true → fieldsWidth (width gs d) fs ≡ w + fieldsWidth (width gs d) rest
 
--- What 35's check answers, and what it leaves in the index.
-pub record Judged (t k : List ℕ) (r : Verdict) : Type 0 where
-  pub verdict : r ≡ widthsVerdict t
+-- What a check of the groups answers, where the definition says v, and what it leaves in the index.
+pub record Judged (v r : Verdict) (t k : List ℕ) : Type 0 where
+  pub verdict : r ≡ v
   pub placing : r ≡ Accepted → Placing t k
   pub known : r ≡ Accepted → Known t k (length (schema t))

@@ -7,13 +7,14 @@ ghost use lib.ListN.{length, drop, set, replicate};
 ghost use lib.Dec.{ltb, eqb};
 ghost use Rattle.wire.specs.Bytes.{part, allZero};
 ghost use Rattle.schema.specs.Symbols.{rank};
-ghost use Rattle.schema.specs.Table.{SY, GR, marked, idFlag, optionalFlag, sequenceFlag, isDue, isEnum, shapeVerdict, enumVerdict, symbolVerdict, groupVerdict, sizeOk, referenceOk, fieldVerdict, recordVerdict, recordsVerdict, anyId, enums, schema, tableVerdict, symbolValue, fieldType, reference, fieldAt};
-ghost use Rattle.schema.specs.Layout.{Placed};
+ghost use Rattle.schema.specs.Table.{SY, GR, marked, idFlag, optionalFlag, sequenceFlag, isDue, isEnum, shapeVerdict, enumVerdict, symbolVerdict, groupVerdict, sizeOk, referenceOk, fieldVerdict, recordVerdict, recordsVerdict, anyId, enums, schema, tableVerdict, symbolValue, fieldCount, fieldType, reference, fieldAt, widthsVerdict, beginsWith, inherits, supersVerdict};
+ghost use Rattle.schema.specs.Faults.{also};
+ghost use Rattle.schema.specs.Layout.{groupPlace, Placed};
 ghost use Rattle.table.specs.Index.{dueOf, Whole, Begun, Placing, Shaped, Taken, Checked};
 ghost use Rattle.table.specs.Measure.{Sound, Known, Judged, Answer};
 ghost use mathlib.Core.List.{List};
 ghost use Rattle.schema.specs.declared.Verdict.the-variants.{Accepted};
-ghost use Rattle.schema.specs.Schema.{valueWidth, fieldWidth};
+ghost use Rattle.schema.specs.Schema.{superOf, valueWidth, fieldWidth};
 
 const EN: [u8; 2] = *b"EN";
 
@@ -477,7 +478,7 @@ fn place_extent(index: &mut [u16], g: usize, extent: Extent)
 // Each group is looked at once, from the lowest number on, so that no table makes this slow.
 fn check_widths(table: &[u8], index: &mut [u16]) -> schema::Verdict
     requires { ⌜ (Placing (now table) (now index)) × (Known (now table) (now index) 0) × (Sound (schema (now table))) ⌝ }
-    ensures { λ r. ⌜ Judged (now (table .entry)) (now (index .exit)) r ⌝ }
+    ensures { λ r. ⌜ Judged (widthsVerdict (now (table .entry))) r (now (table .entry)) (now (index .exit)) ⌝ }
 {
     let groups = index[320] as usize;
     let mut g = 0;
@@ -493,6 +494,64 @@ fn check_widths(table: &[u8], index: &mut [u16]) -> schema::Verdict
         g += 1;
     }
     schema::Verdict::Accepted
+}
+
+// 36
+
+// Whether the fields of the group whose record stands at p begin with those of the group at
+// `above`, record for record.
+fn begins_with(table: &[u8], p: usize, above: usize) -> bool
+    requires { ⌜ (p + 16 + 16 * fieldCount (drop p (now table)) ≤ length (now table)) × (above + 16 + 16 * fieldCount (drop above (now table)) ≤ length (now table)) ⌝ }
+    ensures { λ r. ⌜ r ≡ beginsWith (drop p (now (table .entry))) (drop above (now (table .entry))) ⌝ }
+{
+    let count = schema::field_count(table, above);
+    if schema::field_count(table, p) < count {
+        return false;
+    }
+    wire::same(table, p + 16, table, above + 16, 16 * count)
+}
+
+// Whether group number g has no super, or begins with the fields of its super.
+fn inherits(table: &[u8], index: &[u16], g: usize) -> bool
+    requires { ⌜ (Placing (now table) (now index)) × (g < length (schema (now table))) × (superOf (schema (now table)) g ≤ g) ⌝ }
+    ensures { λ r. ⌜ r ≡ inherits (now (table .entry)) (groupPlace (now (index .entry)) g) ⌝ }
+{
+    let p = schema::group_place(index, g);
+    let above = schema::super_number(table, p);
+    if above == 0 {
+        return true;
+    }
+    begins_with(table, p, schema::group_place(index, above - 1))
+}
+
+fn check_supers(table: &[u8], index: &[u16]) -> schema::Verdict
+    requires { ⌜ (Placing (now table) (now index)) × ((g : ℕ) → superOf (schema (now table)) g ≤ g) ⌝ }
+    ensures { λ r. ⌜ r ≡ supersVerdict (now (table .entry)) ⌝ }
+{
+    let groups = schema::group_total(index);
+    let mut g = 0;
+    while g < groups {
+        if !inherits(table, index, g) {
+            return schema::Verdict::Refused {
+                number: 36,
+                place: schema::group_place(index, g),
+            };
+        }
+        g += 1;
+    }
+    schema::Verdict::Accepted
+}
+
+// 35 group by group, and then 36.
+fn check_groups(table: &[u8], index: &mut [u16]) -> schema::Verdict
+    requires { ⌜ (Placing (now table) (now index)) × (Known (now table) (now index) 0) × (Sound (schema (now table))) × ((g : ℕ) → superOf (schema (now table)) g ≤ g) ⌝ }
+    ensures { λ r. ⌜ Judged (also (widthsVerdict (now (table .entry))) (supersVerdict (now (table .entry)))) r (now (table .entry)) (now (index .exit)) ⌝ }
+{
+    let widths = check_widths(table, index);
+    match widths {
+        schema::Verdict::Accepted => check_supers(table, index),
+        schema::Verdict::Refused { number, place } => schema::Verdict::Refused { number, place },
+    }
 }
 
 // Whether a table is accepted, or its first fault.
@@ -535,5 +594,5 @@ pub fn index_table(table: &[u8], index: &mut [u16]) -> schema::Verdict
             place: bytes,
         };
     }
-    check_widths(table, index)
+    check_groups(table, index)
 }

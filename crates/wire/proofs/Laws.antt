@@ -1,13 +1,16 @@
--- Laws of parts, splices and little-endian numbers, for the crates above to cite.
+-- Laws of parts, sameness, splices and little-endian numbers, for the crates above to cite.
 use Prim.Native.Nat.{ℕ, zero, suc, _+_, _-_, _*_, _/_, _%_, _^_, _<_, _≤_}
 use mathlib.Core.Path.{_≡_, refl, sym, ap, _∙_}
+use mathlib.Core.Bool.{true, and-eq-true-iff}
 use mathlib.Core.List.{List, [], _∷_, _++_, append-assoc}
 use native.Mathlib.Omega.{arith}
 use native.Mathlib.Numerals.{add-one}
 use native.Mathlib.Nat.{zero-add, suc-add, add-assoc, pow-succ', mul-assoc, div-div-eq-div-mul, div-one}
 use lib.ListN.{length, getD, set, take, drop, length-append, length-take, length-drop, length-set, take-append-drop}
 use lib.Seq.{drop-cons, drop-drop, take-add, take-take, take-all, take-nil, take-at, drop-at, take-suc-set, drop-set-lt}
-use Rattle.wire.specs.Bytes.{part, splice, le, bytesOf}
+use lib.Dec.{eqb}
+use borrow.Author.Tests.{eq-eqb, eqb-true}
+use Rattle.wire.specs.Bytes.{part, splice, le, bytesOf, same}
 
 -- PARTS
 
@@ -33,6 +36,24 @@ part-part m p n at s h =
     let e : n ≡ p + (n - p) = omega arith in
     ap (λ (k : ℕ). take m (drop p (take k (drop at s)))) e
     ∙ rw (drop-take p (n - p) (drop at s), drop-drop) (take-take m (n - p) (drop (at + p) s) (omega arith))
+
+-- SAMENESS
+
+pub same-eq : (x y : List ℕ) → same x y ≡ true → x ≡ y
+unfolding same
+same-eq [] [] e = refl
+same-eq [] (y ∷ ys) e = cc
+same-eq (x ∷ xs) [] e = cc
+same-eq (x ∷ xs) (y ∷ ys) e =
+    let h = and-eq-true-iff (eqb x y) (same xs ys) .0 e in
+    let p : x ≡ y = eqb-true x y (h .0) in
+    let q : xs ≡ ys = same-eq xs ys (h .1) in
+    cc
+
+pub same-refl : (x : List ℕ) → same x x ≡ true
+unfolding same
+same-refl [] = refl
+same-refl (x ∷ xs) = rw (eq-eqb x x refl) (same-refl xs)
 
 -- SPLICES
 

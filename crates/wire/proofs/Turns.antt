@@ -64,6 +64,18 @@ module _ (n at : ℕ) (s : List ℕ) where
   unfolding allAscii
   ascii-end a i h = rw (rest-none i h) (and-true a)
 
+-- TWO PARTS
+
+module _ (n at from : ℕ) (a b : List ℕ) where
+  pub same-turn : (z : Bool) (i : ℕ) → i < n → at + n ≤ length a → from + n ≤ length b
+      → z && same (rest n at i a) (rest n from i b) ≡ z && eqb (getD a (at + i) 0) (getD b (from + i) 0) && same (rest n at (i + 1) a) (rest n from (i + 1) b)
+  unfolding same
+  same-turn z i h l r = rw (rest-more n at a i h l, rest-more n from b i h r) (sym (and-assoc z _ _))
+
+  pub same-end : (z : Bool) (i : ℕ) → n ≤ i → z && same (rest n at i a) (rest n from i b) ≡ z
+  unfolding same
+  same-end z i h = rw (rest-none n at a i h, rest-none n from b i h) (and-true z)
+
 -- FILLS
 
 module _ (n at i : ℕ) (out : List ℕ) where

@@ -171,6 +171,20 @@ pub fn all_zero(s: &[u8], at: usize, n: usize) -> bool
     zero
 }
 
+// Whether the n bytes of `a` from `at` on are those of `b` from `from` on. Vector code too.
+pub fn same(a: &[u8], at: usize, b: &[u8], from: usize, n: usize) -> bool
+    requires { ⌜ (at + n ≤ length (now a)) × (from + n ≤ length (now b)) ⌝ }
+    ensures { λ r. ⌜ r ≡ same (part n at (now (a .entry))) (part n from (now (b .entry))) ⌝ }
+{
+    let mut equal = true;
+    let mut i = 0;
+    while i < n {
+        equal = equal & (a[at + i] == b[from + i]);
+        i += 1;
+    }
+    equal
+}
+
 // How many of the n bytes from `at` on are zero before the first that is not.
 pub fn count_zeros(s: &[u8], at: usize, n: usize) -> usize
     requires { ⌜ at + n ≤ length (now s) ⌝ }

@@ -294,11 +294,11 @@ fn damage_table_record(random: &mut Random, mut table: Vec<u8>) -> Vec<u8> {
     table
 }
 
-/// Faults that take more than a byte: 34 and 35.
+/// Faults that take more than a byte: 34, 35 and 36.
 fn damage_plan(random: &mut Random, plan: &TablePlan) -> Vec<u8> {
     let mut plan = plan.clone();
     let number = random.below(plan.groups.len());
-    match random.below(6) {
+    match random.below(7) {
         0 => plan.groups.iter_mut().for_each(|group| group.id = None),
         1 => plan.groups.push(GroupPlan { id: plan.groups[number].id, ..GroupPlan::default() }),
         2 if !plan.enumerations.is_empty() => plan.enumerations[0].push(i32::MIN),
@@ -311,13 +311,47 @@ fn damage_plan(random: &mut Random, plan: &TablePlan) -> Vec<u8> {
             let empty = field(Type::StaticGroup).of(plan.groups.len() as u16 - 1);
             plan.groups.push(GroupPlan { fields: vec![empty.optional()], ..GroupPlan::default() });
         }
-        _ => {
+        5 => {
             plan.groups.push(GroupPlan { fields: vec![field(Type::U8)], ..GroupPlan::default() });
             for _ in 0..4 + random.below(2) {
                 let below = field(Type::StaticGroup).of(plan.groups.len() as u16 - 1);
                 plan.groups.push(GroupPlan { fields: vec![below], ..GroupPlan::default() });
             }
         }
+        _ => forget_super(random, &mut plan),
     }
     plan.encode()
+}
+
+/// Fault 36: some group does not begin with its super's fields any more (by
+/// chance, it still does). If there are no inherited fields, a group with
+/// some is added.
+pub fn forget_super(random: &mut Random, plan: &mut TablePlan) {
+    let mut children: Vec<(usize, u16)> = (0..plan.groups.len())
+        .filter_map(|number| plan.groups[number].above.map(|above| (number, above)))
+        .filter(|&(_, above)| !plan.inherited(Some(above)).is_empty())
+        .collect();
+    if children.is_empty() {
+        let above = random.below(plan.groups.len()) as u16;
+        let fields = plan.inherited(Some(above)).to_vec();
+        if fields.is_empty() {
+            return;
+        }
+        children.push((plan.groups.len(), above));
+        plan.groups.push(GroupPlan { id: None, above: Some(above), fields });
+    }
+    let (child, above) = random.pick(&children);
+    let count = plan.inherited(Some(above)).len();
+    let at = random.below(count);
+    let fields = &mut plan.groups[child].fields;
+    match random.below(8) {
+        0 => fields.truncate(at),
+        1 => drop(fields.remove(at)),
+        2 => fields.insert(at, field(Type::U8)),
+        3 => fields.rotate_left(1),
+        4 => fields[..count].reverse(),
+        5 => fields[at].sequence ^= true,
+        6 => fields[count - 1].optional ^= true,
+        _ => plan.groups[usize::from(above)].fields.push(field(Type::U8)),
+    }
 }

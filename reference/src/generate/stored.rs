@@ -9,7 +9,7 @@ use crate::vectors::{answer_lines, encode, stored_length, Entry, FILES};
 use crate::FaultNumber;
 
 /// How many random batches are looked at.
-const BATCHES: u64 = 2_500;
+const BATCHES: u64 = 3_500;
 /// Longer random inputs are left out, but for zeros at their end.
 const LONGEST: usize = 320;
 /// Questions under a longer random table too: long lists of symbols are

@@ -4,7 +4,7 @@
 use super::random::Random;
 use crate::Type;
 
-#[derive(Clone, Copy, Debug)]
+#[derive(Clone, Copy, Debug, PartialEq, Eq)]
 pub struct FieldPlan {
     pub ty: Type,
     pub optional: bool,
@@ -93,9 +93,17 @@ impl TablePlan {
         self.add(None, None, fields)
     }
 
-    /// Adds a group with an id below another one.
+    /// Adds a group with an id below another one. It has just these fields,
+    /// whatever its super has.
     pub fn below(self, above: u16, id: u64, fields: &[FieldPlan]) -> TablePlan {
         self.add(Some(id), Some(above), fields)
+    }
+
+    /// Adds a group with an id below another one: that one's fields, then
+    /// its own.
+    pub fn child(self, above: u16, id: u64, own: &[FieldPlan]) -> TablePlan {
+        let fields = [self.inherited(Some(above)), own].concat();
+        self.below(above, id, &fields)
     }
 
     fn add(mut self, id: Option<u64>, above: Option<u16>, fields: &[FieldPlan]) -> TablePlan {
@@ -117,6 +125,11 @@ impl TablePlan {
         }
         table.extend(self.groups.iter().flat_map(|group| group.encode()));
         table
+    }
+
+    /// The fields that a group with this super has to begin with.
+    pub fn inherited(&self, above: Option<u16>) -> &[FieldPlan] {
+        above.map_or(&[], |above| &self.groups[usize::from(above)].fields)
     }
 
     /// Where each group's `GR` record starts.
@@ -192,7 +205,7 @@ pub fn random_table(random: &mut Random) -> TablePlan {
         let last = number + 1 == groups && plan.groups_with_id().is_empty();
         let id = (last || !random.one_in(4)).then(|| random_id(random, &plan));
         let above = (number > 0 && random.one_in(2)).then(|| random.below(number) as u16);
-        let mut group = GroupPlan { id, above, fields: Vec::new() };
+        let mut group = GroupPlan { id, above, fields: plan.inherited(above).to_vec() };
         for _ in 0..random.below(6) {
             group.fields.push(random_field(random, &plan, groups));
         }
@@ -239,8 +252,10 @@ pub fn random_id(random: &mut Random, plan: &TablePlan) -> u64 {
 /// all, a dynamic field may name any.
 fn random_field(random: &mut Random, plan: &TablePlan, groups: usize) -> FieldPlan {
     // A static group has some width, and one level of depth is left above it.
+    // With inherited fields a group has thirty at most, which stay within a
+    // group's width if no static group is wider than this.
     let statics: Vec<usize> = (0..plan.groups.len())
-        .filter(|&group| (1..=400).contains(&plan.width(group)) && plan.static_depth(group) < 4)
+        .filter(|&group| (1..=130).contains(&plan.width(group)) && plan.static_depth(group) < 4)
         .collect();
     let ty = random.pick(&Type::ALL);
     // Static groups are made more frequent, so that they nest.

@@ -1,7 +1,7 @@
 use mathlib.Core.Path.{sym, _∙_}
 use borrow.Author.Needs.{needs}
 use borrow.Author.Tests.{not-true, not-false}
-use Rattle.table.proofs.Formed.{whole-of, after-30, after-31, after-34, after-ids, after-35, schema-sound, supers-low, layout-of}
+use Rattle.table.proofs.Formed.{whole-of, after-30, after-31, after-34, after-ids, by-groups, schema-sound, supers-low, layout-of}
 use Rattle.table.proofs.Values.{lists-ordered}
 use Rattle.table.proofs.Widths.{known-none}
 use Rattle.table.proofs.Laws.{never}
@@ -29,9 +29,14 @@ any-id-requires c κs = (c .before .before .before .before .before .before .befo
 returns-4 : tie.Need-returns-4
 returns-4 c = record { verdict = after-ids (c .before .before .before .before .before .before .before .before .before .before .before .before .before .before .before .before .args .table .now) (not-false _ (c .before .before .before .before .before .before .before .before .before .before .before .before .before .if1 .left)) (sym (c .before .before .before .before .before .before .before .before .before .before .before .check-shape .ensures .verdict) ∙ c .before .before .before .before .before .before .before .enum-told .given .1) (sym (c .before .before .before .before .before .check-records .ensures) ∙ c .before .before .before .enum-told2 .given .1) (sym (c .before .any-id .ensures) ∙ not-true _ (c .if2 .taken)); layout = λ q. absurd (never q) }
 
-check-widths-requires : tie.Need-check-widths-requires
-check-widths-requires c κs = let a = c .before .before .before .before .before .before .before .before .before .before .before .before .before .before .before .before .before .args in
-    ((c .before .before .before .before .before .before .before .before .before .before .before .before .check-shape .ensures .placing (c .before .before .before .before .before .before .before .before .enum-told .given .1)), known-none (a .table .now) _ (c .before .before .before .before .before .before .before .before .before .before .before .before .check-shape .ensures .blank (c .before .before .before .before .before .before .before .before .enum-told .given .1)), schema-sound (a .table .now) (sym (c .before .before .before .before .before .before .before .before .before .before .before .before .check-shape .ensures .verdict) ∙ c .before .before .before .before .before .before .before .before .enum-told .given .1) (sym (c .before .before .before .before .before .before .check-records .ensures) ∙ c .before .before .before .before .enum-told2 .given .1))
+check-groups-requires : tie.Need-check-groups-requires
+check-groups-requires c κs =
+    let t = c .before .before .before .before .before .before .before .before .before .before .before .before .before .before .before .before .before .args .table .now in
+    let shape = c .before .before .before .before .before .before .before .before .before .before .before .before .check-shape .ensures in
+    let e = c .before .before .before .before .before .before .before .before .enum-told .given .1 in
+    let s = sym (shape .verdict) ∙ e in
+    let r = sym (c .before .before .before .before .before .before .check-records .ensures) ∙ c .before .before .before .before .enum-told2 .given .1 in
+    (shape .placing e, known-none t _ (shape .blank e), schema-sound t s r, supers-low t s r)
 
 returns-5 : tie.Need-returns-5
 returns-5 c =
@@ -39,9 +44,9 @@ returns-5 c =
     let z = not-false _ (c .before .before .before .before .before .before .before .before .before .before .before .before .before .before .before .before .before .if1 .left) in
     let s = sym (c .before .before .before .before .before .before .before .before .before .before .before .before .before .before .before .check-shape .ensures .verdict) ∙ c .before .before .before .before .before .before .before .before .before .before .before .enum-told .given .1 in
     let r = sym (c .before .before .before .before .before .before .before .before .before .check-records .ensures) ∙ c .before .before .before .before .before .before .before .enum-told2 .given .1 in
-    let w = c .before .before .check-widths .ensures in
+    let w = c .before .before .check-groups .ensures in
     record {
-      verdict = w .verdict ∙ after-35 t z s r (sym (c .before .before .before .before .before .any-id .ensures) ∙ not-false _ (c .before .before .before .before .if2 .left));
+      verdict = w .verdict ∙ by-groups t z s r (sym (c .before .before .before .before .before .any-id .ensures) ∙ not-false _ (c .before .before .before .before .if2 .left));
       layout = λ q. layout-of t _ (w .placing q) (w .known q) (whole-of t z) (supers-low t s r) (lists-ordered t s r);
     }
 
@@ -63,6 +68,6 @@ index-table-spec =
     any-id-requires
     (λ c. search needs)
     returns-4
-    check-widths-requires
+    check-groups-requires
     (λ c. search needs)
     returns-5)

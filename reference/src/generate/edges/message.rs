@@ -626,9 +626,9 @@ fn allowed_groups(edges: &mut Edges) {
     // A chain of 64 groups: the last one is below the first.
     let mut chain = TablePlan::new().group(0, &[field(Type::DynamicGroup).optional()]);
     for above in 0..63 {
-        chain = chain.below(above, u64::from(above) + 1, &[]);
+        chain = chain.child(above, u64::from(above) + 1, &[]);
     }
-    let last = group(0, 0, &[&[1], &word(4), &group(63, 0, &[])]);
+    let last = group(0, 0, &[&[1], &word(4), &group(63, 0, &[&[0; 5]])]);
     edges.check("the last group of a chain of 64", &chain, &last, FINE);
 }
 

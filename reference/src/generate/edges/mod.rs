@@ -5,6 +5,7 @@
 mod message;
 mod read;
 mod sheet;
+mod supers;
 mod symbols;
 mod table;
 
@@ -25,6 +26,7 @@ const FINE: (u8, usize) = (0, 0);
 pub fn edges() -> Vec<Edge> {
     let mut edges = Edges(Vec::new());
     table::add(&mut edges);
+    supers::add(&mut edges);
     message::add(&mut edges);
     symbols::add(&mut edges);
     sheet::add(&mut edges);

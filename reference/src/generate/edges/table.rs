@@ -17,10 +17,10 @@ pub fn add(edges: &mut Edges) {
 /// An enumeration, a group without and a group with an id.
 /// Records: EN 0, SY 16, SY 32, GR 48, FD 64, GR 80, FD 96, FD 112.
 fn small() -> TablePlan {
-    TablePlan::new().enumeration(&[-1, 5]).plain(&[field(Type::U32)]).below(
+    TablePlan::new().enumeration(&[-1, 5]).plain(&[field(Type::Enumeration)]).child(
         0,
         7,
-        &[field(Type::Enumeration), field(Type::StaticGroup).optional()],
+        &[field(Type::StaticGroup).optional()],
     )
 }
 
@@ -37,10 +37,11 @@ fn length(edges: &mut Edges) {
     long.truncate(65_536);
     edges.table("65,536 bytes are not too long", long, (31, 128));
     // 62 groups of 64 fields and one of 63 are 62 * 65 + 64 = 4,094 records;
-    // an enumeration of one symbol makes them 4,096.
-    let mut plan = TablePlan::new().enumeration(&[0]);
-    for id in 0..62 {
-        plan = plan.group(id, &[field(Type::U8); 64]);
+    // an enumeration of one symbol makes them 4,096. Each group of 64 fields
+    // has the one before as its super.
+    let mut plan = TablePlan::new().enumeration(&[0]).group(0, &[field(Type::U8); 64]);
+    for above in 0..61 {
+        plan = plan.child(above, u64::from(above) + 1, &[]);
     }
     plan = plan.group(62, &[field(Type::U8); 63]);
     assert_eq!(plan.encode().len(), 65_536);

@@ -85,3 +85,17 @@ fn refusals() {
     assert_eq!(check_message(&[], &[], &mut []), Err(Fault { number: 20, place: 0 }));
     assert_eq!(check_table(&table[..16]), Err(Fault { number: 31, place: 16 }));
 }
+
+/// A table of samples/: a group that lacks a field of its super.
+#[test]
+fn a_table_whose_group_forgets_its_super() {
+    let table = include_bytes!("../../../samples/forgetful.table");
+    let fault = check_table(table).unwrap_err();
+    assert_eq!(fault, Fault { number: 36, place: 176 });
+    assert_eq!(
+        fault.to_string(),
+        "fault 36 at byte 176: a group's fields do not begin with those of its super group"
+    );
+    let message = include_bytes!("../../../samples/good.message");
+    assert_eq!(check_message(table, message, &mut [0; 81]), Err(Fault { number: 20, place: 0 }));
+}

@@ -5,3 +5,4 @@ pub mod Table
 pub mod Layout
 pub mod FieldKinds
 pub mod Claims
+pub mod Cases

@@ -1,5 +1,5 @@
 -- An accepted table's schema, for the crates above to cite: `accepted` says what a verdict gives.
-use mathlib.Core.Path.{_≡_, refl, sym, ap, _∙_}
+use mathlib.Core.Path.{_≡_, refl, sym, _∙_}
 use mathlib.Core.Bool.{Bool, true, false, not, cond, _&&_}
 use mathlib.Core.List.{List, [], _∷_}
 use Prim.Native.Nat.{ℕ, zero, suc, _+_, _-_, _<_, _≤_}
@@ -10,7 +10,7 @@ use borrow.Author.Tests.{eqb-true, eqb-false, ltb-true, ltb-false, eq-eqb, lt-lt
 use Rattle.schema.specs.declared.Verdict.the-variants.{Accepted}
 use Rattle.schema.specs.Schema.{Group, find, known, fieldsOf, superOf, width, shallow}
 use Rattle.schema.specs.Symbols.{rank}
-use Rattle.schema.specs.Table.{GR, SY, symbolValue, recordVerdict, marked, idFlag, typeId, groupAt, groupsFrom, enumsFrom, placesFrom, recordCount, enums, schema, places, shapeVerdict, groupVerdict, recordsFrom, recordsVerdict, widthsFrom, widthsVerdict, supersVerdict, tableVerdict}
+use Rattle.schema.specs.Table.{GR, SY, symbolValue, recordVerdict, marked, idFlag, typeId, groupAt, groupsFrom, enumsFrom, recordCount, enums, schema, places, shapeVerdict, groupVerdict, recordsFrom, recordsVerdict, widthsFrom, widthsVerdict, supersVerdict, tableVerdict}
 use Rattle.table.specs.Measure.{Sound}
 use Rattle.table.specs.Claims.{Begins}
 use Rattle.table.proofs.Laws.{record-group}

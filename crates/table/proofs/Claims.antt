@@ -4,12 +4,11 @@ use mathlib.Core.Bool.{Bool, true, false, _||_, _&&_}
 use mathlib.Core.List.{List, [], _++_, append-assoc, append-nil}
 use Prim.Native.Nat.{ℕ, zero, suc, _-_, _<_}
 use native.Mathlib.Omega.{arith}
-use lib.ListN.{length, take, length-append, List·getD-append}
+use lib.ListN.{length, length-append, List·getD-append}
 use lib.Seq.{take-append-le}
 use lib.Dec.{ltb, eqb}
 use borrow.Author.Tests.{eqb-true, ltb-true}
 use Rattle.schema.specs.Schema.{Field, Group, fieldsWidth, fieldsOf, superOf, under}
-use Rattle.schema.proofs.Depth.{and-both}
 use Rattle.schema.proofs.Symbols.{nine}
 use Rattle.table.specs.Claims.{Begins, SameField, Inherits, AcceptedTables}
 use Rattle.table.proofs.Accepted.{accepted}

@@ -131,17 +131,17 @@ begins-fields es t s h =
     let first = fields-first es (fieldCount s) (fieldCount t) (drop 16 t) (leb-true _ _ (a .0)) ∙ fields-same es (fieldCount s) (drop 16 t) (drop 16 s) (same-eq _ _ (a .1)) in
     (drop (fieldCount s) all, sym (take-append-drop (fieldCount s) all) ∙ ap (λ (l : List Field). l ++ drop (fieldCount s) all) first)
 
-super-past : (gs : List Group) (g : ℕ) → 0 < superOf gs g → g < length gs
+has-super : (gs : List Group) (g : ℕ) → 0 < superOf gs g → g < length gs
 unfolding superOf
-super-past [] g h = absurd (omega arith)
-super-past (x ∷ gs) zero h = omega arith
-super-past (x ∷ gs) (suc g) h = omega (arith, super-past gs g h)
+has-super [] g h = absurd (omega arith)
+has-super (x ∷ gs) zero h = omega arith
+has-super (x ∷ gs) (suc g) h = omega (arith, has-super gs g h)
 
 module _ (t : List ℕ) (low : (g : ℕ) → superOf (schema t) g ≤ g) (passed : supersVerdict t ≡ Accepted) where
   pub begins-super : (g : ℕ) → 0 < superOf (schema t) g → Begins (fieldsOf (schema t) g) (fieldsOf (schema t) (superOf (schema t) g - 1))
   unfolding supersVerdict groupAt
   begins-super g h =
-      let l = super-past (schema t) g h in
+      let l = has-super (schema t) g h in
       let many = groups-placed t in
       let own = numbered (at-place (enums t) t) (places t) g (omega arith) in
       let s = superOf (schema t) g in

@@ -1,0 +1,84 @@
+-- Request 5 (document 02) by example: groups that begin with the fields of their super, and groups that do not.
+use mathlib.Core.Path.{_≡_, refl}
+use mathlib.Core.List.{List, [], _∷_, _++_, map}
+use Prim.Native.Nat.{ℕ}
+use Rattle.wire.specs.Bytes.{le, same, allZero}
+use Rattle.schema.specs.declared.Verdict.{Verdict}
+use Rattle.schema.specs.declared.Verdict.the-variants.{Accepted, Refused}
+use Rattle.schema.specs.Faults.{need, also}
+use Rattle.schema.specs.Schema.{kindWidth, valueWidth, fieldWidth, fieldsWidth, fieldsOf, width, shallowKind, shallowFields, shallow, find, known}
+use Rattle.schema.specs.Symbols.{rank}
+use Rattle.schema.specs.Table.{scalarWidth, kindOf, fieldAt, fieldsAt, valuesAt, groupAt, enumsFrom, groupsFrom, placesFrom, enums, schema, places, isEnum, isDue, dueAfter, shapeFrom, shapeVerdict, enumVerdict, symbolVerdict, groupVerdict, sizeOk, referenceOk, fieldVerdict, recordVerdict, recordsFrom, recordsVerdict, anyId, idVerdict, widthsFrom, widthsVerdict, beginsWith, inherits, supersFrom, supersVerdict, tableVerdict}
+
+-- An enumeration of the one symbol 7; a group's record, by its type id, its super's number plus 1 and how many fields it has; a field's, by its type,
+-- size and reference. All of them are below 256.
+abbrev seven : List ℕ
+seven =
+    0x45 ∷ 0x4e ∷ 1 ∷ 0 ∷ 0 ∷ 0 ∷ 0 ∷ 0 ∷ 0 ∷ 0 ∷ 0 ∷ 0 ∷ 0 ∷ 0 ∷ 0 ∷ 0
+    ∷ 0x53 ∷ 0x59 ∷ 7 ∷ 0 ∷ 0 ∷ 0 ∷ 0 ∷ 0 ∷ 0 ∷ 0 ∷ 0 ∷ 0 ∷ 0 ∷ 0 ∷ 0 ∷ 0 ∷ []
+
+abbrev group : ℕ → ℕ → ℕ → List ℕ
+group id super fields = 0x47 ∷ 0x52 ∷ id ∷ 0 ∷ 0 ∷ 0 ∷ 0 ∷ 0 ∷ 0 ∷ 0 ∷ 1 ∷ super ∷ 0 ∷ fields ∷ 0 ∷ 0 ∷ []
+
+abbrev field : ℕ → ℕ → ℕ → List ℕ
+field type size reference = 0x46 ∷ 0x44 ∷ type ∷ 0 ∷ 0 ∷ size ∷ reference ∷ 0 ∷ 0 ∷ 0 ∷ 0 ∷ 0 ∷ 0 ∷ 0 ∷ 0 ∷ 0 ∷ []
+
+-- A string, a u32 and a u64.
+abbrev text : List ℕ
+text = field 17 0 0
+
+abbrev word : List ℕ
+word = field 5 0 0
+
+abbrev long : List ℕ
+long = field 7 0 0
+
+-- A group of a string and a u32; below it, at 48, a group of n fields.
+abbrev child : ℕ → List ℕ → List ℕ
+child n fields = group 1 0 2 ++ (text ++ (word ++ (group 2 1 n ++ fields)))
+
+-- Below that one, at 112, another of n fields.
+abbrev grandchild : ℕ → List ℕ → List ℕ
+grandchild n fields = child 3 (text ++ (word ++ (long ++ (group 3 2 n ++ fields))))
+
+-- A group of one field that names enumeration 0 of two equal ones; below it, at 96, a group whose field names enumeration e.
+abbrev symbolic : ℕ → List ℕ
+symbolic e = seven ++ (seven ++ (group 1 0 1 ++ (field 20 0 0 ++ (group 2 1 1 ++ field 20 0 e))))
+
+-- A group without fields, and one below it.
+abbrev empty : List ℕ
+empty = group 1 0 0 ++ (group 2 1 1 ++ long)
+
+-- 17 fields of 255 bytes
+abbrev wide : List ℕ
+wide = let f = field 19 255 0 in let four = f ++ (f ++ (f ++ f)) in f ++ (four ++ (four ++ (four ++ four)))
+
+pub record Case : Type 0 where
+  pub table : List ℕ
+  pub verdict : Verdict
+
+abbrev case : List ℕ → Verdict → Case
+case t v = record { table = t; verdict = v }
+
+abbrev pub cases : List Case
+cases =
+    case (child 3 (text ++ (word ++ long))) Accepted
+    ∷ case (child 2 (text ++ word)) Accepted
+    ∷ case empty Accepted
+    ∷ case (grandchild 3 (text ++ (word ++ long))) Accepted
+    ∷ case (symbolic 0) Accepted
+    -- one field is missing, the order is another, another field stands where the super has one
+    ∷ case (child 1 text) (Refused 36 48)
+    ∷ case (child 2 (word ++ text)) (Refused 36 48)
+    ∷ case (child 3 (text ++ (long ++ word))) (Refused 36 48)
+    -- the first group's fields are not enough
+    ∷ case (grandchild 2 (text ++ word)) (Refused 36 112)
+    -- "record for record", and not by what they mean
+    ∷ case (symbolic 1) (Refused 36 96)
+    -- 35 of a later group comes first
+    ∷ case (child 1 (text ++ (group 3 0 17 ++ wide))) (Refused 35 80)
+    ∷ []
+
+pub cases-hold : map (λ c. tableVerdict (c .table)) cases ≡ map (λ c. c .verdict) cases
+unfolding le same allZero need also kindWidth valueWidth fieldWidth fieldsWidth fieldsOf width shallowKind shallowFields shallow find known rank scalarWidth kindOf fieldAt fieldsAt valuesAt groupAt enumsFrom groupsFrom placesFrom enums schema places isEnum isDue dueAfter shapeFrom shapeVerdict enumVerdict symbolVerdict groupVerdict sizeOk referenceOk fieldVerdict recordVerdict recordsFrom recordsVerdict anyId idVerdict widthsFrom widthsVerdict beginsWith inherits supersFrom supersVerdict tableVerdict
+cases-hold = refl

@@ -1,4 +1,4 @@
-// Document 01's faults.
+// The faults' words.
 use printing::lines;
 use printing::print;
 

@@ -12,21 +12,16 @@ use Rattle.schema.specs.Faults.{need, also}
 use Rattle.schema.specs.Schema.{member, passes, testFault, textOk, kindWidth, valueWidth, fieldWidth, fieldsWidth, fieldsOf, superOf, width, shallowKind, shallowFields, shallow, find, known, under, allows}
 use Rattle.schema.specs.Symbols.{rank}
 use Rattle.schema.specs.Table.{scalarWidth, kindOf, fieldAt, fieldsAt, valuesAt, groupAt, enumsFrom, groupsFrom, placesFrom, enums, schema, places, isEnum, isDue, dueAfter, shapeFrom, shapeVerdict, enumVerdict, symbolVerdict, groupVerdict, sizeOk, referenceOk, fieldVerdict, recordVerdict, recordsFrom, recordsVerdict, anyId, idVerdict, widthsFrom, widthsVerdict, beginsWith, inherits, supersFrom, supersVerdict, tableVerdict}
+use Rattle.schema.specs.Cases.{group, field}
 use Rattle.message.specs.Marks.{free, mark, padsZero, padsBefore}
 use Rattle.message.specs.Sheet.{markBytes, kindMark, fieldMark}
 use Rattle.message.specs.Walk.{Reading, refused, done, prefixed, next, strict, noneR, thenR, markedR, optionalR, plainR, inlineR, inArea, locate, onward, indirectR, textR, innerR, itemsR, listR, kindR, valueR, fieldR, fieldsR, staticR, extendingR, groupsR, extensionR, extensionIn, behindR, padded, bodyR, headR, groupR, walk, messageR}
 
 -- TABLES
 
--- A group's record, by its type id (below 256), its super and the number of its fields; one without an id; a field's, by its bytes 2 to 6.
-abbrev group : ℕ → ℕ → ℕ → List ℕ
-group id super fields = 0x47 ∷ 0x52 ∷ id ∷ 0 ∷ 0 ∷ 0 ∷ 0 ∷ 0 ∷ 0 ∷ 0 ∷ 1 ∷ super ∷ 0 ∷ fields ∷ 0 ∷ 0 ∷ []
-
+-- The record of a group without an id, by the number of its fields.
 abbrev noId : ℕ → List ℕ
 noId fields = 0x47 ∷ 0x52 ∷ 0 ∷ 0 ∷ 0 ∷ 0 ∷ 0 ∷ 0 ∷ 0 ∷ 0 ∷ 0 ∷ 0 ∷ 0 ∷ fields ∷ 0 ∷ 0 ∷ []
-
-abbrev field : ℕ → ℕ → ℕ → ℕ → ℕ → List ℕ
-field type optional sequence size reference = 0x46 ∷ 0x44 ∷ type ∷ optional ∷ sequence ∷ size ∷ reference ∷ 0 ∷ 0 ∷ 0 ∷ 0 ∷ 0 ∷ 0 ∷ 0 ∷ 0 ∷ 0 ∷ []
 
 -- Type 5 is u32, 17 a string, 21 a static group and 22 a dynamic one.
 abbrev helloTable : List ℕ

@@ -10,28 +10,22 @@ use Rattle.schema.specs.Schema.{kindWidth, valueWidth, fieldWidth, field
 use Rattle.schema.specs.Symbols.{rank}
 use Rattle.schema.specs.Table.{scalarWidth, kindOf, fieldAt, fieldsAt, valuesAt, groupAt, enumsFrom, groupsFrom, placesFrom, enums, schema, places, isEnum, isDue, dueAfter, shapeFrom, shapeVerdict, enumVerdict, symbolVerdict, groupVerdict, sizeOk, referenceOk, fieldVerdict, recordVerdict, recordsFrom, recordsVerdict, anyId, idVerdict, widthsFrom, widthsVerdict, beginsWith, inherits, supersFrom, supersVerdict, tableVerdict}
 
--- An enumeration of the one symbol 7; a group's record, by its type id, its super's number plus 1 and how many fields it has; a field's, by its type,
--- size and reference. All of them are below 256.
-abbrev seven : List ℕ
-seven =
-    0x45 ∷ 0x4e ∷ 1 ∷ 0 ∷ 0 ∷ 0 ∷ 0 ∷ 0 ∷ 0 ∷ 0 ∷ 0 ∷ 0 ∷ 0 ∷ 0 ∷ 0 ∷ 0
-    ∷ 0x53 ∷ 0x59 ∷ 7 ∷ 0 ∷ 0 ∷ 0 ∷ 0 ∷ 0 ∷ 0 ∷ 0 ∷ 0 ∷ 0 ∷ 0 ∷ 0 ∷ 0 ∷ 0 ∷ []
-
-abbrev group : ℕ → ℕ → ℕ → List ℕ
+-- A group's record, by its type id (below 256), its super's number plus 1 and the number of its fields; a field's, by its bytes 2 to 6.
+abbrev pub group : ℕ → ℕ → ℕ → List ℕ
 group id super fields = 0x47 ∷ 0x52 ∷ id ∷ 0 ∷ 0 ∷ 0 ∷ 0 ∷ 0 ∷ 0 ∷ 0 ∷ 1 ∷ super ∷ 0 ∷ fields ∷ 0 ∷ 0 ∷ []
 
-abbrev field : ℕ → ℕ → ℕ → List ℕ
-field type size reference = 0x46 ∷ 0x44 ∷ type ∷ 0 ∷ 0 ∷ size ∷ reference ∷ 0 ∷ 0 ∷ 0 ∷ 0 ∷ 0 ∷ 0 ∷ 0 ∷ 0 ∷ 0 ∷ []
+abbrev pub field : ℕ → ℕ → ℕ → ℕ → ℕ → List ℕ
+field type optional sequence size reference = 0x46 ∷ 0x44 ∷ type ∷ optional ∷ sequence ∷ size ∷ reference ∷ 0 ∷ 0 ∷ 0 ∷ 0 ∷ 0 ∷ 0 ∷ 0 ∷ 0 ∷ 0 ∷ []
 
 -- A string, a u32 and a u64.
 abbrev text : List ℕ
-text = field 17 0 0
+text = field 17 0 0 0 0
 
 abbrev word : List ℕ
-word = field 5 0 0
+word = field 5 0 0 0 0
 
 abbrev long : List ℕ
-long = field 7 0 0
+long = field 7 0 0 0 0
 
 -- A group of a string and a u32; below it, at 48, a group of n fields.
 abbrev child : ℕ → List ℕ → List ℕ
@@ -41,9 +35,15 @@ child n fields = group 1 0 2 ++ (text ++ (word ++ (group 2 1 n ++ fields)))
 abbrev grandchild : ℕ → List ℕ → List ℕ
 grandchild n fields = child 3 (text ++ (word ++ (long ++ (group 3 2 n ++ fields))))
 
+-- An enumeration of the one symbol 7.
+abbrev seven : List ℕ
+seven =
+    0x45 ∷ 0x4e ∷ 1 ∷ 0 ∷ 0 ∷ 0 ∷ 0 ∷ 0 ∷ 0 ∷ 0 ∷ 0 ∷ 0 ∷ 0 ∷ 0 ∷ 0 ∷ 0
+    ∷ 0x53 ∷ 0x59 ∷ 7 ∷ 0 ∷ 0 ∷ 0 ∷ 0 ∷ 0 ∷ 0 ∷ 0 ∷ 0 ∷ 0 ∷ 0 ∷ 0 ∷ 0 ∷ 0 ∷ []
+
 -- A group of one field that names enumeration 0 of two equal ones; below it, at 96, a group whose field names enumeration e.
 abbrev symbolic : ℕ → List ℕ
-symbolic e = seven ++ (seven ++ (group 1 0 1 ++ (field 20 0 0 ++ (group 2 1 1 ++ field 20 0 e))))
+symbolic e = seven ++ (seven ++ (group 1 0 1 ++ (field 20 0 0 0 0 ++ (group 2 1 1 ++ field 20 0 0 0 e))))
 
 -- A group without fields, and one below it.
 abbrev empty : List ℕ
@@ -51,7 +51,7 @@ empty = group 1 0 0 ++ (group 2 1 1 ++ long)
 
 -- 17 fields of 255 bytes
 abbrev wide : List ℕ
-wide = let f = field 19 255 0 in let four = f ++ (f ++ (f ++ f)) in f ++ (four ++ (four ++ (four ++ four)))
+wide = let f = field 19 0 0 255 0 in let four = f ++ (f ++ (f ++ f)) in f ++ (four ++ (four ++ (four ++ four)))
 
 pub record Case : Type 0 where
   pub table : List ℕ
@@ -67,7 +67,7 @@ cases =
     ∷ case empty Accepted
     ∷ case (grandchild 3 (text ++ (word ++ long))) Accepted
     ∷ case (symbolic 0) Accepted
-    -- one field is missing, the order is another, another field stands where the super has one
+    -- a field is missing, the order is another, a u64 stands where the super has a u32
     ∷ case (child 1 text) (Refused 36 48)
     ∷ case (child 2 (word ++ text)) (Refused 36 48)
     ∷ case (child 3 (text ++ (long ++ word))) (Refused 36 48)

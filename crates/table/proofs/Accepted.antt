@@ -2,17 +2,17 @@
 use mathlib.Core.Path.{_≡_, refl, sym, _∙_}
 use mathlib.Core.Bool.{Bool, true, false, not, cond, _&&_}
 use mathlib.Core.List.{List, [], _∷_}
-use Prim.Native.Nat.{ℕ, zero, suc, _+_, _-_, _<_, _≤_}
+use Prim.Native.Nat.{ℕ, zero, suc, _+_, _<_, _≤_}
 use native.Mathlib.Omega.{arith}
 use lib.ListN.{length, take, drop}
 use lib.Dec.{leb, ltb, eqb}
 use borrow.Author.Tests.{eqb-true, eqb-false, ltb-true, ltb-false, eq-eqb, lt-ltb, not-true}
 use Rattle.schema.specs.declared.Verdict.the-variants.{Accepted}
-use Rattle.schema.specs.Schema.{Group, find, known, fieldsOf, superOf, width, shallow}
+use Rattle.schema.specs.Schema.{Group, find, known, superOf, width, shallow}
 use Rattle.schema.specs.Symbols.{rank}
 use Rattle.schema.specs.Table.{GR, SY, symbolValue, recordVerdict, marked, idFlag, typeId, groupAt, groupsFrom, enumsFrom, recordCount, enums, schema, places, shapeVerdict, groupVerdict, recordsFrom, recordsVerdict, widthsFrom, widthsVerdict, supersVerdict, tableVerdict}
 use Rattle.table.specs.Measure.{Sound}
-use Rattle.table.specs.Claims.{Begins}
+use Rattle.table.specs.Claims.{BeginsSuper}
 use Rattle.table.proofs.Laws.{record-group}
 use Rattle.table.proofs.Records.{drop-next, symbol-no-group, symbol-no-enum, field-no-group, field-no-enum, enum-no-group, group-no-enum, group-no-field, group-no-symbol}
 use Rattle.schema.proofs.Depth.{and-both}
@@ -129,7 +129,7 @@ pub record Sane (t : List ℕ) : Type 0 where
   pub shallows : (g : ℕ) → shallow (schema t) 5 g ≡ true
   pub sound : Sound (schema t)
   pub supers : (g : ℕ) → superOf (schema t) g ≤ g
-  pub begins : (g : ℕ) → 0 < superOf (schema t) g → Begins (fieldsOf (schema t) g) (fieldsOf (schema t) (superOf (schema t) g - 1))
+  pub begins : BeginsSuper (schema t)
   pub groups : length (schema t) ≤ 64
   pub lists : length (enums t) ≤ 64
   pub fresh : (g id : ℕ) → Names (schema t) g id → known (take g (schema t)) id ≡ false
@@ -169,13 +169,10 @@ accepted t e = record {
     lists : length (enums t) ≤ 64
     lists = unfold enums in omega (arith, few-enums form (omega arith))
 
-    many : length (schema t) ≡ length (places t)
-    many = groups-placed t
-
     shallows : (g : ℕ) (c : Bool) → ltb g (length (schema t)) ≡ c → shallow (schema t) 5 g ≡ true
     shallows g true q = unfold widthsVerdict in
         let z : 0 + g ≡ g = omega arith in
-        rw z at (widths-shallow (schema t) 0 (places t) (phases .2) g (omega (arith, many, ltb-true g (length (schema t)) q)))
+        rw z at (widths-shallow (schema t) 0 (places t) (phases .2) g (omega (arith, groups-placed t, ltb-true g (length (schema t)) q)))
     shallows g false q = shallow-out (schema t) 4 g (ltb-false g (length (schema t)) q)
 
     new : (k id : ℕ) → Names (schema t) k id → known (take k (schema t)) id ≡ false

@@ -10,7 +10,7 @@ use lib.Dec.{ltb, eqb}
 use borrow.Author.Tests.{eqb-true, ltb-true}
 use Rattle.schema.specs.Schema.{Field, Group, fieldsWidth, fieldsOf, superOf, under}
 use Rattle.schema.proofs.Symbols.{nine}
-use Rattle.table.specs.Claims.{Begins, SameField, Inherits, AcceptedTables}
+use Rattle.table.specs.Claims.{Begins, BeginsSuper, SameField, Inherits, AcceptedTables}
 use Rattle.table.proofs.Accepted.{accepted}
 use Rattle.table.proofs.Values.{accepted-ordered}
 
@@ -20,7 +20,7 @@ begins-all xs = ([], sym (append-nil xs))
 begins-on : (xs ys zs : List Field) → Begins xs ys → Begins ys zs → Begins xs zs
 begins-on xs ys zs (r, e) (s, f) = (s ++ r, e ∙ ap (λ (l : List Field). l ++ r) f ∙ append-assoc zs s r)
 
-module _ (gs : List Group) (super : (g : ℕ) → 0 < superOf gs g → Begins (fieldsOf gs g) (fieldsOf gs (superOf gs g - 1))) where
+module _ (gs : List Group) (super : BeginsSuper gs) where
   above : (n a g : ℕ) → under gs n a g ≡ true → Begins (fieldsOf gs g) (fieldsOf gs a)
   unfolding under
   above zero a g h = rw (eqb-true a g h) (begins-all (fieldsOf gs g))

@@ -18,7 +18,7 @@ use Rattle.schema.specs.Layout.{groupPlace}
 use Rattle.schema.proofs.Depth.{and-both}
 use Rattle.schema.proofs.Groups.{placed-super}
 use Rattle.table.specs.Index.{Placing}
-use Rattle.table.specs.Claims.{Begins}
+use Rattle.table.specs.Claims.{Begins, BeginsSuper}
 use Rattle.table.proofs.Records.{drop-getD}
 use Rattle.table.proofs.Formed.{need-accepted}
 
@@ -138,7 +138,7 @@ has-super (x ∷ gs) zero h = omega arith
 has-super (x ∷ gs) (suc g) h = omega (arith, has-super gs g h)
 
 module _ (t : List ℕ) (low : (g : ℕ) → superOf (schema t) g ≤ g) (passed : supersVerdict t ≡ Accepted) where
-  pub begins-super : (g : ℕ) → 0 < superOf (schema t) g → Begins (fieldsOf (schema t) g) (fieldsOf (schema t) (superOf (schema t) g - 1))
+  pub begins-super : BeginsSuper (schema t)
   unfolding supersVerdict groupAt
   begins-super g h =
       let l = has-super (schema t) g h in

@@ -19,6 +19,10 @@ pub record Lists (t : List ℕ) : Type 0 where
 abbrev pub Begins : List Field → List Field → Type 0
 Begins xs ys = (rest : List Field) × (xs ≡ ys ++ rest)
 
+-- Each group that has a super begins with its fields.
+abbrev pub BeginsSuper : List Group → Type 0
+BeginsSuper gs = (g : ℕ) → 0 < superOf gs g → Begins (fieldsOf gs g) (fieldsOf gs (superOf gs g - 1))
+
 -- Field n of group g is field n of group a, and stands at the same place behind the head, whatever the widths of static groups.
 pub record SameField (gs : List Group) (a g n : ℕ) : Type 0 where
   pub there : n < length (fieldsOf gs g)
@@ -27,7 +31,7 @@ pub record SameField (gs : List Group) (a g n : ℕ) : Type 0 where
 
 -- Request 5: "A field list must begin with the super group's fields", and so with those of every group above it.
 pub record Inherits (gs : List Group) : Type 0 where
-  pub super : (g : ℕ) → 0 < superOf gs g → Begins (fieldsOf gs g) (fieldsOf gs (superOf gs g - 1))
+  pub super : BeginsSuper gs
   pub above : (a g : ℕ) → under gs g a g ≡ true → Begins (fieldsOf gs g) (fieldsOf gs a)
   -- "we read density as speed": what is read as a field of a is that field in every group below a too
   pub field : (a g n : ℕ) → under gs g a g ≡ true → n < length (fieldsOf gs a) → SameField gs a g n

@@ -8,6 +8,9 @@ run:
 	target/bin/blink read samples/blank.table samples/good-no-note.message 4
 	target/bin/blink check samples/blank.table samples/dusty.message
 	target/bin/blink check samples/forgetful.table samples/good.message
+	target/bin/blink check samples/stale.table samples/good.message
+	target/bin/blink rewrite samples/widths.table samples/padded.message target/rewritten.message
+	cmp target/rewritten.message samples/good.message
 	target/bin/blink sheet samples/blank.table samples/padded.message target/padded.sheet
 	target/bin/blink write samples/blank.table target/padded.sheet target/written.message
 	target/bin/blink rewrite samples/blank.table samples/padded.message target/rewritten.message

@@ -41,12 +41,13 @@
  * 28 there is no such field, or no such item in it
  * 29 the field is absent
  * 30 the table is empty, longer than 65536 bytes, or not made of records of 16 bytes
- * 31 a record's mark is not the one due, a record is missing, a count is out of range, or a 65th enumeration or group
+ * 31 a mark is not the one due, GR and GW are mixed, a record is missing, a count is out of range, or a 65th enumeration or group
  * 32 a byte that must be zero is not, or a flag is neither 0 nor 1
  * 33 a type, size, reference or super group is out of range
  * 34 symbols do not rise, a type id comes twice, or no group has one
  * 35 a group is wider than 4096 bytes, its static groups nest deeper than 4, or a static group has no width
  * 36 a group's fields do not begin with those of its super group
+ * 37 the width that a group stores is not its own
  * 40 the sheet ends inside a record
  * 41 a record's mark is not the one due
  * 42 the sheet is longer than 1048576 bytes
@@ -61,7 +62,7 @@
  *   of 1, 2, 14, 24 and 25 the group's start; of 3 and 5 the offset;
  *   of 7 the count, of 9 the text's first byte, of 10 to 12 the value or the flag;
  *   of 13, 26 and 27 the value that the offset leads to, of 27 the later one;
- *   of 31 to 36 the record, or the table's length where a record or an id is missing;
+ *   of 31 to 37 the record, or the table's length where a record or an id is missing;
  *   of 40, 41, 44 and 45 the record, and where a sheet is asked about, of 1, 2, 7, 9 to 12, 24 and 25 too;
  *   of 43 the first byte behind the record;
  *   of 20 to 23, 28 to 30, 42 and 46 to 48 always 0. */
@@ -116,7 +117,7 @@ typedef struct {
     uint64_t length; /* 0 on a refusal */
 } BlinkPart;
 
-/* Is the schema table accepted? Faults 30 to 36. */
+/* Is the schema table accepted? Faults 30 to 37. */
 BlinkVerdict blink_check_table(const uint8_t *table, size_t table_length);
 
 /* Is the message accepted under the table? Faults 20, 23, 21, 22, then 1 to 14 and 24 to 27. */

@@ -35,6 +35,16 @@ fn record(mark: &[u8; 2], contents: &[u8]) -> Vec<u8> {
     record
 }
 
+/// The table with `GW` records, which store these widths.
+pub fn stored(mut table: Vec<u8>, widths: &[u16]) -> Vec<u8> {
+    let groups = table.chunks_mut(16).filter(|record| record.starts_with(b"GR"));
+    for (record, width) in groups.zip(widths) {
+        record[1] = b'W';
+        record[14..].copy_from_slice(&width.to_le_bytes());
+    }
+    table
+}
+
 /// A station's table: barcode, density, sound speed, grade, optional note.
 pub fn blank() -> Vec<u8> {
     let mut table = enumeration(5);

@@ -1,7 +1,7 @@
 //! Why a question is refused, with the papers' numbers.
 
-/// The fault numbers of document 01, and 36 of document 02. `number as u8` is
-/// the paper's number.
+/// The fault numbers of document 01, and 36 and 37 of document 02. `number as
+/// u8` is the paper's number.
 #[derive(Clone, Copy, Debug, PartialEq, Eq, PartialOrd, Ord)]
 #[repr(u8)]
 pub enum FaultNumber {
@@ -36,6 +36,7 @@ pub enum FaultNumber {
     TableOrder = 34,
     TableWidthOrDepth = 35,
     TableInheritance = 36,
+    TableStoredWidth = 37,
     SheetEnds = 40,
     MarkNotDue = 41,
     SheetTooLong = 42,

@@ -162,6 +162,12 @@ pub(crate) struct Group {
 impl Group {
     pub const EMPTY: Group =
         Group { first_field: 0, field_count: 0, static_depth: 0, judged: false, width: 0, line: 0 };
+
+    /// Index of the group's own record, `GR` or `GW`.
+    #[inline]
+    pub fn head(&self) -> usize {
+        usize::from(self.first_field) - 1
+    }
 }
 
 /// An enumeration: where its `SY` records stand.
@@ -207,6 +213,8 @@ pub struct Schema<'t> {
     pub(crate) enumeration_count: usize,
     pub(crate) groups: [Group; MAX_GROUPS],
     pub(crate) group_count: usize,
+    /// Whether the groups are `GW` records, with their widths.
+    pub(crate) stored_widths: bool,
     pub(crate) ids: Ids,
 }
 
@@ -218,6 +226,7 @@ impl<'t> Schema<'t> {
         enumeration_count: 0,
         groups: [Group::EMPTY; MAX_GROUPS],
         group_count: 0,
+        stored_widths: false,
         ids: Ids::NONE,
     };
 

@@ -1,5 +1,5 @@
 //! The table check: faults 30 to 35 in document 01's order, then document
-//! 02's fault 36.
+//! 02's faults 36 and 37.
 
 use crate::fault::{require, Fault, FaultNumber};
 use crate::schema::{Field, Group, Record, Schema, Symbols, Type, MAX_ENUMERATIONS, MAX_GROUPS};
@@ -30,7 +30,11 @@ impl<'t> Schema<'t> {
         let some_id = !self.ids.is_empty();
         require(some_id, FaultNumber::TableOrder, table.len())?;
         self.measure_groups()?;
-        self.check_inheritance()
+        self.check_inheritance()?;
+        if self.stored_widths {
+            self.check_stored_widths()?;
+        }
+        Ok(())
     }
 
     /// Fault 30, and the table as records.
@@ -43,12 +47,17 @@ impl<'t> Schema<'t> {
     }
 
     /// Fault 31 over all records: marks, counts, and how many of each kind.
+    /// All groups have the mark of the first.
     fn find_parts(&mut self) -> Result<(), Fault> {
         let mut next = 0;
         while let Some(record) = self.records.get(next) {
+            let stored_width = record[1] == b'W';
             next = match &record[..2] {
                 b"EN" if self.group_count == 0 => self.find_symbols(next)?,
-                b"GR" => self.find_fields(next)?,
+                b"GR" | b"GW" if self.group_count == 0 || self.stored_widths == stored_width => {
+                    self.stored_widths = stored_width;
+                    self.find_fields(next)?
+                }
                 _ => return Err(Fault::at(FaultNumber::TableShape, next * RECORD)),
             };
         }
@@ -66,7 +75,8 @@ impl<'t> Schema<'t> {
         Ok(head + 1 + count)
     }
 
-    /// The `GR` record at `head` and its fields; gives the record after them.
+    /// The group's record at `head` and its fields; gives the record after
+    /// them.
     fn find_fields(&mut self, head: usize) -> Result<usize, Fault> {
         let count = self.records[head][13];
         let fits = self.group_count < MAX_GROUPS && usize::from(count) <= MAX_FIELDS;
@@ -118,7 +128,7 @@ impl<'t> Schema<'t> {
     }
 
     fn check_group(&mut self, number: usize) -> Result<(), Fault> {
-        let head = usize::from(self.groups[number].first_field) - 1;
+        let head = self.groups[number].head();
         let record = &self.records[head];
         let id = u64_at(record, 2);
         let id_flag = match record[10] {
@@ -126,7 +136,9 @@ impl<'t> Schema<'t> {
             flag => flag == 1,
         };
         require(id_flag, FaultNumber::TableNotZero, head * RECORD)?;
-        zero_from(record, 14, head)?;
+        if !self.stored_widths {
+            zero_from(record, 14, head)?;
+        }
 
         // The super's number plus 1, so `super_plus_1 <= number` says that
         // the super is lower.
@@ -169,9 +181,10 @@ impl<'t> Schema<'t> {
         require(in_range, FaultNumber::TableOutOfRange, index * RECORD)
     }
 
-    /// Fault 35, group by group. A static field names a lower group, so its
-    /// width and depth are known by then and within bounds: each group is
-    /// looked at once, however the groups name each other.
+    /// Fault 35, group by group, whatever widths are stored. A static field
+    /// names a lower group, so its width and depth are known by then and
+    /// within bounds: each group is looked at once, however the groups name
+    /// each other.
     fn measure_groups(&mut self) -> Result<(), Fault> {
         for number in 0..self.group_count {
             let mut width = 0;
@@ -192,7 +205,7 @@ impl<'t> Schema<'t> {
             require(
                 width <= MAX_WIDTH && depth <= MAX_STATIC_DEPTH && !holds_empty,
                 FaultNumber::TableWidthOrDepth,
-                (usize::from(group.first_field) - 1) * RECORD,
+                group.head() * RECORD,
             )?;
             group.width = width as u16;
             group.static_depth = depth;
@@ -206,13 +219,23 @@ impl<'t> Schema<'t> {
     /// compared with its direct super alone.
     fn check_inheritance(&self) -> Result<(), Fault> {
         for group in &self.groups[..self.group_count] {
-            let head = usize::from(group.first_field) - 1;
+            let head = group.head();
             let super_plus_1 = usize::from(u16_at(&self.records[head], 11));
             if let Some(above) = super_plus_1.checked_sub(1) {
                 let inherited = self.field_records(&self.groups[above]);
                 let kept = self.field_records(group).starts_with(inherited);
                 require(kept, FaultNumber::TableInheritance, head * RECORD)?;
             }
+        }
+        Ok(())
+    }
+
+    /// Fault 37, group by group: each `GW` record holds its group's width, so
+    /// that `Group::width` is the stored number from here on.
+    fn check_stored_widths(&self) -> Result<(), Fault> {
+        for group in &self.groups[..self.group_count] {
+            let stored = u16_at(&self.records[group.head()], 14);
+            require(stored == group.width, FaultNumber::TableStoredWidth, group.head() * RECORD)?;
         }
         Ok(())
     }

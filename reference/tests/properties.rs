@@ -155,7 +155,7 @@ fn random_questions_reach_every_fault() {
         }
     }
     println!("{counts:?}");
-    let numbers = (1..=14).chain(20..=36).chain(40..=48);
+    let numbers = (1..=14).chain(20..=37).chain(40..=48);
     let missing: Vec<usize> = numbers.filter(|&number| counts[number] == 0).collect();
     assert!(missing.is_empty(), "no case gave {missing:?}");
 }

@@ -77,10 +77,14 @@ fn main() {
     heading("proved", "reference");
     for (name, table) in [
         ("a station's (11 records)", tables::blank()),
+        ("a station's, widths stored", tables::stored(tables::blank(), &[21])),
         ("static tower", tables::tower(false)),
+        ("static tower, widths stored", tables::stored(tables::tower(false), &[1, 64, 4096, 0, 0, 0])),
         ("tower of sequences", tables::tower(true)),
+        ("tower of sequences, widths stored", tables::stored(tables::tower(true), &[1, 256, 256, 256, 256, 256])),
         ("64 KiB of enumerations", tables::enumerations()),
         ("64 groups in a chain", tables::chain(64, 1)),
+        ("64 in a chain, widths stored", tables::stored(tables::chain(64, 1), &[4; 64])),
         ("63 in a chain, 64 fields each", tables::chain(63, 64)),
     ] {
         time_table(name, &table);

@@ -11,7 +11,7 @@ const FAULTS: &str = include_str!("../../../include/faults.txt");
 /// ```
 #[derive(Clone, Copy, Debug, PartialEq, Eq, Hash)]
 pub struct Fault {
-    /// Which fault it is: 1 to 14, 20 to 36 or 40 to 48.
+    /// Which fault it is: 1 to 14, 20 to 37 or 40 to 48.
     pub number: u8,
     /// Its byte, counted from 0 at the start of the message, table or sheet; 0 where the fault has no place.
     pub place: usize,

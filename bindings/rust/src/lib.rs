@@ -75,7 +75,7 @@ fn written(answer: boundary::BlinkWritten, room: &mut [u8]) -> Result<&mut [u8],
     Ok(&mut room[..answer.length as usize])
 }
 
-/// Is the schema table accepted? Faults 30 to 36.
+/// Is the schema table accepted? Faults 30 to 37.
 ///
 /// ```
 /// let fault = blink_native::check_table(b"not a table").unwrap_err();

@@ -99,3 +99,27 @@ fn a_table_whose_group_forgets_its_super() {
     let message = include_bytes!("../../../samples/good.message");
     assert_eq!(check_message(table, message, &mut [0; 81]), Err(Fault { number: 20, place: 0 }));
 }
+
+/// Tables of samples/: stored widths change no answer, and a stale one is refused.
+#[test]
+fn a_table_that_stores_its_widths() {
+    let plain = include_bytes!("../../../samples/blank.table");
+    let stored = include_bytes!("../../../samples/widths.table");
+    for message in [
+        &include_bytes!("../../../samples/good.message")[..],
+        include_bytes!("../../../samples/padded.message"),
+        include_bytes!("../../../samples/dusty.message"),
+    ] {
+        let scratch = &mut [0; 88];
+        assert_eq!(check_message(stored, message, scratch), check_message(plain, message, scratch));
+        for field in 0..6 {
+            let number = read_number(plain, message, scratch, field, 0);
+            assert_eq!(read_number(stored, message, scratch, field, 0), number);
+            let bytes = read_bytes(plain, message, scratch, field, 0);
+            assert_eq!(read_bytes(stored, message, scratch, field, 0), bytes);
+        }
+    }
+    let fault = check_table(include_bytes!("../../../samples/stale.table")).unwrap_err();
+    assert_eq!(fault, Fault { number: 37, place: 80 });
+    assert_eq!(fault.to_string(), "fault 37 at byte 80: the width that a group stores is not its own");
+}

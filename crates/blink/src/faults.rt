@@ -3,7 +3,7 @@ use printing::lines;
 use printing::print;
 
 // What each means, in plain words, as include/faults.txt has them for all.
-const MEANINGS: [u8; 2122] =
+const MEANINGS: [u8; 2182] =
     *b" 1 a group's size is under 12: too short for its type id and its extension offset
  2 no group of the table has this type id
  3 the extension offset leads outside the group's data area
@@ -29,12 +29,13 @@ const MEANINGS: [u8; 2122] =
 28 there is no such field, or no such item in it
 29 the field is absent
 30 the table is empty, longer than 65536 bytes, or not made of records of 16 bytes
-31 a record's mark is not the one due, a record is missing, a count is out of range, or a 65th enumeration or group
+31 a mark is not the one due, GR and GW are mixed, a record is missing, a count is out of range, or a 65th enumeration or group
 32 a byte that must be zero is not, or a flag is neither 0 nor 1
 33 a type, size, reference or super group is out of range
 34 symbols do not rise, a type id comes twice, or no group has one
 35 a group is wider than 4096 bytes, its static groups nest deeper than 4, or a static group has no width
 36 a group's fields do not begin with those of its super group
+37 the width that a group stores is not its own
 40 the sheet ends inside a record
 41 a record's mark is not the one due
 42 the sheet is longer than 1048576 bytes

@@ -29,7 +29,7 @@ pub enum Span {
     Refused { number: u8, place: usize },
 }
 
-// Whether a schema table is accepted: faults 30 to 36, in their order.
+// Whether a schema table is accepted: faults 30 to 37, in their order.
 pub fn check_table(table: &[u8]) -> Verdict
     ensures { λ r. ⌜ r ≡ tableVerdict (now (table .entry)) ⌝ }
 {

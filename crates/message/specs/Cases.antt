@@ -11,7 +11,7 @@ use Rattle.schema.specs.declared.Verdict.the-variants.{Accepted, Refused}
 use Rattle.schema.specs.Faults.{need, also}
 use Rattle.schema.specs.Schema.{member, passes, testFault, textOk, kindWidth, valueWidth, fieldWidth, fieldsWidth, fieldsOf, superOf, width, shallowKind, shallowFields, shallow, find, known, under, allows}
 use Rattle.schema.specs.Symbols.{rank}
-use Rattle.schema.specs.Table.{scalarWidth, kindOf, fieldAt, fieldsAt, valuesAt, groupAt, enumsFrom, groupsFrom, placesFrom, enums, schema, places, isEnum, isDue, dueAfter, shapeFrom, shapeVerdict, enumVerdict, symbolVerdict, groupVerdict, sizeOk, referenceOk, fieldVerdict, recordVerdict, recordsFrom, recordsVerdict, anyId, idVerdict, widthsFrom, widthsVerdict, beginsWith, inherits, supersFrom, supersVerdict, tableVerdict}
+use Rattle.schema.specs.Table.{groupMarked, scalarWidth, kindOf, fieldAt, fieldsAt, valuesAt, groupAt, enumsFrom, groupsFrom, placesFrom, enums, schema, places, isEnum, isGroup, isDue, dueAfter, shapeFrom, shapeVerdict, enumVerdict, symbolVerdict, groupVerdict, sizeOk, referenceOk, fieldVerdict, recordVerdict, recordsFrom, recordsVerdict, anyId, idVerdict, eachGroup, inBounds, widthsVerdict, beginsWith, inherits, supersVerdict, storesOwn, storedVerdict, tableVerdict}
 use Rattle.schema.specs.Cases.{group, field}
 use Rattle.message.specs.Marks.{free, mark, padsZero, padsBefore}
 use Rattle.message.specs.Sheet.{markBytes, kindMark, fieldMark}
@@ -340,5 +340,5 @@ expected [] = []
 expected (c ∷ cs) = c .reading ∷ expected cs
 
 pub twelve-cases : readings cases ≡ expected cases
-unfolding le bytesOf same allZero zeros after begins follow lowest highest textFrom isValid utf8 need also member passes testFault textOk kindWidth valueWidth fieldWidth fieldsWidth fieldsOf superOf width shallowKind shallowFields shallow find known under allows scalarWidth kindOf fieldAt fieldsAt valuesAt groupAt enumsFrom groupsFrom placesFrom enums schema places isEnum isDue dueAfter shapeFrom shapeVerdict rank enumVerdict symbolVerdict groupVerdict sizeOk referenceOk fieldVerdict recordVerdict recordsFrom recordsVerdict anyId idVerdict widthsFrom widthsVerdict beginsWith inherits supersFrom supersVerdict tableVerdict free mark padsZero padsBefore markBytes kindMark fieldMark prefixed next noneR thenR markedR optionalR plainR inlineR inArea locate onward indirectR textR innerR itemsR listR kindR valueR fieldR fieldsR staticR extendingR groupsR extensionR extensionIn behindR padded bodyR headR groupR walk messageR under20 readings expected
+unfolding le bytesOf same allZero zeros after begins follow lowest highest textFrom isValid utf8 need also member passes testFault textOk kindWidth valueWidth fieldWidth fieldsWidth fieldsOf superOf width shallowKind shallowFields shallow find known under allows groupMarked scalarWidth kindOf fieldAt fieldsAt valuesAt groupAt enumsFrom groupsFrom placesFrom enums schema places isEnum isGroup isDue dueAfter shapeFrom shapeVerdict rank enumVerdict symbolVerdict groupVerdict sizeOk referenceOk fieldVerdict recordVerdict recordsFrom recordsVerdict anyId idVerdict eachGroup inBounds widthsVerdict beginsWith inherits supersVerdict storesOwn storedVerdict tableVerdict free mark padsZero padsBefore markBytes kindMark fieldMark prefixed next noneR thenR markedR optionalR plainR inlineR inArea locate onward indirectR textR innerR itemsR listR kindR valueR fieldR fieldsR staticR extendingR groupsR extensionR extensionIn behindR padded bodyR headR groupR walk messageR under20 readings expected
 twelve-cases = refl

@@ -4,3 +4,4 @@ pub mod Types
 pub mod Groups
 pub mod Depth
 pub mod Claims
+pub mod Forms

@@ -7,7 +7,7 @@ use lib.ListN.{length, drop, getD}
 use lib.Dec.{ltb}
 use Rattle.schema.specs.Schema.{superOf, width, shallow}
 use Rattle.schema.specs.Symbols.{Ordered}
-use Rattle.schema.specs.Table.{fieldCount, valuesAt, groupAt, enums, schema}
+use Rattle.schema.specs.Table.{GW, marked, fieldCount, storedWidth, valuesAt, groupAt, enums, schema}
 
 -- The index: 0.. the places of the groups' records, 64.. the groups' widths, 128.. the places of the enumerations' first symbols,
 -- 192.. how many symbols they have, 256.. the groups' static depths, 320 how many groups and 321 how many enumerations there are.
@@ -46,6 +46,8 @@ pub record Layout (t k : List ℕ) : Type 0 where
   pub total : groupTotal k ≡ length (schema t)
   pub placed : Placed t k (length (schema t))
   pub wide : (d g : ℕ) → shallow (schema t) d g ≡ true → widthIn k g ≡ width (schema t) d g
+  -- Document 02, request 8: "Once the table passes, message checks use the stored number."
+  pub stored : (g : ℕ) → g < length (schema t) → marked GW (drop (groupPlace k g) t) ≡ true → widthIn k g ≡ storedWidth (drop (groupPlace k g) t)
   pub narrow : (g : ℕ) → widthIn k g ≤ 4096
   pub shallows : (g : ℕ) → shallow (schema t) 5 g ≡ true
   pub symbols : (e : ℕ) → e < 64 → getD (enums t) e [] ≡ valuesAt (symbolTotal k e) (drop (symbolPlace k e) t)

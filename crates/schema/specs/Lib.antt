@@ -2,6 +2,7 @@ pub mod Faults
 pub mod Schema
 pub mod Symbols
 pub mod Table
+pub mod Forms
 pub mod Layout
 pub mod FieldKinds
 pub mod Claims

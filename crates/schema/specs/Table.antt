@@ -24,11 +24,19 @@ SY = 83 ∷ (89 ∷ [])
 abbrev pub GR : List ℕ
 GR = 71 ∷ (82 ∷ [])
 
+-- Document 02, request 8: "A new group record, mark `GW`, is `GR` with the width in bytes 14-15."
+abbrev pub GW : List ℕ
+GW = 71 ∷ (87 ∷ [])
+
 abbrev pub FD : List ℕ
 FD = 70 ∷ (68 ∷ [])
 
 abbrev pub marked : List ℕ → List ℕ → Bool
 marked m t = same (take 2 t) m
+
+-- A group's record has either mark.
+unfoldable pub groupMarked : List ℕ → Bool
+groupMarked t = marked GR t || marked GW t
 
 -- THE RECORDS' CONTENTS, BY BYTE
 
@@ -40,7 +48,7 @@ symbolCount t = le (part 2 2 t)
 abbrev pub symbolValue : List ℕ → ℕ
 symbolValue t = le (part 4 2 t)
 
--- `GR`: "2-9 type id; 10 has an id; 11-12 super group number plus 1, or 0; 13 field count"
+-- `GR` and `GW`: "2-9 type id; 10 has an id; 11-12 super group number plus 1, or 0; 13 field count"
 abbrev pub typeId : List ℕ → ℕ
 typeId t = le (part 8 2 t)
 
@@ -52,6 +60,10 @@ superNumber t = le (part 2 11 t)
 
 abbrev pub fieldCount : List ℕ → ℕ
 fieldCount t = getD t 13 0
+
+-- `GW`: "the width in bytes 14-15"
+abbrev pub storedWidth : List ℕ → ℕ
+storedWidth t = le (part 2 14 t)
 
 -- `FD`: "2 type; 3 optional; 4 sequence; 5 size; 6-7 reference"
 abbrev pub fieldType : List ℕ → ℕ
@@ -116,11 +128,11 @@ enumsFrom (suc n) t = let rest = enumsFrom n (drop 16 t) in cond (marked EN t) (
 
 unfoldable pub groupsFrom : List (List ℕ) → ℕ → List ℕ → List Group
 groupsFrom es zero t = []
-groupsFrom es (suc n) t = let rest = groupsFrom es n (drop 16 t) in cond (marked GR t) (groupAt es t ∷ rest) rest
+groupsFrom es (suc n) t = let rest = groupsFrom es n (drop 16 t) in cond (groupMarked t) (groupAt es t ∷ rest) rest
 
 unfoldable pub placesFrom : ℕ → ℕ → List ℕ → List ℕ
 placesFrom zero p t = []
-placesFrom (suc n) p t = let rest = placesFrom n (p + 16) (drop 16 t) in cond (marked GR t) (p ∷ rest) rest
+placesFrom (suc n) p t = let rest = placesFrom n (p + 16) (drop 16 t) in cond (groupMarked t) (p ∷ rest) rest
 
 abbrev pub recordCount : List ℕ → ℕ
 recordCount t = length t / 16
@@ -137,34 +149,42 @@ places t = placesFrom (recordCount t) 0 t
 -- 31, RECORD BY RECORD
 -- "a mark is not the one due, a record is missing, a count is out of range, or there is a 65th enumeration or group"
 
--- How many enumerations and groups there were, and how many records the last of them still has to come.
+-- How many enumerations and groups there were, how many records the last of them still has to come, and whether the groups store their widths.
 pub record Due : Type 0 where
   pub enumerations : ℕ
   pub groups : ℕ
   pub owed : ℕ
+  pub stored : Bool
 
 -- "First the enumerations, then the groups"
 unfoldable pub isEnum : Due → List ℕ → Bool
 isEnum d t = eqb (d .groups) 0 && marked EN t
 
+abbrev pub groupMark : Bool → List ℕ
+groupMark stored = cond stored GW GR
+
+-- "A table has all `GR` or all `GW`; a mix is 31": the first group says which mark is due.
+unfoldable pub isGroup : Due → List ℕ → Bool
+isGroup d t = cond (eqb (d .groups) 0) (groupMarked t) (marked (groupMark (d .stored)) t)
+
 unfoldable pub isDue : Due → List ℕ → Bool
 isDue d t =
     cond (ltb 0 (d .owed)) (marked (cond (eqb (d .groups) 0) SY FD) t)
     (cond (isEnum d t) (ltb (d .enumerations) 64 && (leb 1 (symbolCount t) && leb (symbolCount t) 256))
-    (marked GR t && (ltb (d .groups) 64 && leb (fieldCount t) 64)))
+    (isGroup d t && (ltb (d .groups) 64 && leb (fieldCount t) 64)))
 
 unfoldable pub dueAfter : Due → List ℕ → Due
 dueAfter d t =
-    cond (ltb 0 (d .owed)) (record { enumerations = d .enumerations; groups = d .groups; owed = d .owed - 1 })
-    (cond (isEnum d t) (record { enumerations = d .enumerations + 1; groups = d .groups; owed = symbolCount t })
-    (record { enumerations = d .enumerations; groups = d .groups + 1; owed = fieldCount t }))
+    cond (ltb 0 (d .owed)) (record { enumerations = d .enumerations; groups = d .groups; owed = d .owed - 1; stored = d .stored })
+    (cond (isEnum d t) (record { enumerations = d .enumerations + 1; groups = d .groups; owed = symbolCount t; stored = d .stored })
+    (record { enumerations = d .enumerations; groups = d .groups + 1; owed = fieldCount t; stored = marked GW t }))
 
 unfoldable pub shapeFrom : ℕ → Due → ℕ → List ℕ → Verdict
 shapeFrom zero d p t = need (eqb (d .owed) 0) (Refused 31 p) Accepted
 shapeFrom (suc n) d p t = need (isDue d t) (Refused 31 p) (shapeFrom n (dueAfter d t) (p + 16) (drop 16 t))
 
 unfoldable pub shapeVerdict : List ℕ → Verdict
-shapeVerdict t = shapeFrom (recordCount t) (record { enumerations = 0; groups = 0; owed = 0 }) 0 t
+shapeVerdict t = shapeFrom (recordCount t) (record { enumerations = 0; groups = 0; owed = 0; stored = false }) 0 t
 
 -- 32, 33, 34, RECORD BY RECORD
 
@@ -177,10 +197,10 @@ symbolVerdict low p t =
     need (allZero (part 10 6 t)) (Refused 32 p)
     (need (leb low (rank (symbolValue t))) (Refused 34 p) Accepted)
 
--- own: the group's number.
+-- own: the group's number. Bytes 14-15 are zero, or a stored width.
 unfoldable pub groupVerdict : List Group → ℕ → ℕ → List ℕ → Verdict
 groupVerdict gs own p t =
-    need (ltb (idFlag t) 2 && ((eqb (idFlag t) 1 || allZero (part 8 2 t)) && allZero (part 2 14 t))) (Refused 32 p)
+    need (ltb (idFlag t) 2 && ((eqb (idFlag t) 1 || allZero (part 8 2 t)) && (marked GW t || allZero (part 2 14 t)))) (Refused 32 p)
     (need (leb (superNumber t) own) (Refused 33 p)
     (need (not (eqb (idFlag t) 1 && known (take own gs) (typeId t))) (Refused 34 p) Accepted))
 
@@ -205,19 +225,19 @@ unfoldable pub recordVerdict : ℕ → List Group → ℕ → ℕ → ℕ → Li
 recordVerdict ne gs next low p t =
     cond (marked FD t) (fieldVerdict ne (length gs) (next - 1) p t)
     (cond (marked SY t) (symbolVerdict low p t)
-    (cond (marked GR t) (groupVerdict gs next p t)
+    (cond (groupMarked t) (groupVerdict gs next p t)
     (enumVerdict p t)))
 
 unfoldable pub recordsFrom : ℕ → List Group → ℕ → ℕ → ℕ → ℕ → List ℕ → Verdict
 recordsFrom ne gs zero next low p t = Accepted
 recordsFrom ne gs (suc n) next low p t =
     also (recordVerdict ne gs next low p t)
-    (recordsFrom ne gs n (cond (marked GR t) (next + 1) next) (cond (marked SY t) (rank (symbolValue t) + 1) 0) (p + 16) (drop 16 t))
+    (recordsFrom ne gs n (cond (groupMarked t) (next + 1) next) (cond (marked SY t) (rank (symbolValue t) + 1) 0) (p + 16) (drop 16 t))
 
 unfoldable pub recordsVerdict : List ℕ → Verdict
 recordsVerdict t = recordsFrom (length (enums t)) (schema t) (recordCount t) 0 0 0 t
 
--- 34 FOR NO ID, AND 35
+-- 34 FOR NO ID
 
 unfoldable pub anyId : List Group → Bool
 anyId [] = false
@@ -226,15 +246,19 @@ anyId (g ∷ gs) = g .hasId || anyId gs
 unfoldable pub idVerdict : List ℕ → Verdict
 idVerdict t = need (anyId (schema t)) (Refused 34 (length t)) Accepted
 
--- "width over 4,096, static depth over 4, or a type 21 field whose group has width 0", group by group from number g on
-unfoldable pub widthsFrom : List Group → ℕ → List ℕ → Verdict
-widthsFrom gs g [] = Accepted
-widthsFrom gs g (p ∷ ps) = need (leb (width gs 5 g) 4096 && shallow gs 5 g) (Refused 35 p) (widthsFrom gs (g + 1) ps)
+-- 35, 36 AND 37, GROUP BY GROUP
+
+-- Fault n of the first group that fails its test, at its record. The groups' records stand at ps, the first of them that of group number g.
+unfoldable pub eachGroup : ℕ → (ℕ → ℕ → Bool) → ℕ → List ℕ → Verdict
+eachGroup n test g [] = Accepted
+eachGroup n test g (p ∷ ps) = need (test g p) (Refused n p) (eachGroup n test (g + 1) ps)
+
+-- 35: "width over 4,096, static depth over 4, or a type 21 field whose group has width 0". It "goes by the true widths".
+unfoldable pub inBounds : List Group → ℕ → Bool
+inBounds gs g = leb (width gs 5 g) 4096 && shallow gs 5 g
 
 unfoldable pub widthsVerdict : List ℕ → Verdict
-widthsVerdict t = widthsFrom (schema t) 0 (places t)
-
--- 36, GROUP BY GROUP
+widthsVerdict t = eachGroup 35 (λ g _. inBounds (schema t) g) 0 (places t)
 
 -- Document 02, request 5: "A field list must begin with the super group's fields, record for record." t begins with the group's record, s with the
 -- super's. They are compared by their bytes, so a reference to an equal enumeration is another field.
@@ -247,16 +271,20 @@ inherits t p =
     let super = superNumber (drop p t) in
     eqb super 0 || beginsWith (drop p t) (drop (getD (places t) (super - 1) 0) t)
 
-unfoldable pub supersFrom : List ℕ → List ℕ → Verdict
-supersFrom t [] = Accepted
-supersFrom t (p ∷ ps) = need (inherits t p) (Refused 36 p) (supersFrom t ps)
-
 unfoldable pub supersVerdict : List ℕ → Verdict
-supersVerdict t = supersFrom t (places t)
+supersVerdict t = eachGroup 36 (λ _ p. inherits t p) 0 (places t)
+
+-- Request 8: "A wrong stored width is 37". Group number g, whose record stands at p, stores no width, or its own.
+unfoldable pub storesOwn : List ℕ → ℕ → ℕ → Bool
+storesOwn t g p = not (marked GW (drop p t)) || eqb (storedWidth (drop p t)) (width (schema t) 5 g)
+
+unfoldable pub storedVerdict : List ℕ → Verdict
+storedVerdict t = eachGroup 37 (storesOwn t) 0 (places t)
 
 -- THE TABLE'S VERDICT
 -- "Table order: 30, then 31 over all records, then 32, 33, 34 record by record, then 34 for no id at all, then 35 group by group."
--- "New refusal 36, group by group, place the `GR` record, tested after every 35."
+-- "New refusal 36, group by group, place the `GR` record, tested after every 35." "A wrong stored width is 37, group by group, place the `GW`
+-- record, after 36."
 unfoldable pub tableVerdict : List ℕ → Verdict
 tableVerdict t =
     need (ltb 0 (length t) && (leb (length t) 65536 && eqb (length t % 16) 0)) (Refused 30 0)
@@ -264,4 +292,5 @@ tableVerdict t =
     (also (recordsVerdict t)
     (also (idVerdict t)
     (also (widthsVerdict t)
-    (supersVerdict t)))))
+    (also (supersVerdict t)
+    (storedVerdict t))))))

@@ -11,7 +11,7 @@ ghost use lib.Dec.{eqb};
 ghost use Rattle.wire.specs.Bytes.{part};
 ghost use Rattle.schema.specs.Schema.{textOk, member, find, known, allows, kindWidth, valueWidth, fieldWidth};
 ghost use Rattle.schema.specs.Symbols.{rank, halve};
-ghost use Rattle.schema.specs.Table.{scalarWidth, symbolCount, symbolValue, typeId, idFlag, superNumber, fieldCount, fieldType, fieldSize, reference, fieldAt, enums, schema};
+ghost use Rattle.schema.specs.Table.{scalarWidth, symbolCount, symbolValue, typeId, idFlag, superNumber, fieldCount, storedWidth, fieldType, fieldSize, reference, fieldAt, enums, schema};
 ghost use Rattle.schema.specs.Layout.{groupPlace, groupTotal, enumTotal, symbolPlace, symbolTotal, staticDepth, widthIn, Placed, Layout};
 ghost use Rattle.schema.specs.FieldKinds.{kindFrom, textKind, testedKind, kindFault, plainField, Widths};
 
@@ -168,6 +168,14 @@ pub fn field_count(table: &[u8], at: usize) -> usize
     ensures { λ r. ⌜ (r ≡ fieldCount (drop at (now (table .entry)))) × (r < 256) ⌝ }
 {
     wire::wide(table[at + 13])
+}
+
+// The width that the group stores whose `GW` record stands at `at`.
+pub fn stored_width(table: &[u8], at: usize) -> usize
+    requires { ⌜ at + 16 ≤ length (now table) ⌝ }
+    ensures { λ r. ⌜ (r ≡ storedWidth (drop at (now (table .entry)))) × (r < 2 ^ 16) ⌝ }
+{
+    wire::read_u16(table, at + 14)
 }
 
 // Whether the group whose record stands at `at` has this id. Of most groups the id's own test says no.

@@ -10,44 +10,32 @@ use borrow.Author.Tests.{eqb-true, eqb-false, ltb-true, ltb-false, eq-eqb, lt-lt
 use Rattle.schema.specs.declared.Verdict.the-variants.{Accepted}
 use Rattle.schema.specs.Schema.{Group, find, known, superOf, width, shallow}
 use Rattle.schema.specs.Symbols.{rank}
-use Rattle.schema.specs.Table.{GR, SY, symbolValue, recordVerdict, marked, idFlag, typeId, groupAt, groupsFrom, enumsFrom, recordCount, enums, schema, places, shapeVerdict, groupVerdict, recordsFrom, recordsVerdict, widthsFrom, widthsVerdict, supersVerdict, tableVerdict}
+use Rattle.schema.specs.Table.{SY, symbolValue, recordVerdict, marked, groupMarked, idFlag, typeId, groupAt, groupsFrom, enumsFrom, recordCount, enums, schema, places, shapeVerdict, groupVerdict, recordsFrom, recordsVerdict, inBounds, widthsVerdict, tableVerdict}
 use Rattle.table.specs.Measure.{Sound}
 use Rattle.table.specs.Claims.{BeginsSuper}
-use Rattle.table.proofs.Laws.{record-group}
+use Rattle.table.proofs.Laws.{need-accepted, also-accepted, each-passed, record-group}
 use Rattle.table.proofs.Records.{drop-next, symbol-no-group, symbol-no-enum, field-no-group, field-no-enum, enum-no-group, group-no-enum, group-no-field, group-no-symbol}
 use Rattle.schema.proofs.Depth.{and-both}
-use Rattle.table.proofs.Formed.{need-accepted, also-accepted, Formed, end, symbol, field, enum, group, formed, shallow-out, schema-sound, supers-low}
+use Rattle.table.proofs.Formed.{Passed, passed, Formed, end, symbol, field, enum, group, formed, shallow-out, schema-sound, supers-low}
 use Rattle.table.proofs.Supers.{groups-placed, begins-super}
 
 -- HOW MANY
 
-few-groups : {n e g o : ℕ} {t : List ℕ} → (es : List (List ℕ)) → Formed n e g o t → g ≤ 64 → g + length (groupsFrom es n t) ≤ 64
+few-groups : {n e g o : ℕ} {s : Bool} {t : List ℕ} → (es : List (List ℕ)) → Formed n e g o s t → g ≤ 64 → g + length (groupsFrom es n t) ≤ 64
 unfolding groupsFrom
 few-groups es (end z) l = omega arith
 few-groups {t = t} es (symbol _ _ m f) l = rw (symbol-no-group t m) (few-groups es f l)
 few-groups {t = t} es (field _ _ m f) l = rw (field-no-group t m) (few-groups es f l)
 few-groups {t = t} es (enum _ _ m _ _ f) l = rw (enum-no-group t m) (few-groups es f l)
-few-groups {t = t} es (group _ m k f) l = let r = few-groups es f (omega arith) in rw m (omega (arith, r))
+few-groups {t = t} es (group _ m _ k f) l = let r = few-groups es f (omega arith) in rw m (omega (arith, r))
 
-few-enums : {n e g o : ℕ} {t : List ℕ} → Formed n e g o t → e ≤ 64 → e + length (enumsFrom n t) ≤ 64
+few-enums : {n e g o : ℕ} {s : Bool} {t : List ℕ} → Formed n e g o s t → e ≤ 64 → e + length (enumsFrom n t) ≤ 64
 unfolding enumsFrom
 few-enums (end z) l = omega arith
 few-enums {t = t} (symbol _ _ m f) l = rw (symbol-no-enum t m) (few-enums f l)
 few-enums {t = t} (field _ _ m f) l = rw (field-no-enum t m) (few-enums f l)
 few-enums {t = t} (enum _ _ m k _ f) l = let r = few-enums f (omega arith) in rw m (omega (arith, r))
-few-enums {t = t} (group _ m _ f) l = rw (group-no-enum t m) (few-enums f l)
-
--- 35
-
-widths-shallow : (gs : List Group) (g : ℕ) (ps : List ℕ) → widthsFrom gs g ps ≡ Accepted → (i : ℕ) → i < length ps → shallow gs 5 (g + i) ≡ true
-unfolding widthsFrom
-widths-shallow gs g [] e i l = absurd (omega arith)
-widths-shallow gs g (p ∷ ps) e zero l =
-    let z : g + 0 ≡ g = omega arith in
-    rw z (and-both (leb (width gs 5 g) 4096) (shallow gs 5 g) (need-accepted _ _ _ _ e .0) .1)
-widths-shallow gs g (p ∷ ps) e (suc i) l =
-    let z : g + 1 + i ≡ g + suc i = omega arith in
-    rw z at (widths-shallow gs (g + 1) ps (need-accepted _ _ _ _ e .1) i (omega arith))
+few-enums {t = t} (group _ m _ _ f) l = rw (group-no-enum t m) (few-enums f l)
 
 -- A TYPE ID NAMES ONE GROUP
 
@@ -83,7 +71,7 @@ known-in gs g n id l x = lt-ltb _ _ (found-in gs g n id l x)
 
 module _ (es : List (List ℕ)) (ne : ℕ) (gs : List Group) where
   -- a group's id is none of those before
-  fresh : {n e g o : ℕ} {t : List ℕ} → Formed n e g o t → (low p : ℕ) → recordsFrom ne gs n g low p t ≡ Accepted → drop g gs ≡ groupsFrom es n t
+  fresh : {n e g o : ℕ} {s : Bool} {t : List ℕ} → Formed n e g o s t → (low p : ℕ) → recordsFrom ne gs n g low p t ≡ Accepted → drop g gs ≡ groupsFrom es n t
       → (k id : ℕ) → g ≤ k → Names gs k id → known (take k gs) id ≡ false
   unfolding recordsFrom groupsFrom
   fresh {g = g} (end z) low p h d k id l x = absurd (past gs g k l d (x .at))
@@ -98,9 +86,9 @@ module _ (es : List (List ℕ)) (ne : ℕ) (gs : List Group) where
   fresh {t = t} (symbol _ _ m f) low p h d k id l x = let n = symbol-no-group t m in fresh f _ _ (rw n at (also-accepted _ _ h .1)) (rw n at d) k id l x
   fresh {t = t} (field _ _ m f) low p h d k id l x = let n = field-no-group t m in fresh f _ _ (rw n at (also-accepted _ _ h .1)) (rw n at d) k id l x
   fresh {t = t} (enum _ _ m _ _ f) low p h d k id l x = let n = enum-no-group t m in fresh f _ _ (rw n at (also-accepted _ _ h .1)) (rw n at d) k id l x
-  fresh {n = suc n} {g = g} {t = t} (group _ m _ f) low p h d k id l x = go (eqb k g) refl (λ q. fresh f _ _ (rw m at (v .1)) (drop-next gs _ _ g all) k id q x)
+  fresh {n = suc n} {g = g} {t = t} (group _ m _ _ f) low p h d k id l x = go (eqb k g) refl (λ q. fresh f _ _ (rw m at (v .1)) (drop-next gs _ _ g all) k id q x)
     where
-      v : (recordVerdict ne gs g low p t ≡ Accepted) × (recordsFrom ne gs n (cond (marked GR t) (g + 1) g) (cond (marked SY t) (rank (symbolValue t) + 1) 0) (p + 16) (drop 16 t) ≡ Accepted)
+      v : (recordVerdict ne gs g low p t ≡ Accepted) × (recordsFrom ne gs n (cond (groupMarked t) (g + 1) g) (cond (marked SY t) (rank (symbolValue t) + 1) 0) (p + 16) (drop 16 t) ≡ Accepted)
       v = also-accepted _ _ h
 
       all : drop g gs ≡ groupAt es t ∷ groupsFrom es n (drop 16 t)
@@ -140,28 +128,24 @@ accepted t e = record {
   shallows = λ g. shallows g (ltb g (length (schema t))) refl;
   sound = schema-sound t shape records;
   supers = supers-low t shape records;
-  begins = begins-super t (supers-low t shape records) (phases .3);
+  begins = begins-super t (supers-low t shape records) (all .supers);
   groups = groups;
   lists = lists;
   fresh = new;
   unique = unique;
 }
   where
-    phases : (shapeVerdict t ≡ Accepted) × (recordsVerdict t ≡ Accepted) × (widthsVerdict t ≡ Accepted) × (supersVerdict t ≡ Accepted)
-    phases = unfold tableVerdict in
-        let a = also-accepted _ _ (need-accepted _ _ _ _ e .1) in
-        let b = also-accepted _ _ (a .1) in
-        let c = also-accepted _ _ (also-accepted _ _ (b .1) .1) in
-        (a .0, b .0, c .0, c .1)
+    all : Passed t
+    all = passed t e
 
     shape : shapeVerdict t ≡ Accepted
-    shape = phases .0
+    shape = all .shape
 
     records : recordsVerdict t ≡ Accepted
-    records = phases .1
+    records = all .records
 
-    form : Formed (recordCount t) 0 0 0 t
-    form = unfold shapeVerdict in formed (recordCount t) 0 0 0 0 t shape
+    form : Formed (recordCount t) 0 0 0 false t
+    form = unfold shapeVerdict in formed (recordCount t) _ 0 t shape
 
     groups : length (schema t) ≤ 64
     groups = unfold schema in omega (arith, few-groups (enums t) form (omega arith))
@@ -170,9 +154,10 @@ accepted t e = record {
     lists = unfold enums in omega (arith, few-enums form (omega arith))
 
     shallows : (g : ℕ) (c : Bool) → ltb g (length (schema t)) ≡ c → shallow (schema t) 5 g ≡ true
-    shallows g true q = unfold widthsVerdict in
+    shallows g true q = unfold widthsVerdict inBounds in
         let z : 0 + g ≡ g = omega arith in
-        rw z at (widths-shallow (schema t) 0 (places t) (phases .2) g (omega (arith, groups-placed t, ltb-true g (length (schema t)) q)))
+        let passed = each-passed 35 _ 0 (places t) (all .widths) g (omega (arith, groups-placed t, ltb-true g (length (schema t)) q)) in
+        rw z at (and-both (leb (width (schema t) 5 (0 + g)) 4096) (shallow (schema t) 5 (0 + g)) passed .1)
     shallows g false q = shallow-out (schema t) 4 g (ltb-false g (length (schema t)) q)
 
     new : (k id : ℕ) → Names (schema t) k id → known (take k (schema t)) id ≡ false

@@ -1,4 +1,5 @@
--- What every accepted table gives: its enumerations are in order, so request 4's theorems hold of them, and its groups begin with those above them.
+-- What every accepted table gives: its enumerations are in order, so request 4's theorems hold of them, its groups begin with those above them, and
+-- what they store is their width.
 use mathlib.Core.Path.{_≡_, refl, sym, ap, _∙_}
 use mathlib.Core.Bool.{Bool, true, false, _||_, _&&_}
 use mathlib.Core.List.{List, [], _++_, append-assoc, append-nil}
@@ -8,9 +9,15 @@ use lib.ListN.{length, length-append, List·getD-append}
 use lib.Seq.{take-append-le}
 use lib.Dec.{ltb, eqb}
 use borrow.Author.Tests.{eqb-true, ltb-true}
+use Rattle.schema.specs.declared.Verdict.the-variants.{Accepted}
 use Rattle.schema.specs.Schema.{Field, Group, fieldsWidth, fieldsOf, superOf, under}
+use Rattle.schema.specs.Table.{widthsVerdict, tableVerdict}
 use Rattle.schema.proofs.Symbols.{nine}
-use Rattle.table.specs.Claims.{Begins, BeginsSuper, SameField, Inherits, AcceptedTables}
+use Rattle.table.specs.Claims.{Begins, BeginsSuper, SameField, Inherits, StoredWidths, AcceptedTables, TrueWidths}
+use Rattle.schema.proofs.Forms.{schema-toGR, places-toGR}
+use Rattle.table.proofs.Supers.{groups-placed}
+use Rattle.table.proofs.Stored.{stored-true}
+use Rattle.table.proofs.Formed.{passed, all-marked}
 use Rattle.table.proofs.Accepted.{accepted}
 use Rattle.table.proofs.Values.{accepted-ordered}
 
@@ -42,8 +49,19 @@ module _ (gs : List Group) (super : BeginsSuper gs) where
   pub inherits-all : Inherits gs
   inherits-all = record { super = super; above = λ a g. above g a g; field = λ a g n h. same-field a g n (above g a g h) }
 
+stored-widths : (t : List ℕ) → tableVerdict t ≡ Accepted → StoredWidths t
+stored-widths t h =
+    let p = passed t h in
+    let m = all-marked t (p .shape) in
+    record { mark = (m .0, λ g l. m .1 g (rw (← (groups-placed t)) l)); own = λ g l. stored-true t (p .stored) g (rw (← (groups-placed t)) l) }
+
+pub true-widths : TrueWidths
+unfolding widthsVerdict
+true-widths t = rw (schema-toGR t, places-toGR t)
+
 pub accepted-tables : AcceptedTables
 accepted-tables = record {
   lists = λ t h. record { ordered = accepted-ordered t h; nine = λ e v. nine _ v (accepted-ordered t h e) };
   inherits = λ t h. inherits-all _ (accepted t h .begins);
+  widths = stored-widths;
 }

@@ -1,82 +1,105 @@
 -- The shape of a table that passed 31, what 32 to 34 leave of its schema, its index, and the phases in a row.
-use mathlib.Core.Path.{_≡_, refl, sym, _∙_}
+use mathlib.Core.Path.{_≡_, refl, sym, ap, _∙_}
 use mathlib.Core.Bool.{Bool, true, false, cond, _&&_, _||_}
 use mathlib.Core.List.{List, [], _∷_}
 use Prim.Native.Nat.{ℕ, zero, suc, _+_, _-_, _%_, _<_, _≤_}
 use native.Mathlib.Omega.{arith}
 use lib.ListN.{length, drop, getD}
+use lib.Seq.{drop-drop}
 use lib.Dec.{leb, ltb, eqb}
 use borrow.Author.Tests.{eqb-true, eqb-false, ltb-true, ltb-false, leb-true, le-leb, lt-ltb}
-use Rattle.schema.specs.declared.Verdict.{Verdict}
 use Rattle.schema.specs.declared.Verdict.the-variants.{Accepted, Refused}
-use Rattle.schema.specs.Faults.{need, also}
+use Rattle.schema.specs.Faults.{also}
 use Rattle.schema.specs.Schema.{Kind, Group, fieldsOf, superOf, width, shallowFields, shallow}
-use Rattle.schema.specs.Table.{EN, SY, GR, FD, marked, symbolCount, superNumber, fieldCount, fieldType, fieldSize, reference, scalarWidths, scalarWidth, kindOf, fieldAt, fieldsAt, groupAt, groupsFrom, recordCount, enums, schema, Due, isEnum, isDue, dueAfter, shapeFrom, shapeVerdict, sizeOk, referenceOk, fieldVerdict, groupVerdict, recordsFrom, recordsVerdict, anyId, idVerdict, widthsVerdict, supersVerdict, tableVerdict}
+use Rattle.schema.specs.Table.{EN, SY, GW, FD, marked, groupMarked, symbolCount, superNumber, fieldCount, fieldType, fieldSize, reference, scalarWidths, scalarWidth, kindOf, fieldAt, fieldsAt, groupAt, groupsFrom, placesFrom, recordCount, enums, schema, places, Due, isEnum, groupMark, isDue, dueAfter, shapeFrom, shapeVerdict, sizeOk, referenceOk, fieldVerdict, groupVerdict, recordsFrom, recordsVerdict, anyId, idVerdict, widthsVerdict, supersVerdict, storedVerdict, tableVerdict}
 use Rattle.schema.specs.Symbols.{Ordered}
 use Rattle.schema.specs.Layout.{widthIn, Layout}
 use Rattle.table.specs.Index.{Whole, Placing}
 use Rattle.table.specs.Measure.{soundKind, soundFields, Sound, Known}
-use Rattle.table.proofs.Laws.{cond-yes, need-yes, need-no, also-pass, also-stop, record-field, record-group}
-use Rattle.table.proofs.Records.{due-symbol, due-field, after-owed, after-enum, after-group, enum-is, enum-due, group-due, symbol-no-group, field-no-group, enum-no-group, group-no-field, group-no-symbol}
+use Rattle.table.proofs.Laws.{cond-yes, need-accepted, also-accepted, need-yes, need-no, also-pass, also-stop, record-field, record-group}
+use Rattle.table.proofs.Records.{due-symbol, due-field, after-owed, after-enum, after-group, enum-is, enum-due, group-due, group-next, group-marked, own-mark, is-mark, symbol-no-group, field-no-group, enum-no-group, group-no-field, group-no-symbol}
 use Rattle.schema.proofs.Depth.{and-both}
 use Rattle.schema.proofs.Groups.{fields-past, width-past}
 use Rattle.table.proofs.Widths.{width-at}
+use Rattle.table.proofs.Stored.{stored-at}
 
-pub need-accepted : (c : Bool) (n p : ℕ) (k : Verdict) → need c (Refused n p) k ≡ Accepted → (c ≡ true) × (k ≡ Accepted)
-unfolding need
-need-accepted true n p k e = (refl, e)
-need-accepted false n p k e = absurd (let z : _≡_ {A = ℕ} 0 1 = cc in omega arith)
+-- THE SHAPE: n records from t on, when e enumerations and g groups came before, which store their widths or not, and o records are owed
 
-pub also-accepted : (v w : Verdict) → also v w ≡ Accepted → (v ≡ Accepted) × (w ≡ Accepted)
-unfolding also
-also-accepted Accepted w e = (refl, e)
-also-accepted (Refused n p) w e = absurd (let z : _≡_ {A = ℕ} 0 1 = cc in omega arith)
+pub data Formed : ℕ → ℕ → ℕ → ℕ → Bool → List ℕ → Type 0 where
+  end : {e g o : ℕ} {s : Bool} {t : List ℕ} → o ≡ 0 → Formed 0 e g o s t
+  symbol : {n e g o : ℕ} {s : Bool} {t : List ℕ} → 0 < o → g ≡ 0 → marked SY t ≡ true → Formed n e g (o - 1) s (drop 16 t) → Formed (suc n) e g o s t
+  field : {n e g o : ℕ} {s : Bool} {t : List ℕ} → 0 < o → (g ≡ 0 → ⊥) → marked FD t ≡ true → Formed n e g (o - 1) s (drop 16 t) → Formed (suc n) e g o s t
+  enum : {n e g o : ℕ} {s : Bool} {t : List ℕ} → o ≤ 0 → g ≡ 0 → marked EN t ≡ true → e < 64 → symbolCount t ≤ 256 → Formed n (e + 1) g (symbolCount t) s (drop 16 t) → Formed (suc n) e g o s t
+  group : {n e g o : ℕ} {s : Bool} {t : List ℕ} → o ≤ 0 → groupMarked t ≡ true → ((g ≡ 0 → ⊥) → marked (groupMark s) t ≡ true) → g < 64
+      → Formed n e (g + 1) (fieldCount t) (marked GW t) (drop 16 t) → Formed (suc n) e g o s t
 
--- THE SHAPE: n records from t on, when e enumerations and g groups came before and o records are owed
+abbrev FormedDue : ℕ → Due → List ℕ → Type 0
+FormedDue n d = Formed n (d .enumerations) (d .groups) (d .owed) (d .stored)
 
-pub data Formed : ℕ → ℕ → ℕ → ℕ → List ℕ → Type 0 where
-  end : {e g o : ℕ} {t : List ℕ} → o ≡ 0 → Formed 0 e g o t
-  symbol : {n e g o : ℕ} {t : List ℕ} → 0 < o → g ≡ 0 → marked SY t ≡ true → Formed n e g (o - 1) (drop 16 t) → Formed (suc n) e g o t
-  field : {n e g o : ℕ} {t : List ℕ} → 0 < o → (g ≡ 0 → ⊥) → marked FD t ≡ true → Formed n e g (o - 1) (drop 16 t) → Formed (suc n) e g o t
-  enum : {n e g o : ℕ} {t : List ℕ} → o ≤ 0 → g ≡ 0 → marked EN t ≡ true → e < 64 → symbolCount t ≤ 256 → Formed n (e + 1) g (symbolCount t) (drop 16 t) → Formed (suc n) e g o t
-  group : {n e g o : ℕ} {t : List ℕ} → o ≤ 0 → marked GR t ≡ true → g < 64 → Formed n e (g + 1) (fieldCount t) (drop 16 t) → Formed (suc n) e g o t
-
-abbrev due : ℕ → ℕ → ℕ → Due
-due e g o = record { enumerations = e; groups = g; owed = o }
-
-pub formed : (n e g o p : ℕ) (t : List ℕ) → shapeFrom n (due e g o) p t ≡ Accepted → Formed n e g o t
+pub formed : (n : ℕ) (d : Due) (p : ℕ) (t : List ℕ) → shapeFrom n d p t ≡ Accepted → FormedDue n d t
 unfolding shapeFrom
-formed zero e g o p t h = end (eqb-true o 0 (need-accepted (eqb o 0) 31 p Accepted h .0))
-formed (suc n) e g o p t h =
-    let a = need-accepted (isDue (due e g o) t) 31 p (shapeFrom n (dueAfter (due e g o) t) (p + 16) (drop 16 t)) h in
-    go (λ e′ g′ o′ q. formed n e′ g′ o′ (p + 16) (drop 16 t) q) (a .0) (a .1) (ltb 0 o) refl
+formed zero d p t h = end (eqb-true (d .owed) 0 (need-accepted (eqb (d .owed) 0) 31 p Accepted h .0))
+formed (suc n) d p t h =
+    let a = need-accepted (isDue d t) 31 p (shapeFrom n (dueAfter d t) (p + 16) (drop 16 t)) h in
+    go (λ d′ q. formed n d′ (p + 16) (drop 16 t) q) (a .0) (a .1) (ltb 0 (d .owed)) refl
   where
-    go : ((e′ g′ o′ : ℕ) → shapeFrom n (due e′ g′ o′) (p + 16) (drop 16 t) ≡ Accepted → Formed n e′ g′ o′ (drop 16 t)) → isDue (due e g o) t ≡ true
-        → shapeFrom n (dueAfter (due e g o) t) (p + 16) (drop 16 t) ≡ Accepted → (c : Bool) → ltb 0 o ≡ c → Formed (suc n) e g o t
-    go ih is r true q = more (eqb g 0) refl
+    go : ((d′ : Due) → shapeFrom n d′ (p + 16) (drop 16 t) ≡ Accepted → FormedDue n d′ (drop 16 t)) → isDue d t ≡ true
+        → shapeFrom n (dueAfter d t) (p + 16) (drop 16 t) ≡ Accepted → (c : Bool) → ltb 0 (d .owed) ≡ c → FormedDue (suc n) d t
+    go ih is r true q = more (eqb (d .groups) 0) refl
       where
-        l : 0 < o
-        l = ltb-true 0 o q
+        l : 0 < d .owed
+        l = ltb-true 0 (d .owed) q
 
-        rest : Formed n e g (o - 1) (drop 16 t)
-        rest = ih e g (o - 1) (rw (after-owed (due e g o) t l) at r)
+        rest : Formed n (d .enumerations) (d .groups) (d .owed - 1) (d .stored) (drop 16 t)
+        rest = ih _ (rw (after-owed d t l) at r)
 
-        more : (c : Bool) → eqb g 0 ≡ c → Formed (suc n) e g o t
-        more true z = let y = eqb-true g 0 z in symbol l y (sym (due-symbol (due e g o) t l y) ∙ is) rest
-        more false z = let y = eqb-false g 0 z in field l y (sym (due-field (due e g o) t l y) ∙ is) rest
-    go ih is r false q = begin (isEnum (due e g o) t) refl
+        more : (c : Bool) → eqb (d .groups) 0 ≡ c → FormedDue (suc n) d t
+        more true z = let y = eqb-true (d .groups) 0 z in symbol l y (sym (due-symbol d t l y) ∙ is) rest
+        more false z = let y = eqb-false (d .groups) 0 z in field l y (sym (due-field d t l y) ∙ is) rest
+    go ih is r false q = begin (isEnum d t) refl
       where
-        l : o ≤ 0
-        l = ltb-false 0 o q
+        l : d .owed ≤ 0
+        l = ltb-false 0 (d .owed) q
 
-        begin : (c : Bool) → isEnum (due e g o) t ≡ c → Formed (suc n) e g o t
+        begin : (c : Bool) → isEnum d t ≡ c → FormedDue (suc n) d t
         begin true z =
-            let m = enum-is (due e g o) t z in
-            let c = enum-due (due e g o) t l z is in
-            enum l (m .0) (m .1) (c .0) (c .2) (ih (e + 1) g (symbolCount t) (rw (after-enum (due e g o) t l z) at r))
+            let m = enum-is d t z in
+            let c = enum-due d t l z is in
+            enum l (m .0) (m .1) (c .0) (c .2) (ih _ (rw (after-enum d t l z) at r))
         begin false z =
-            let m = group-due (due e g o) t l z is in
-            group l (m .0) (m .1) (ih e (g + 1) (fieldCount t) (rw (after-group (due e g o) t l z) at r))
+            let m = group-due d t l z is in
+            group l (group-marked d t (m .0)) (λ h. sym (group-next d t h _ refl) ∙ m .0) (m .1) (ih _ (rw (after-group d t l z) at r))
+
+-- ONE MARK
+
+-- the groups of u at the places ps have one mark; where g groups came before, that of the last
+abbrev OneMark : List ℕ → ℕ → Bool → List ℕ → Type 0
+OneMark u g s ps = (b : Bool) × ((g ≡ 0 → ⊥) → b ≡ s) × ((i : ℕ) → i < length ps → marked (groupMark b) (drop (getD ps i 0) u) ≡ true)
+
+next-at : {t : List ℕ} (u : List ℕ) (p : ℕ) → t ≡ drop p u → drop 16 t ≡ drop (p + 16) u
+next-at u p at = ap (drop 16) at ∙ drop-drop 16 p u
+
+one-mark : {n e g o : ℕ} {s : Bool} {t : List ℕ} → Formed n e g o s t → (u : List ℕ) (p : ℕ) → t ≡ drop p u → OneMark u g s (placesFrom n p t)
+unfolding placesFrom
+one-mark {s = s} (end z) u p at = (s, λ _. refl, λ i l. absurd (omega arith))
+one-mark {t = t} (symbol _ _ m f) u p at = rw (symbol-no-group t m) (one-mark f u (p + 16) (next-at u p at))
+one-mark {t = t} (field _ _ m f) u p at = rw (field-no-group t m) (one-mark f u (p + 16) (next-at u p at))
+one-mark {t = t} (enum _ _ m _ _ f) u p at = rw (enum-no-group t m) (one-mark f u (p + 16) (next-at u p at))
+one-mark {n = suc n} {g = g} {s = s} {t = t} (group _ m alike _ f) u p at = rw m (more (one-mark f u (p + 16) (next-at u p at)))
+  where
+    more : OneMark u (g + 1) (marked GW t) (placesFrom n (p + 16) (drop 16 t)) → OneMark u g s (p ∷ placesFrom n (p + 16) (drop 16 t))
+    more (b, is, rest) = (b, (λ q. own ∙ is-mark t s (alike q)), each)
+      where
+        own : b ≡ marked GW t
+        own = is (λ z. omega arith)
+
+        each : (i : ℕ) → i < length (p ∷ placesFrom n (p + 16) (drop 16 t)) → marked (groupMark b) (drop (getD (p ∷ placesFrom n (p + 16) (drop 16 t)) i 0) u) ≡ true
+        each zero l = rw (own, ← at) (own-mark t m)
+        each (suc i) l = rest i (omega arith)
+
+pub all-marked : (t : List ℕ) → shapeVerdict t ≡ Accepted → (b : Bool) × ((g : ℕ) → g < length (places t) → marked (groupMark b) (drop (getD (places t) g 0) t) ≡ true)
+unfolding shapeVerdict places
+all-marked t s = let r = one-mark (formed (recordCount t) _ 0 t s) t 0 refl in (r .0, r .2)
 
 -- A FIELD
 
@@ -145,7 +168,7 @@ soundFrom ng own [] = true
 soundFrom ng own (x ∷ gs) = (soundFields ng own (x .fields) && leb (x .super) own) && soundFrom ng (own + 1) gs
 
 module _ (es : List (List ℕ)) (ne : ℕ) (gs : List Group) where
-  sounds : {n e g o : ℕ} {t : List ℕ} → Formed n e g o t → (low p : ℕ) → recordsFrom ne gs n g low p t ≡ Accepted
+  sounds : {n e g o : ℕ} {s : Bool} {t : List ℕ} → Formed n e g o s t → (low p : ℕ) → recordsFrom ne gs n g low p t ≡ Accepted
       → (soundFrom (length gs) g (groupsFrom es n t) ≡ true) × ((g ≡ 0 → ⊥) → soundFields (length gs) (g - 1) (fieldsAt es o t) ≡ true)
   unfolding recordsFrom groupsFrom fieldsAt soundFrom soundFields groupAt
   sounds (end z) low p h = (refl, λ _. rw z)
@@ -164,7 +187,7 @@ module _ (es : List (List ℕ)) (ne : ℕ) (gs : List Group) where
       let n = enum-no-group t m in
       let r = sounds f _ _ (rw n at (also-accepted _ _ h .1)) in
       (rw n (r .0), λ q. absurd (q z))
-  sounds {g = g} {o = o} {t = t} (group l m _ f) low p h =
+  sounds {g = g} {o = o} {t = t} (group l m _ _ f) low p h =
       let v = also-accepted _ _ h in
       let r = sounds f _ _ (rw m at (v .1)) in
       let s = super-low gs g p t (sym (record-group ne gs g low p t (group-no-field t m) (group-no-symbol t m) m) ∙ v .0) in
@@ -188,7 +211,7 @@ from-sound ng own (x ∷ gs) e (suc g) =
 module _ (t : List ℕ) (s : shapeVerdict t ≡ Accepted) (r : recordsVerdict t ≡ Accepted) where
   all-sound : soundFrom (length (schema t)) 0 (schema t) ≡ true
   unfolding shapeVerdict recordsVerdict schema
-  all-sound = sounds (enums t) (length (enums t)) (schema t) (formed (recordCount t) 0 0 0 0 t s) 0 0 r .0
+  all-sound = sounds (enums t) (length (enums t)) (schema t) (formed (recordCount t) _ 0 t s) 0 0 r .0
 
   pub schema-sound : Sound (schema t)
   schema-sound g = let z : 0 + g ≡ g = omega arith in rw z at (from-sound (length (schema t)) 0 (schema t) all-sound g .0)
@@ -211,14 +234,15 @@ module _ (t k : List ℕ) (p : Placing t k) (kn : Known t k (length (schema t)))
       go true e = kn .clear g l (ltb-true g 64 e)
       go false e = refl
 
-  pub layout-of : Whole t → ((g : ℕ) → superOf (schema t) g ≤ g) → ((e : ℕ) → Ordered (getD (enums t) e [])) → Layout t k
-  layout-of w low ordered = record {
+  pub layout-of : Whole t → ((g : ℕ) → superOf (schema t) g ≤ g) → ((e : ℕ) → Ordered (getD (enums t) e [])) → storedVerdict t ≡ Accepted → Layout t k
+  layout-of w low ordered own = record {
     long = p .long;
     small = w .small;
     few = p .few;
     total = p .total;
     placed = p .placed;
     wide = λ d g. wide d g (ltb g (length (schema t))) refl;
+    stored = λ g l m. wide 5 g (ltb g (length (schema t))) refl (shallows g (ltb g (length (schema t))) refl) ∙ sym (stored-at t k p own g l m);
     narrow = λ g. narrow g (ltb g (length (schema t))) refl;
     shallows = λ g. shallows g (ltb g (length (schema t))) refl;
     symbols = p .symbols;
@@ -272,6 +296,23 @@ module _ (t : List ℕ) where
         unfolding tableVerdict idVerdict
         after-ids e = sym (need-yes _ _ _ z ∙ also-pass _ _ s ∙ also-pass _ _ r ∙ also-stop _ _ 34 (length t) (need-no _ _ _ e))
 
-        pub by-groups : anyId (schema t) ≡ true → also (widthsVerdict t) (supersVerdict t) ≡ tableVerdict t
+        pub by-groups : anyId (schema t) ≡ true → also (widthsVerdict t) (also (supersVerdict t) (storedVerdict t)) ≡ tableVerdict t
         unfolding tableVerdict idVerdict
         by-groups e = sym (need-yes _ _ _ z ∙ also-pass _ _ s ∙ also-pass _ _ r ∙ also-pass _ _ (need-yes _ _ _ e))
+
+-- an accepted table passed each of them
+pub record Passed (t : List ℕ) : Type 0 where
+  pub shape : shapeVerdict t ≡ Accepted
+  pub records : recordsVerdict t ≡ Accepted
+  pub widths : widthsVerdict t ≡ Accepted
+  pub supers : supersVerdict t ≡ Accepted
+  pub stored : storedVerdict t ≡ Accepted
+
+pub passed : (t : List ℕ) → tableVerdict t ≡ Accepted → Passed t
+unfolding tableVerdict
+passed t e =
+    let a = also-accepted _ _ (need-accepted _ _ _ _ e .1) in
+    let b = also-accepted _ _ (a .1) in
+    let c = also-accepted _ _ (also-accepted _ _ (b .1) .1) in
+    let d = also-accepted _ _ (c .1) in
+    record { shape = a .0; records = b .0; widths = c .0; supers = d .0; stored = d .1 }

@@ -1,8 +1,9 @@
 pub mod Laws
 pub mod Records
 pub mod Widths
-pub mod Formed
 pub mod Supers
+pub mod Stored
+pub mod Formed
 pub mod Accepted
 pub mod Values
 pub mod Claims

@@ -13,11 +13,12 @@ use Rattle.wire.specs.Bytes.{same}
 use Rattle.wire.proofs.Laws.{same-eq}
 use Rattle.schema.specs.Schema.{Group}
 use Rattle.schema.specs.Symbols.{rank}
-use Rattle.schema.specs.Table.{EN, SY, GR, FD, marked, symbolCount, symbolValue, fieldCount, valuesAt, groupAt, enumsFrom, groupsFrom, placesFrom, recordCount, enums, schema, places, Due, isEnum, isDue, dueAfter, shapeFrom, shapeVerdict, recordVerdict, recordsFrom, recordsVerdict}
+use Rattle.schema.specs.Table.{EN, SY, GR, GW, FD, marked, groupMarked, symbolCount, symbolValue, fieldCount, valuesAt, groupAt, enumsFrom, groupsFrom, placesFrom, recordCount, enums, schema, places, Due, isEnum, groupMark, isGroup, isDue, dueAfter, shapeFrom, shapeVerdict, recordVerdict, recordsFrom, recordsVerdict}
 use Rattle.schema.specs.declared.Verdict.{Verdict}
 use Rattle.schema.specs.declared.Verdict.the-variants.{Accepted, Refused}
 use Rattle.schema.specs.Faults.{need, also}
 use Rattle.schema.proofs.Depth.{and-both}
+use Rattle.schema.proofs.Forms.{group-form, form-group}
 use Rattle.schema.specs.Layout.{groupPlace, symbolPlace, symbolTotal}
 use Rattle.table.specs.Index.{Whole, Begun, Placing, Shaped}
 use Rattle.table.proofs.Laws.{never}
@@ -29,45 +30,64 @@ pub other-mark : (t m n : List ℕ) → marked m t ≡ true → marked n t ≡ s
 other-mark t m n e = rw (same-eq (take 2 t) m e)
 
 module _ (t : List ℕ) where
-  pub enum-no-group : marked EN t ≡ true → marked GR t ≡ false
+  no-group : (m : List ℕ) → same m GR ≡ false → same m GW ≡ false → marked m t ≡ true → groupMarked t ≡ false
+  unfolding groupMarked
+  no-group m a b e = rw (other-mark t m GR e, other-mark t m GW e, a, b)
+
+  group-no : (m : List ℕ) → same GR m ≡ false → same GW m ≡ false → groupMarked t ≡ true → marked m t ≡ false
+  group-no m a b e = go (group-form t e)
+    where
+      go : (s : Bool) × (marked (groupMark s) t ≡ true) → marked m t ≡ false
+      go (false, f) = other-mark t GR m f ∙ a
+      go (true, f) = other-mark t GW m f ∙ b
+
+  pub enum-no-group : marked EN t ≡ true → groupMarked t ≡ false
   unfolding same
-  enum-no-group = other-mark t EN GR
+  enum-no-group = no-group EN refl refl
 
   pub enum-no-symbol : marked EN t ≡ true → marked SY t ≡ false
   unfolding same
   enum-no-symbol = other-mark t EN SY
 
-  pub group-no-enum : marked GR t ≡ true → marked EN t ≡ false
+  pub group-no-enum : groupMarked t ≡ true → marked EN t ≡ false
   unfolding same
-  group-no-enum = other-mark t GR EN
+  group-no-enum = group-no EN refl refl
 
-  pub symbol-no-group : marked SY t ≡ true → marked GR t ≡ false
+  pub symbol-no-group : marked SY t ≡ true → groupMarked t ≡ false
   unfolding same
-  symbol-no-group = other-mark t SY GR
+  symbol-no-group = no-group SY refl refl
 
   pub symbol-no-enum : marked SY t ≡ true → marked EN t ≡ false
   unfolding same
   symbol-no-enum = other-mark t SY EN
 
-  pub field-no-group : marked FD t ≡ true → marked GR t ≡ false
+  pub field-no-group : marked FD t ≡ true → groupMarked t ≡ false
   unfolding same
-  field-no-group = other-mark t FD GR
+  field-no-group = no-group FD refl refl
 
   pub field-no-enum : marked FD t ≡ true → marked EN t ≡ false
   unfolding same
   field-no-enum = other-mark t FD EN
 
-  pub group-no-field : marked GR t ≡ true → marked FD t ≡ false
+  pub group-no-field : groupMarked t ≡ true → marked FD t ≡ false
   unfolding same
-  group-no-field = other-mark t GR FD
+  group-no-field = group-no FD refl refl
 
-  pub group-no-symbol : marked GR t ≡ true → marked SY t ≡ false
+  pub group-no-symbol : groupMarked t ≡ true → marked SY t ≡ false
   unfolding same
-  group-no-symbol = other-mark t GR SY
+  group-no-symbol = group-no SY refl refl
 
   pub symbol-no-field : marked SY t ≡ true → marked FD t ≡ false
   unfolding same
   symbol-no-field = other-mark t SY FD
+
+  pub is-mark : (s : Bool) → marked (groupMark s) t ≡ true → marked GW t ≡ s
+  unfolding same
+  is-mark true e = e
+  is-mark false e = other-mark t GR GW e
+
+  pub own-mark : groupMarked t ≡ true → marked (groupMark (marked GW t)) t ≡ true
+  own-mark e = let f = group-form t e in rw (is-mark (f .0) (f .1)) (f .1)
 
 -- WHAT IS DUE
 
@@ -84,19 +104,27 @@ module _ (d : Due) (t : List ℕ) where
   unfolding isDue
   due-enum h e = rw (le-ltb 0 (d .owed) h, e)
 
-  pub due-group : d .owed ≤ 0 → isEnum d t ≡ false → isDue d t ≡ (marked GR t && (ltb (d .groups) 64 && leb (fieldCount t) 64))
+  pub due-group : d .owed ≤ 0 → isEnum d t ≡ false → isDue d t ≡ (isGroup d t && (ltb (d .groups) 64 && leb (fieldCount t) 64))
   unfolding isDue
   due-group h e = rw (le-ltb 0 (d .owed) h, e)
 
-  pub after-owed : 0 < d .owed → dueAfter d t ≡ record { enumerations = d .enumerations; groups = d .groups; owed = d .owed - 1 }
+  pub group-first : d .groups ≡ 0 → isGroup d t ≡ groupMarked t
+  unfolding isGroup
+  group-first e = rw (eq-eqb (d .groups) 0 e)
+
+  pub group-next : (d .groups ≡ 0 → ⊥) → (s : Bool) → d .stored ≡ s → isGroup d t ≡ marked (groupMark s) t
+  unfolding isGroup
+  group-next e s is = rw (ne-eqb (d .groups) 0 e, is)
+
+  pub after-owed : 0 < d .owed → dueAfter d t ≡ record { enumerations = d .enumerations; groups = d .groups; owed = d .owed - 1; stored = d .stored }
   unfolding dueAfter
   after-owed h = rw (lt-ltb 0 (d .owed) h)
 
-  pub after-enum : d .owed ≤ 0 → isEnum d t ≡ true → dueAfter d t ≡ record { enumerations = d .enumerations + 1; groups = d .groups; owed = symbolCount t }
+  pub after-enum : d .owed ≤ 0 → isEnum d t ≡ true → dueAfter d t ≡ record { enumerations = d .enumerations + 1; groups = d .groups; owed = symbolCount t; stored = d .stored }
   unfolding dueAfter
   after-enum h e = rw (le-ltb 0 (d .owed) h, e)
 
-  pub after-group : d .owed ≤ 0 → isEnum d t ≡ false → dueAfter d t ≡ record { enumerations = d .enumerations; groups = d .groups + 1; owed = fieldCount t }
+  pub after-group : d .owed ≤ 0 → isEnum d t ≡ false → dueAfter d t ≡ record { enumerations = d .enumerations; groups = d .groups + 1; owed = fieldCount t; stored = marked GW t }
   unfolding dueAfter
   after-group h e = rw (le-ltb 0 (d .owed) h, e)
 
@@ -127,11 +155,11 @@ module _ (t : List ℕ) (w : Whole t) (i : ℕ) (h : 16 * i + 16 ≤ length t) w
   further : drop 16 here ≡ drop (16 * (i + 1)) t
   further = let e : 16 * i + 16 ≡ 16 * (i + 1) = omega arith in drop-drop 16 (16 * i) t ∙ rw e
 
-  groups-skip : marked GR here ≡ false → groupsFrom (enums t) (recordCount t - i) here ≡ groupsFrom (enums t) left (drop (16 * (i + 1)) t)
+  groups-skip : groupMarked here ≡ false → groupsFrom (enums t) (recordCount t - i) here ≡ groupsFrom (enums t) left (drop (16 * (i + 1)) t)
   unfolding groupsFrom
   groups-skip e = rw (one-less, groupsFrom, e, further)
 
-  groups-take : marked GR here ≡ true → groupsFrom (enums t) (recordCount t - i) here ≡ groupAt (enums t) here ∷ groupsFrom (enums t) left (drop (16 * (i + 1)) t)
+  groups-take : groupMarked here ≡ true → groupsFrom (enums t) (recordCount t - i) here ≡ groupAt (enums t) here ∷ groupsFrom (enums t) left (drop (16 * (i + 1)) t)
   unfolding groupsFrom
   groups-take e = rw (one-less, groupsFrom, e, further)
 
@@ -143,16 +171,16 @@ module _ (t : List ℕ) (w : Whole t) (i : ℕ) (h : 16 * i + 16 ≤ length t) w
   unfolding enumsFrom
   enums-take e = rw (one-less, enumsFrom, e, further)
 
-  places-skip : marked GR here ≡ false → placesFrom (recordCount t - i) (16 * i) here ≡ placesFrom left (16 * (i + 1)) (drop (16 * (i + 1)) t)
+  places-skip : groupMarked here ≡ false → placesFrom (recordCount t - i) (16 * i) here ≡ placesFrom left (16 * (i + 1)) (drop (16 * (i + 1)) t)
   unfolding placesFrom
   places-skip e = let n : 16 * i + 16 ≡ 16 * (i + 1) = omega arith in rw (one-less, placesFrom, e, further, n)
 
-  places-take : marked GR here ≡ true → placesFrom (recordCount t - i) (16 * i) here ≡ 16 * i ∷ placesFrom left (16 * (i + 1)) (drop (16 * (i + 1)) t)
+  places-take : groupMarked here ≡ true → placesFrom (recordCount t - i) (16 * i) here ≡ 16 * i ∷ placesFrom left (16 * (i + 1)) (drop (16 * (i + 1)) t)
   unfolding placesFrom
   places-take e = let n : 16 * i + 16 ≡ 16 * (i + 1) = omega arith in rw (one-less, placesFrom, e, further, n)
 
   -- one of the records that were announced
-  pub begun-owed : (k : List ℕ) (e g o : ℕ) → marked GR here ≡ false → marked EN here ≡ false → 0 < o → Begun t k i e g o → Begun t k (i + 1) e g (o - 1)
+  pub begun-owed : (k : List ℕ) (e g o : ℕ) → groupMarked here ≡ false → marked EN here ≡ false → 0 < o → Begun t k i e g o → Begun t k (i + 1) e g (o - 1)
   begun-owed k e g o ng ne l b = record {
     long = b .long;
     lists64 = b .lists64;
@@ -195,7 +223,7 @@ module _ (t : List ℕ) (w : Whole t) (i : ℕ) (h : 16 * i + 16 ≤ length t) w
       q′ : ℕ
       q′ = (16 * i + 16) % 65536
 
-      ng : marked GR here ≡ false
+      ng : groupMarked here ≡ false
       ng = enum-no-group here me
 
       all : drop e (enums t) ≡ valuesAt (symbolCount here) (drop 16 here) ∷ enumsFrom left (drop (16 * (i + 1)) t)
@@ -230,7 +258,7 @@ module _ (t : List ℕ) (w : Whole t) (i : ℕ) (h : 16 * i + 16 ≤ length t) w
           rw (a, d) (omega (arith, b .held x r))
 
   -- a group
-  pub begun-group : (k k′ : List ℕ) (e g o count : ℕ) → marked GR here ≡ true → g < 64 → o ≤ 0 → count ≡ fieldCount here
+  pub begun-group : (k k′ : List ℕ) (e g o count : ℕ) → groupMarked here ≡ true → g < 64 → o ≤ 0 → count ≡ fieldCount here
       → k′ ≡ set k g (16 * i) → Begun t k i e g o → Begun t k′ (i + 1) e (g + 1) count
   begun-group k k′ e g o count mg l z is new b = record {
     long = ap length new ∙ simp length-set (b .long);
@@ -377,10 +405,10 @@ placed-all t k k′ k″ i e g o w at none p q b v = record {
 -- what follows for a record that is due
 
 module _ (d : Due) (t : List ℕ) where
-  pub owed-marks : 0 < d .owed → isDue d t ≡ true → (marked GR t ≡ false) × (marked EN t ≡ false)
+  pub owed-marks : 0 < d .owed → isDue d t ≡ true → (groupMarked t ≡ false) × (marked EN t ≡ false)
   owed-marks h e = go (eqb (d .groups) 0) refl
     where
-      go : (c : Bool) → eqb (d .groups) 0 ≡ c → (marked GR t ≡ false) × (marked EN t ≡ false)
+      go : (c : Bool) → eqb (d .groups) 0 ≡ c → (groupMarked t ≡ false) × (marked EN t ≡ false)
       go true q = let m = sym (due-symbol d t h (eqb-true (d .groups) 0 q)) ∙ e in (symbol-no-group t m, symbol-no-enum t m)
       go false q = let m = sym (due-field d t h (eqb-false (d .groups) 0 q)) ∙ e in (field-no-group t m, field-no-enum t m)
 
@@ -394,7 +422,15 @@ module _ (d : Due) (t : List ℕ) where
       let f = and-both _ _ (b .1) in
       (ltb-true (d .enumerations) 64 (b .0), leb-true 1 (symbolCount t) (f .0), leb-true (symbolCount t) 256 (f .1))
 
-  pub group-due : d .owed ≤ 0 → isEnum d t ≡ false → isDue d t ≡ true → (marked GR t ≡ true) × (d .groups < 64) × (fieldCount t ≤ 64)
+  pub group-marked : isGroup d t ≡ true → groupMarked t ≡ true
+  unfolding isGroup
+  group-marked e = go (eqb (d .groups) 0) e
+    where
+      go : (c : Bool) → cond c (groupMarked t) (marked (groupMark (d .stored)) t) ≡ true → groupMarked t ≡ true
+      go true e = e
+      go false e = form-group t (d .stored) e
+
+  pub group-due : d .owed ≤ 0 → isEnum d t ≡ false → isDue d t ≡ true → (isGroup d t ≡ true) × (d .groups < 64) × (fieldCount t ≤ 64)
   group-due h e u =
       let b = and-both _ _ (sym (due-group d t h e) ∙ u) in
       let f = and-both _ _ (b .1) in
@@ -402,9 +438,9 @@ module _ (d : Due) (t : List ℕ) where
 
 -- THE VERDICT
 
-pub shape-start : (t : List ℕ) → shapeVerdict t ≡ shapeFrom (recordCount t - 0) (record { enumerations = 0; groups = 0; owed = 0 }) (16 * 0) (drop (16 * 0) t)
+pub shape-start : (t : List ℕ) → shapeVerdict t ≡ shapeFrom (recordCount t - 0) (record { enumerations = 0; groups = 0; owed = 0; stored = false }) (16 * 0) (drop (16 * 0) t)
 unfolding shapeVerdict
-shape-start t = let z : recordCount t ≡ recordCount t - 0 = omega arith in ap (λ (n : ℕ). shapeFrom n (record { enumerations = 0; groups = 0; owed = 0 }) 0 t) z
+shape-start t = let z : recordCount t ≡ recordCount t - 0 = omega arith in ap (λ (n : ℕ). shapeFrom n (record { enumerations = 0; groups = 0; owed = 0; stored = false }) 0 t) z
 
 module _ (t : List ℕ) (w : Whole t) (d : Due) (i : ℕ) (h : 16 * i + 16 ≤ length t) where
   pub shape-stop : isDue d (drop (16 * i) t) ≡ false → shapeFrom (recordCount t - i) d (16 * i) (drop (16 * i) t) ≡ Refused 31 (16 * i)
@@ -430,7 +466,7 @@ module _ (t : List ℕ) (d : Due) (i : ℕ) (h : recordCount t ≤ i) where
 module _ (t : List ℕ) (w : Whole t) (ne : ℕ) (gs : List Group) (next low i : ℕ) (h : 16 * i + 16 ≤ length t) where
   pub records-turn : (v : Verdict) → v ≡ recordVerdict ne gs next low (16 * i) (drop (16 * i) t)
       → recordsFrom ne gs (recordCount t - i) next low (16 * i) (drop (16 * i) t)
-      ≡ also v (recordsFrom ne gs (recordCount t - (i + 1)) (cond (marked GR (drop (16 * i) t)) (next + 1) next) (cond (marked SY (drop (16 * i) t)) (rank (symbolValue (drop (16 * i) t)) + 1) 0) (16 * (i + 1)) (drop (16 * (i + 1)) t))
+      ≡ also v (recordsFrom ne gs (recordCount t - (i + 1)) (cond (groupMarked (drop (16 * i) t)) (next + 1) next) (cond (marked SY (drop (16 * i) t)) (rank (symbolValue (drop (16 * i) t)) + 1) 0) (16 * (i + 1)) (drop (16 * (i + 1)) t))
   unfolding recordsFrom
   records-turn v e = let n : 16 * i + 16 ≡ 16 * (i + 1) = omega arith in rw (one-less t w i h, ← e, further t w i h, n)
 
@@ -451,9 +487,9 @@ pub left-start : (t : List ℕ) → Left t 0 0
 unfolding schema
 left-start t = let z : recordCount t ≡ recordCount t - 0 = omega arith in record { groups = ap (λ (n : ℕ). groupsFrom (enums t) n t) z; counted = omega arith }
 
-pub left-turn : (t : List ℕ) → Whole t → (next i : ℕ) → 16 * i + 16 ≤ length t → Left t next i → Left t (cond (marked GR (drop (16 * i) t)) (next + 1) next) (i + 1)
-left-turn t w next i h l = go (marked GR (drop (16 * i) t)) refl
+pub left-turn : (t : List ℕ) → Whole t → (next i : ℕ) → 16 * i + 16 ≤ length t → Left t next i → Left t (cond (groupMarked (drop (16 * i) t)) (next + 1) next) (i + 1)
+left-turn t w next i h l = go (groupMarked (drop (16 * i) t)) refl
   where
-    go : (c : Bool) → marked GR (drop (16 * i) t) ≡ c → Left t (cond c (next + 1) next) (i + 1)
+    go : (c : Bool) → groupMarked (drop (16 * i) t) ≡ c → Left t (cond c (next + 1) next) (i + 1)
     go true e = let all = l .groups ∙ groups-take t w i h e in record { groups = drop-next (schema t) _ _ next all; counted = omega (arith, drop-less (schema t) _ _ next all) }
     go false e = record { groups = l .groups ∙ groups-skip t w i h e; counted = l .counted }

@@ -10,17 +10,16 @@ use lib.Dec.{leb}
 use borrow.Author.Tests.{eq-eqb, ne-eqb, lt-leb, le-leb, leb-true}
 use Rattle.wire.specs.Bytes.{part, same}
 use Rattle.wire.proofs.Laws.{part-part, same-eq}
-use Rattle.schema.specs.declared.Verdict.the-variants.{Accepted, Refused}
-use Rattle.schema.specs.Faults.{need}
+use Rattle.schema.specs.declared.Verdict.the-variants.{Accepted}
 use Rattle.schema.specs.Schema.{Field, Group, fieldsOf, superOf}
-use Rattle.schema.specs.Table.{GR, marked, superNumber, fieldCount, fieldAt, fieldsAt, groupAt, groupsFrom, placesFrom, recordCount, enums, schema, places, beginsWith, inherits, supersFrom, supersVerdict}
+use Rattle.schema.specs.Table.{groupMarked, superNumber, fieldCount, fieldAt, fieldsAt, groupAt, groupsFrom, placesFrom, recordCount, enums, schema, places, beginsWith, inherits, supersVerdict}
 use Rattle.schema.specs.Layout.{groupPlace}
 use Rattle.schema.proofs.Depth.{and-both}
 use Rattle.schema.proofs.Groups.{placed-super}
 use Rattle.table.specs.Index.{Placing}
 use Rattle.table.specs.Claims.{Begins, BeginsSuper}
 use Rattle.table.proofs.Records.{drop-getD}
-use Rattle.table.proofs.Formed.{need-accepted}
+use Rattle.table.proofs.Laws.{each-passed}
 
 -- A GROUP AND ITS SUPER
 
@@ -53,27 +52,6 @@ module _ (t k : List ℕ) (P : Placing t k) (g p n : ℕ) (l : g < length (schem
       let f = drop-getD (places t) _ 0 _ (n - 1) (P .start (n - 1) (omega arith)) in
       inherits-some t p n is d ∙ rw (f, ← e)
 
--- GROUP BY GROUP
-
-module _ (t : List ℕ) (g p : ℕ) (r : List ℕ) (at : drop g (places t) ≡ p ∷ r) where
-  pub supers-stop : inherits t p ≡ false → supersFrom t (drop g (places t)) ≡ Refused 36 p
-  unfolding supersFrom need
-  supers-stop h = rw (at, h)
-
-  pub supers-turn : inherits t p ≡ true → supersFrom t (drop g (places t)) ≡ supersFrom t r
-  unfolding supersFrom need
-  supers-turn h = rw (at, h)
-
-pub supers-end : (t : List ℕ) (g : ℕ) → drop g (places t) ≡ [] → supersFrom t (drop g (places t)) ≡ Accepted
-unfolding supersFrom
-supers-end t g e = rw e
-
-supers-all : (t ps : List ℕ) → supersFrom t ps ≡ Accepted → (g : ℕ) → g < length ps → inherits t (getD ps g 0) ≡ true
-unfolding supersFrom
-supers-all t [] e g l = absurd (omega arith)
-supers-all t (p ∷ ps) e zero l = need-accepted _ _ _ _ e .0
-supers-all t (p ∷ ps) e (suc g) l = supers-all t ps (need-accepted _ _ _ _ e .1) g (omega arith)
-
 -- THE GROUPS AT THEIR PLACES
 
 abbrev at-place : List (List ℕ) → List ℕ → ℕ → Group
@@ -82,7 +60,7 @@ at-place es t p = groupAt es (drop p t)
 groups-at : (es : List (List ℕ)) (t : List ℕ) (n p : ℕ) → groupsFrom es n (drop p t) ≡ map (at-place es t) (placesFrom n p (drop p t))
 unfolding groupsFrom placesFrom
 groups-at es t zero p = refl
-groups-at es t (suc n) p = rw (drop-drop 16 p t) (go (marked GR (drop p t)) _ _ (groups-at es t n (p + 16)))
+groups-at es t (suc n) p = rw (drop-drop 16 p t) (go (groupMarked (drop p t)) _ _ (groups-at es t n (p + 16)))
   where
     go : (c : Bool) (gs : List Group) (ps : List ℕ) → gs ≡ map (at-place es t) ps → cond c (groupAt es (drop p t) ∷ gs) gs ≡ map (at-place es t) (cond c (p ∷ ps) ps)
     go true gs ps e = rw e
@@ -147,5 +125,5 @@ module _ (t : List ℕ) (low : (g : ℕ) → superOf (schema t) g ≤ g) (passed
       let s = superOf (schema t) g in
       let up = numbered (at-place (enums t) t) (places t) (s - 1) (omega (arith, low g)) in
       let is : s ≡ superNumber (drop (getD (places t) g 0) t) = ap (λ gs. superOf gs g) (schema-at t) ∙ own .1 in
-      let b = begins-fields (enums t) _ _ (sym (inherits-some t _ s is (λ z. omega arith)) ∙ supers-all t (places t) passed g (omega arith)) in
+      let b = begins-fields (enums t) _ _ (sym (inherits-some t _ s is (λ z. omega arith)) ∙ each-passed 36 _ 0 (places t) passed g (omega arith)) in
       rw (ap (λ gs. fieldsOf gs g) (schema-at t) ∙ own .0, ap (λ gs. fieldsOf gs (s - 1)) (schema-at t) ∙ up .0) b

@@ -1,5 +1,6 @@
 -- An accepted table's enumerations are in order.
 use mathlib.Core.Path.{_≡_, sym, _∙_}
+use mathlib.Core.Bool.{Bool}
 use mathlib.Core.List.{List, [], _∷_}
 use Prim.Native.Nat.{ℕ, zero, suc, _+_, _-_, _<_, _≤_}
 use native.Mathlib.Omega.{arith}
@@ -10,9 +11,9 @@ use Rattle.schema.specs.Schema.{Group}
 use Rattle.schema.specs.Symbols.{rank, Ordered}
 use Rattle.schema.specs.Table.{symbolCount, symbolValue, valuesAt, enumsFrom, recordCount, enums, schema, shapeVerdict, symbolVerdict, recordsFrom, recordsVerdict, tableVerdict}
 use Rattle.schema.proofs.Symbols.{values-length}
-use Rattle.table.proofs.Laws.{record-symbol}
+use Rattle.table.proofs.Laws.{need-accepted, also-accepted, record-symbol}
 use Rattle.table.proofs.Records.{symbol-no-group, symbol-no-enum, symbol-no-field, field-no-group, field-no-enum, enum-no-group, enum-no-symbol, group-no-enum}
-use Rattle.table.proofs.Formed.{need-accepted, also-accepted, Formed, end, symbol, field, enum, group, formed}
+use Rattle.table.proofs.Formed.{passed, Formed, end, symbol, field, enum, group, formed}
 
 -- VALUES THAT RISE, FROM THE RANK low ON
 
@@ -49,7 +50,7 @@ each zero vs es a b = a
 each (suc x) vs es a b = b x
 
 module _ (ne : ℕ) (gs : List Group) where
-  rises : {n e g o : ℕ} {t : List ℕ} → Formed n e g o t → (low p : ℕ) → recordsFrom ne gs n g low p t ≡ Accepted
+  rises : {n e g o : ℕ} {s : Bool} {t : List ℕ} → Formed n e g o s t → (low p : ℕ) → recordsFrom ne gs n g low p t ≡ Accepted
       → ((x : ℕ) → Ordered (getD (enumsFrom n t) x [])) × (g ≡ 0 → Rising low (valuesAt o t))
   unfolding recordsFrom enumsFrom valuesAt
   rises (end z) low p h = (λ x. rw (none-at x) (record { few = omega arith; rise = rising-none 0 .rise }), λ _. rw z (rising-none low))
@@ -67,15 +68,14 @@ module _ (ne : ℕ) (gs : List Group) where
       let k : o ≡ 0 = omega arith in
       let v : Ordered (valuesAt (symbolCount t) (drop 16 t)) = record { few = omega (arith, values-length (symbolCount t) (drop 16 t), c); rise = r .1 z .rise } in
       (λ x. rw m (each x (valuesAt (symbolCount t) (drop 16 t)) (enumsFrom n (drop 16 t)) v (r .0)), λ q. rw k (rising-none low))
-  rises {g = g} {o = o} {t = t} (group l m _ f) low p h =
+  rises {g = g} {o = o} {t = t} (group l m _ _ f) low p h =
       let r = rises f _ _ (rw m at (also-accepted _ _ h .1)) in
       let k : o ≡ 0 = omega arith in
       (λ x. rw (group-no-enum t m) (r .0 x), λ q. rw k (rising-none low))
 
 pub lists-ordered : (t : List ℕ) → shapeVerdict t ≡ Accepted → recordsVerdict t ≡ Accepted → (e : ℕ) → Ordered (getD (enums t) e [])
 unfolding shapeVerdict recordsVerdict enums
-lists-ordered t s r e = rises (length (enums t)) (schema t) (formed (recordCount t) 0 0 0 0 t s) 0 0 r .0 e
+lists-ordered t s r e = rises (length (enums t)) (schema t) (formed (recordCount t) _ 0 t s) 0 0 r .0 e
 
 pub accepted-ordered : (t : List ℕ) → tableVerdict t ≡ Accepted → (e : ℕ) → Ordered (getD (enums t) e [])
-unfolding tableVerdict
-accepted-ordered t h = let a = also-accepted _ _ (need-accepted _ _ _ _ h .1) in lists-ordered t (a .0) (also-accepted _ _ (a .1) .0)
+accepted-ordered t h = let p = passed t h in lists-ordered t (p .shape) (p .records)

@@ -8,10 +8,8 @@ use lib.ListN.{length, drop, getD, set, length-set}
 use lib.Seq.{drop-drop, drop-nil, getD-set-same, getD-set-other}
 use lib.Dec.{leb, ltb, eqb, leb·zero, leb·suc-zero, leb·suc-suc}
 use borrow.Author.Tests.{eqb-true, eqb-false, leb-true, leb-false, le-leb, lt-leb, ltb-true, ltb-false, lt-ltb}
-use Rattle.schema.specs.declared.Verdict.the-variants.{Accepted, Refused}
-use Rattle.schema.specs.Faults.{need}
 use Rattle.schema.specs.Schema.{Kind, plain, inline, indirect, static, dynamic, Field, Group, kindWidth, valueWidth, fieldWidth, fieldsWidth, fieldsOf, width, shallowKind, shallowFields, shallow}
-use Rattle.schema.specs.Table.{fieldCount, fieldType, fieldSize, reference, kindOf, fieldAt, fieldsAt, groupAt, schema, widthsFrom}
+use Rattle.schema.specs.Table.{fieldCount, fieldType, fieldSize, reference, kindOf, fieldAt, fieldsAt, groupAt, schema, inBounds}
 use Rattle.schema.specs.Layout.{widthIn}
 use Rattle.schema.specs.FieldKinds.{Widths}
 use Rattle.table.specs.declared.Extent.{Extent}
@@ -211,10 +209,11 @@ pub fields-none : (es : List (List ℕ)) (c i : ℕ) (s : List ℕ) → c ≤ i 
 unfolding fieldsAt
 fields-none es c i s h = let z : c - i ≡ 0 = omega arith in rw z
 
--- GROUP BY GROUP
+-- THE TEST OF 35
 
-pub passes-35 : (gs : List Group) (g : ℕ) (e : Extent) → Measured gs g e → (leb (width gs 5 g) 4096 && shallow gs 5 g) ≡ (leb (e .width) 4096 && (leb (e .depth) 4 && e .filled))
-passes-35 gs g e m = go (shallow gs 5 g) refl
+pub in-bounds : (gs : List Group) (g : ℕ) (e : Extent) → Measured gs g e → inBounds gs g ≡ (leb (e .width) 4096 && (leb (e .depth) 4 && e .filled))
+unfolding inBounds
+in-bounds gs g e m = go (shallow gs 5 g) refl
   where
     four : ltb (e .depth) 5 ≡ leb (e .depth) 4
     four = leb·suc-suc (e .depth) 4
@@ -233,19 +232,6 @@ passes-35 gs g e m = go (shallow gs 5 g) refl
         last : (c : Bool) → shallow gs 5 g ≡ c → (leb (e .depth) 4 && e .filled) ≡ c → (leb (width gs 5 g) 4096 && c) ≡ (leb (e .width) 4096 && (leb (e .depth) 4 && e .filled))
         last true q b = rw (b, m .wide 5 q)
         last false q b = rw b (and-no (leb (width gs 5 g) 4096) ∙ sym (and-no (leb (e .width) 4096)))
-
-module _ (gs : List Group) (g p : ℕ) (r ps : List ℕ) (at : drop g ps ≡ p ∷ r) (e : Extent) (m : Measured gs g e) where
-  pub widths-stop : (leb (e .width) 4096 && (leb (e .depth) 4 && e .filled)) ≡ false → widthsFrom gs g (drop g ps) ≡ Refused 35 p
-  unfolding widthsFrom need
-  widths-stop h = rw (at, passes-35 gs g e m, h)
-
-  pub widths-turn : (leb (e .width) 4096 && (leb (e .depth) 4 && e .filled)) ≡ true → widthsFrom gs g (drop g ps) ≡ widthsFrom gs (g + 1) r
-  unfolding widthsFrom need
-  widths-turn h = rw (at, passes-35 gs g e m, h)
-
-pub widths-end : (gs : List Group) (g : ℕ) (ps : List ℕ) → drop g ps ≡ [] → widthsFrom gs g (drop g ps) ≡ Accepted
-unfolding widthsFrom
-widths-end gs g ps e = rw e
 
 -- what a group's width and depth in the index leave as it was
 module _ (t k k′ : List ℕ) (g w d : ℕ) (l : g < 64) (new : k′ ≡ set (set k (64 + g) w) (256 + g) d) (p : Placing t k) where

@@ -1,13 +1,14 @@
--- Of every accepted table, what document 02's requests 4 and 5 say of it.
+-- Of every accepted table, what document 02's requests 4, 5 and 8 say of it.
 use Prim.Native.Nat.{ℕ, _-_, _<_}
 use mathlib.Core.Path.{_≡_}
-use mathlib.Core.Bool.{true}
+use mathlib.Core.Bool.{Bool, true}
 use mathlib.Core.List.{List, [], _++_}
-use lib.ListN.{length, take, getD}
+use lib.ListN.{length, take, drop, getD}
 use Rattle.schema.specs.declared.Verdict.the-variants.{Accepted}
-use Rattle.schema.specs.Schema.{Field, Group, fieldsWidth, fieldsOf, superOf, under}
+use Rattle.schema.specs.Schema.{Field, Group, fieldsWidth, fieldsOf, superOf, width, under}
 use Rattle.schema.specs.Symbols.{Ordered, start, steps}
-use Rattle.schema.specs.Table.{enums, schema, tableVerdict}
+use Rattle.schema.specs.Table.{GW, marked, storedWidth, enums, schema, places, groupMark, widthsVerdict, tableVerdict}
+use Rattle.schema.specs.Forms.{toGR}
 use Rattle.schema.specs.Claims.{Decides}
 
 -- Request 4: "symbols rise", and "nine steps decide any list".
@@ -36,6 +37,20 @@ pub record Inherits (gs : List Group) : Type 0 where
   -- "we read density as speed": what is read as a field of a is that field in every group below a too
   pub field : (a g n : ℕ) → under gs g a g ≡ true → n < length (fieldsOf gs a) → SameField gs a g n
 
+-- The record of group number g, and what follows.
+abbrev pub recordOf : List ℕ → ℕ → List ℕ
+recordOf t g = drop (getD (places t) g 0) t
+
+-- Request 8: "A table has all `GR` or all `GW`", and the width that a `GW` stores is its group's.
+pub record StoredWidths (t : List ℕ) : Type 0 where
+  pub mark : (stored : Bool) × ((g : ℕ) → g < length (schema t) → marked (groupMark stored) (recordOf t g) ≡ true)
+  pub own : (g : ℕ) → g < length (schema t) → marked GW (recordOf t g) ≡ true → storedWidth (recordOf t g) ≡ width (schema t) 5 g
+
 pub record AcceptedTables : Type 0 where
   pub lists : (t : List ℕ) → tableVerdict t ≡ Accepted → Lists t
   pub inherits : (t : List ℕ) → tableVerdict t ≡ Accepted → Inherits (schema t)
+  pub widths : (t : List ℕ) → tableVerdict t ≡ Accepted → StoredWidths t
+
+-- "35 goes by the true widths": of every table, whatever it stores.
+abbrev pub TrueWidths : Type 0
+TrueWidths = (t : List ℕ) → widthsVerdict (toGR t) ≡ widthsVerdict t

@@ -11,7 +11,7 @@ use Rattle.schema.specs.Layout.{groupPlace, symbolPlace, symbolTotal, groupTota
 
 -- The state of 31 in the definition's terms.
 abbrev pub dueOf : Shape → Due
-dueOf s = record { enumerations = s .enumerations; groups = s .groups; owed = s .owed }
+dueOf s = record { enumerations = s .enumerations; groups = s .groups; owed = s .owed; stored = s .stored }
 
 -- A table of whole records that passed 30.
 pub record Whole (t : List ℕ) : Type 0 where

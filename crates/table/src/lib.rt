@@ -7,7 +7,7 @@ ghost use lib.ListN.{length, drop, set, replicate};
 ghost use lib.Dec.{ltb, eqb};
 ghost use Rattle.wire.specs.Bytes.{part, allZero};
 ghost use Rattle.schema.specs.Symbols.{rank};
-ghost use Rattle.schema.specs.Table.{SY, GR, marked, idFlag, optionalFlag, sequenceFlag, isDue, isEnum, shapeVerdict, enumVerdict, symbolVerdict, groupVerdict, sizeOk, referenceOk, fieldVerdict, recordVerdict, recordsVerdict, anyId, enums, schema, tableVerdict, symbolValue, fieldCount, fieldType, reference, fieldAt, widthsVerdict, beginsWith, inherits, supersVerdict};
+ghost use Rattle.schema.specs.Table.{SY, GW, marked, groupMarked, idFlag, optionalFlag, sequenceFlag, isDue, isEnum, isGroup, shapeVerdict, enumVerdict, symbolVerdict, groupVerdict, sizeOk, referenceOk, fieldVerdict, recordVerdict, recordsVerdict, anyId, enums, schema, tableVerdict, symbolValue, fieldCount, fieldType, reference, fieldAt, widthsVerdict, beginsWith, inherits, supersVerdict, storesOwn, storedVerdict};
 ghost use Rattle.schema.specs.Faults.{also};
 ghost use Rattle.schema.specs.Layout.{groupPlace, Placed};
 ghost use Rattle.table.specs.Index.{dueOf, Whole, Begun, Placing, Shaped, Taken, Checked};
@@ -22,16 +22,27 @@ const SY: [u8; 2] = *b"SY";
 
 const GR: [u8; 2] = *b"GR";
 
+const GW: [u8; 2] = *b"GW";
+
 const FD: [u8; 2] = *b"FD";
 
 // 31
 
-// How many enumerations and groups there were, and how many records the last of them still has to
-// come.
+// How many enumerations and groups there were, how many records the last of them still has to come,
+// and whether the groups store their widths.
 struct Shape {
     enumerations: usize,
     groups: usize,
     owed: usize,
+    stored: bool,
+}
+
+// Whether the record at p is a group's, of either mark.
+fn has_group_mark(table: &[u8], p: usize) -> bool
+    requires { ⌜ p + 16 ≤ length (now table) ⌝ }
+    ensures { λ r. ⌜ r ≡ groupMarked (drop p (now (table .entry))) ⌝ }
+{
+    wire::has_mark(table, p, GR) | wire::has_mark(table, p, GW)
 }
 
 // "First the enumerations, then the groups"
@@ -40,6 +51,20 @@ fn is_enum(table: &[u8], p: usize, shape: Shape) -> bool
     ensures { λ r. ⌜ r ≡ isEnum (dueOf shape) (drop p (now (table .entry))) ⌝ }
 {
     (shape.groups == 0) & wire::has_mark(table, p, EN)
+}
+
+// "A table has all `GR` or all `GW`": the first group says which.
+fn is_group(table: &[u8], p: usize, shape: Shape) -> bool
+    requires { ⌜ p + 16 ≤ length (now table) ⌝ }
+    ensures { λ r. ⌜ r ≡ isGroup (dueOf shape) (drop p (now (table .entry))) ⌝ }
+{
+    if 0 < shape.groups {
+        if shape.stored {
+            return wire::has_mark(table, p, GW);
+        }
+        return wire::has_mark(table, p, GR);
+    }
+    has_group_mark(table, p)
 }
 
 // Whether the record at p is one that may stand there.
@@ -57,7 +82,7 @@ fn is_due(table: &[u8], p: usize, shape: Shape) -> bool
         let count = schema::symbol_count(table, p);
         return (shape.enumerations < 64) & ((1 <= count) & (count <= 256));
     }
-    wire::has_mark(table, p, GR) & ((shape.groups < 64) & (schema::field_count(table, p) <= 64))
+    is_group(table, p, shape) & ((shape.groups < 64) & (schema::field_count(table, p) <= 64))
 }
 
 fn place_group(index: &mut [u16], g: usize, p: usize)
@@ -87,6 +112,7 @@ fn take_record(table: &[u8], index: &mut [u16], i: usize, shape: Shape) -> Shape
             enumerations: shape.enumerations,
             groups: shape.groups,
             owed: shape.owed - 1,
+            stored: shape.stored,
         };
     }
     if is_enum(table, p, shape) {
@@ -96,6 +122,7 @@ fn take_record(table: &[u8], index: &mut [u16], i: usize, shape: Shape) -> Shape
             enumerations: shape.enumerations + 1,
             groups: shape.groups,
             owed: count,
+            stored: shape.stored,
         };
     }
     place_group(index, shape.groups, p);
@@ -103,6 +130,7 @@ fn take_record(table: &[u8], index: &mut [u16], i: usize, shape: Shape) -> Shape
         enumerations: shape.enumerations,
         groups: shape.groups + 1,
         owed: schema::field_count(table, p),
+        stored: wire::has_mark(table, p, GW),
     }
 }
 
@@ -115,6 +143,7 @@ fn check_shape(table: &[u8], index: &mut [u16]) -> schema::Verdict
         enumerations: 0,
         groups: 0,
         owed: 0,
+        stored: false,
     };
     let mut i = 0;
     while i < records {
@@ -191,11 +220,11 @@ fn check_symbol(table: &[u8], p: usize, low: usize) -> schema::Verdict
 // "a must-be-zero byte isn't, or a flag is not 0 or 1"
 fn group_zeros(table: &[u8], p: usize) -> bool
     requires { ⌜ p + 16 ≤ length (now table) ⌝ }
-    ensures { λ r. ⌜ r ≡ ltb (idFlag (drop p (now (table .entry)))) 2 && ((eqb (idFlag (drop p (now (table .entry)))) 1 || allZero (part 8 2 (drop p (now (table .entry))))) && allZero (part 2 14 (drop p (now (table .entry))))) ⌝ }
+    ensures { λ r. ⌜ r ≡ ltb (idFlag (drop p (now (table .entry)))) 2 && ((eqb (idFlag (drop p (now (table .entry)))) 1 || allZero (part 8 2 (drop p (now (table .entry))))) && (marked GW (drop p (now (table .entry))) || allZero (part 2 14 (drop p (now (table .entry)))))) ⌝ }
 {
     (table[p + 10] < 2)
         & ((schema::has_id(table, p) | (schema::type_id(table, p) == 0))
-            & (wire::read_u16(table, p + 14) == 0))
+            & (wire::has_mark(table, p, GW) | (wire::read_u16(table, p + 14) == 0)))
 }
 
 fn check_group(table: &[u8], index: &[u16], p: usize, own: usize) -> schema::Verdict
@@ -313,7 +342,7 @@ fn check_record(table: &[u8], index: &[u16], p: usize, next: usize, low: usize) 
     if wire::has_mark(table, p, SY) {
         return check_symbol(table, p, low);
     }
-    if wire::has_mark(table, p, GR) {
+    if has_group_mark(table, p) {
         return check_group(table, index, p, next);
     }
     check_enum(table, p)
@@ -333,9 +362,9 @@ fn rising(table: &[u8], p: usize) -> usize
 // How many groups there were after the record at p.
 fn groups_after(table: &[u8], p: usize, next: usize) -> usize
     requires { ⌜ (p + 16 ≤ length (now table)) × (next ≤ 64) ⌝ }
-    ensures { λ r. ⌜ r ≡ cond (marked GR (drop p (now (table .entry)))) (next + 1) next ⌝ }
+    ensures { λ r. ⌜ r ≡ cond (groupMarked (drop p (now (table .entry)))) (next + 1) next ⌝ }
 {
-    if wire::has_mark(table, p, GR) {
+    if has_group_mark(table, p) {
         return next + 1;
     }
     next
@@ -542,14 +571,55 @@ fn check_supers(table: &[u8], index: &[u16]) -> schema::Verdict
     schema::Verdict::Accepted
 }
 
-// 35 group by group, and then 36.
+// 37
+
+// Whether group number g stores no width, or its own.
+fn stores_own(table: &[u8], index: &[u16], g: usize) -> bool
+    requires { ⌜ (Placing (now table) (now index)) × (Known (now table) (now index) (length (schema (now table)))) × (g < length (schema (now table))) ⌝ }
+    ensures { λ r. ⌜ r ≡ storesOwn (now (table .entry)) g (groupPlace (now (index .entry)) g) ⌝ }
+{
+    let p = schema::group_place(index, g);
+    if !wire::has_mark(table, p, GW) {
+        return true;
+    }
+    let stored = schema::stored_width(table, p);
+    let width = schema::group_width(index, g);
+    stored == width
+}
+
+fn check_stored(table: &[u8], index: &[u16]) -> schema::Verdict
+    requires { ⌜ (Placing (now table) (now index)) × (Known (now table) (now index) (length (schema (now table)))) ⌝ }
+    ensures { λ r. ⌜ r ≡ storedVerdict (now (table .entry)) ⌝ }
+{
+    let groups = schema::group_total(index);
+    let mut g = 0;
+    while g < groups {
+        if !stores_own(table, index, g) {
+            return schema::Verdict::Refused {
+                number: 37,
+                place: schema::group_place(index, g),
+            };
+        }
+        g += 1;
+    }
+    schema::Verdict::Accepted
+}
+
+// 35 of every group, then 36 of every group, then 37.
 fn check_groups(table: &[u8], index: &mut [u16]) -> schema::Verdict
     requires { ⌜ (Placing (now table) (now index)) × (Known (now table) (now index) 0) × (Sound (schema (now table))) × ((g : ℕ) → superOf (schema (now table)) g ≤ g) ⌝ }
-    ensures { λ r. ⌜ Judged (also (widthsVerdict (now (table .entry))) (supersVerdict (now (table .entry)))) r (now (table .entry)) (now (index .exit)) ⌝ }
+    ensures { λ r. ⌜ Judged (also (widthsVerdict (now (table .entry))) (also (supersVerdict (now (table .entry))) (storedVerdict (now (table .entry))))) r (now (table .entry)) (now (index .exit)) ⌝ }
 {
     let widths = check_widths(table, index);
     match widths {
-        schema::Verdict::Accepted => check_supers(table, index),
+        schema::Verdict::Accepted => {}
+        schema::Verdict::Refused { number, place } => {
+            return schema::Verdict::Refused { number, place };
+        }
+    }
+    let supers = check_supers(table, index);
+    match supers {
+        schema::Verdict::Accepted => check_stored(table, index),
         schema::Verdict::Refused { number, place } => schema::Verdict::Refused { number, place },
     }
 }

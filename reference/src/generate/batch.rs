@@ -8,6 +8,8 @@ use crate::question::{Kind, Question};
 
 /// A table and questions under it (those about a table have their own).
 pub struct Batch {
+    /// The plan of the table, which at times was damaged.
+    pub plan: TablePlan,
     pub table: Vec<u8>,
     pub questions: Vec<Question>,
 }
@@ -17,7 +19,7 @@ pub fn batch(seed: u64) -> Batch {
     let mut random = Random::new(seed);
     let plan = random_table(&mut random);
     let mut questions = vec![Question::new(Kind::CheckTable, plan.encode())];
-    for _ in 0..4 {
+    for _ in 0..5 {
         let damaged = damage_table(&mut random, &plan);
         questions.push(Question::new(Kind::CheckTable, damaged));
     }
@@ -31,7 +33,7 @@ pub fn batch(seed: u64) -> Batch {
         0 => damage_table(&mut random, &plan),
         _ => plan.encode(),
     };
-    Batch { table, questions }
+    Batch { plan, table, questions }
 }
 
 /// At times the message as the innermost of some seven to ten levels.

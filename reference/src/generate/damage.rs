@@ -264,9 +264,13 @@ fn damage_record(
 
 /// A table with something wrong in it (by chance, nothing).
 pub fn damage_table(random: &mut Random, plan: &TablePlan) -> Vec<u8> {
-    match random.below(4) {
+    match random.below(5) {
         0 => damage_plan(random, plan),
         1 => resize_table(random, plan.encode()),
+        2 => {
+            let table = if random.one_in(2) { plan.encode() } else { damage_plan(random, plan) };
+            damage_widths(random, table)
+        }
         _ => damage_table_record(random, plan.encode()),
     }
 }
@@ -291,6 +295,24 @@ fn damage_table_record(random: &mut Random, mut table: Vec<u8>) -> Vec<u8> {
     let record = random.below(table.len() / 16) * 16;
     let at = record + random.below(16);
     table[at] = random.pick(&[0, 1, 2, 5, 17, 19, 21, 22, 24, 255]);
+    table
+}
+
+/// The mark of a group or its bytes 14-15: a mix (31), a width in a `GR` (32)
+/// or a wrong one in a `GW` (37); by chance, nothing.
+pub fn damage_widths(random: &mut Random, mut table: Vec<u8>) -> Vec<u8> {
+    let groups: Vec<usize> =
+        (0..table.len()).step_by(16).filter(|&at| matches!(&table[at..at + 2], b"GR" | b"GW")).collect();
+    let at = random.pick(&groups);
+    if random.one_in(4) {
+        table[at + 1] ^= b'R' ^ b'W';
+        return table;
+    }
+    let stored = |at| u16::from_le_bytes([table[at + 14], table[at + 15]]);
+    let old = stored(at);
+    let other = stored(random.pick(&groups));
+    let new = random.pick(&[0, old.wrapping_sub(1), old.wrapping_add(1), old ^ 256, old.swap_bytes(), other]);
+    set(&mut table, at + 14, &new.to_le_bytes());
     table
 }
 

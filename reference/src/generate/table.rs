@@ -55,13 +55,15 @@ pub struct GroupPlan {
 }
 
 impl GroupPlan {
-    fn encode(&self) -> Vec<u8> {
-        let mut record = b"GR".to_vec();
+    /// A `GR` record, or a `GW` with this width, and the fields.
+    fn encode(&self, width: Option<usize>) -> Vec<u8> {
+        let mut record = if width.is_some() { b"GW" } else { b"GR" }.to_vec();
         record.extend(self.id.unwrap_or(0).to_le_bytes());
         record.push(self.id.is_some().into());
         record.extend(self.above.map_or(0, |above| above + 1).to_le_bytes());
         record.push(self.fields.len() as u8);
-        record.resize(16, 0);
+        // Of a width that no record can hold, the low bytes: it is refused.
+        record.extend((width.unwrap_or(0) as u16).to_le_bytes());
         record.extend(self.fields.iter().flat_map(|field| field.encode()));
         record
     }
@@ -71,6 +73,8 @@ impl GroupPlan {
 pub struct TablePlan {
     pub enumerations: Vec<Vec<i32>>,
     pub groups: Vec<GroupPlan>,
+    /// Whether the groups are `GW` records, with their widths.
+    pub stored_widths: bool,
 }
 
 impl TablePlan {
@@ -123,8 +127,16 @@ impl TablePlan {
                 table.extend([0; 10]);
             }
         }
-        table.extend(self.groups.iter().flat_map(|group| group.encode()));
+        for (number, group) in self.groups.iter().enumerate() {
+            let width = self.stored_widths.then(|| self.width(number));
+            table.extend(group.encode(width));
+        }
         table
+    }
+
+    /// The table of the other form, alike but for marks and widths.
+    pub fn twin(&self) -> TablePlan {
+        TablePlan { stored_widths: !self.stored_widths, ..self.clone() }
     }
 
     /// The fields that a group with this super has to begin with.
@@ -132,7 +144,7 @@ impl TablePlan {
         above.map_or(&[], |above| &self.groups[usize::from(above)].fields)
     }
 
-    /// Where each group's `GR` record starts.
+    /// Where each group's record starts.
     pub fn group_places(&self) -> Vec<usize> {
         let symbols: usize = self.enumerations.iter().map(|symbols| 1 + symbols.len()).sum();
         let mut at = symbols * 16;
@@ -194,9 +206,9 @@ impl TablePlan {
     }
 }
 
-/// A table that the check accepts.
+/// A table that the check accepts, of either form.
 pub fn random_table(random: &mut Random) -> TablePlan {
-    let mut plan = TablePlan::new();
+    let mut plan = TablePlan { stored_widths: random.one_in(2), ..TablePlan::new() };
     for _ in 0..random.below(3) {
         plan.enumerations.push(random_symbols(random));
     }

@@ -22,11 +22,11 @@ check-group-requires c κs = let pre = c .before .before .before .before .before
 
 returns-3 : tie.Need-returns-3
 returns-3 c = let a = c .before .before .before .before .before .before .before .before .before .args in
-    c .check-group .ensures ∙ sym (record-group (length (enums (a .table .now))) (schema (a .table .now)) (a .next) (a .low) (a .p) (drop (a .p) (a .table .now)) (sym (c .before .before .before .before .before .before .has-mark .ensures) ∙ c .before .before .before .before .before .if1 .left) (sym (c .before .before .before .before .has-mark2 .ensures) ∙ c .before .before .before .if2 .left) (sym (c .before .before .has-mark3 .ensures) ∙ c .before .if3 .taken))
+    c .check-group .ensures ∙ sym (record-group (length (enums (a .table .now))) (schema (a .table .now)) (a .next) (a .low) (a .p) (drop (a .p) (a .table .now)) (sym (c .before .before .before .before .before .before .has-mark .ensures) ∙ c .before .before .before .before .before .if1 .left) (sym (c .before .before .before .before .has-mark2 .ensures) ∙ c .before .before .before .if2 .left) (sym (c .before .before .has-group-mark .ensures) ∙ c .before .if3 .taken))
 
 returns-4 : tie.Need-returns-4
 returns-4 c = let a = c .before .before .before .before .before .before .before .before .before .args in
-    c .check-enum .ensures ∙ sym (record-enum (length (enums (a .table .now))) (schema (a .table .now)) (a .next) (a .low) (a .p) (drop (a .p) (a .table .now)) (sym (c .before .before .before .before .before .before .has-mark .ensures) ∙ c .before .before .before .before .before .if1 .left) (sym (c .before .before .before .before .has-mark2 .ensures) ∙ c .before .before .before .if2 .left) (sym (c .before .before .has-mark3 .ensures) ∙ c .before .if3 .left))
+    c .check-enum .ensures ∙ sym (record-enum (length (enums (a .table .now))) (schema (a .table .now)) (a .next) (a .low) (a .p) (drop (a .p) (a .table .now)) (sym (c .before .before .before .before .before .before .has-mark .ensures) ∙ c .before .before .before .before .before .if1 .left) (sym (c .before .before .before .before .has-mark2 .ensures) ∙ c .before .before .before .if2 .left) (sym (c .before .before .has-group-mark .ensures) ∙ c .before .if3 .left))
 
 pub check-record-spec : {M : Type 1} → statement M
 check-record-spec =

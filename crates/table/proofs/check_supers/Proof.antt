@@ -4,13 +4,13 @@ use native.Mathlib.Omega.{arith}
 use lib.ListN.{length, drop}
 use borrow.Author.Needs.{needs}
 use borrow.Author.Tests.{not-true, not-false}
-use Rattle.schema.specs.Table.{schema, places, supersFrom, supersVerdict}
-use Rattle.table.proofs.Supers.{supers-stop, supers-turn, supers-end}
+use Rattle.schema.specs.Table.{schema, places, eachGroup, inherits, supersVerdict}
+use Rattle.table.proofs.Laws.{each-stop, each-turn, each-end}
 use Rattle.table.proofs.check_supers.Statement.{statement}
 use Rattle.table.proofs.check_supers.Tie as tie
 
 abbrev Inv-loop : tie.InvT-loop
-Inv-loop table index groups g₀ g = (g ≤ groups) × (supersVerdict table ≡ supersFrom table (drop g (places table)))
+Inv-loop table index groups g₀ g = (g ≤ groups) × (supersVerdict table ≡ eachGroup 36 (λ _ p. inherits table p) g (drop g (places table)))
 
 abbrev μ-loop : tie.MeasureT-loop
 μ-loop table index groups g₀ g = groups - g
@@ -36,21 +36,21 @@ returns c =
     let g = c .before .before .before .before .loop .g in
     let h = c .before .before .before .before .before .before .before .before .pre .0 in
     let at = h .start g (omega (arith, h .total, c .before .before .before .before .before .group-total .ensures .0, c .before .before .before .loop-test .taken)) in
-    rw (c .group-place .ensures .0) (sym (c .before .before .before .before .loop .inv .1 ∙ supers-stop (c .before .before .before .before .before .before .before .before .args .table .now) g _ _ at (sym (c .before .before .inherits .ensures) ∙ not-true _ (c .before .if1 .taken))))
+    rw (c .group-place .ensures .0) (sym (c .before .before .before .before .loop .inv .1 ∙ each-stop 36 _ g _ _ _ at (sym (c .before .before .inherits .ensures) ∙ not-true _ (c .before .if1 .taken))))
 
 loop-again : tie.Need-loop-again Inv-loop μ-loop
 loop-again c =
     let g = c .before .before .before .loop .g in
     let h = c .before .before .before .before .before .before .before .pre .0 in
     let at = h .start g (omega (arith, h .total, c .before .before .before .before .group-total .ensures .0, c .before .before .loop-test .taken)) in
-    (search needs, c .before .before .before .loop .inv .1 ∙ supers-turn (c .before .before .before .before .before .before .before .args .table .now) g _ _ at (sym (c .before .inherits .ensures) ∙ not-false _ (c .if1 .left)))
+    (search needs, c .before .before .before .loop .inv .1 ∙ each-turn 36 _ g _ _ _ at (sym (c .before .inherits .ensures) ∙ not-false _ (c .if1 .left)))
 
 returns-2 : tie.Need-returns-2 Inv-loop μ-loop
 returns-2 c =
     let t = c .before .before .before .before .before .args .table .now in
     let h = c .before .before .before .before .before .pre .0 in
     let z : c .before .loop .g ≡ length (schema t) = omega (arith, h .total, c .before .before .group-total .ensures .0, c .loop-test .left, c .before .loop .inv .0) in
-    sym (c .before .loop .inv .1 ∙ supers-end t (c .before .loop .g) (ap (λ (n : ℕ). drop n (places t)) z ∙ h .last))
+    sym (c .before .loop .inv .1 ∙ each-end 36 _ (c .before .loop .g) _ (ap (λ (n : ℕ). drop n (places t)) z ∙ h .last))
 
 pub check-supers-spec : {M : Type 1} → statement M
 check-supers-spec =

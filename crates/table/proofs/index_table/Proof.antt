@@ -4,7 +4,7 @@ use borrow.Author.Tests.{not-true, not-false}
 use Rattle.table.proofs.Formed.{whole-of, after-30, after-31, after-34, after-ids, by-groups, schema-sound, supers-low, layout-of}
 use Rattle.table.proofs.Values.{lists-ordered}
 use Rattle.table.proofs.Widths.{known-none}
-use Rattle.table.proofs.Laws.{never}
+use Rattle.table.proofs.Laws.{also-accepted, never}
 use Rattle.table.proofs.index_table.Statement.{statement}
 use Rattle.table.proofs.index_table.Tie as tie
 
@@ -47,7 +47,7 @@ returns-5 c =
     let w = c .before .before .check-groups .ensures in
     record {
       verdict = w .verdict ∙ by-groups t z s r (sym (c .before .before .before .before .before .any-id .ensures) ∙ not-false _ (c .before .before .before .before .if2 .left));
-      layout = λ q. layout-of t _ (w .placing q) (w .known q) (whole-of t z) (supers-low t s r) (lists-ordered t s r);
+      layout = λ q. layout-of t _ (w .placing q) (w .known q) (whole-of t z) (supers-low t s r) (lists-ordered t s r) (also-accepted _ _ (also-accepted _ _ (sym (w .verdict) ∙ q) .1) .1);
     }
 
 pub index-table-spec : {M : Type 1} → statement M

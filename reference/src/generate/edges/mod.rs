@@ -8,6 +8,7 @@ mod sheet;
 mod supers;
 mod symbols;
 mod table;
+mod widths;
 
 use super::table::TablePlan;
 use crate::question::{Kind, Question};
@@ -27,6 +28,7 @@ pub fn edges() -> Vec<Edge> {
     let mut edges = Edges(Vec::new());
     table::add(&mut edges);
     supers::add(&mut edges);
+    widths::add(&mut edges);
     message::add(&mut edges);
     symbols::add(&mut edges);
     sheet::add(&mut edges);

@@ -1,0 +1,69 @@
+use mathlib.Core.Path.{_≡_, refl, sym, ap, _∙_}
+use Prim.Native.Nat.{ℕ, _-_, _≤_}
+use native.Mathlib.Omega.{arith}
+use lib.ListN.{length, drop}
+use borrow.Author.Needs.{needs}
+use borrow.Author.Tests.{not-true, not-false}
+use Rattle.schema.specs.Table.{schema, places, eachGroup, storesOwn, storedVerdict}
+use Rattle.table.proofs.Laws.{each-stop, each-turn, each-end}
+use Rattle.table.proofs.check_stored.Statement.{statement}
+use Rattle.table.proofs.check_stored.Tie as tie
+
+abbrev Inv-loop : tie.InvT-loop
+Inv-loop table index groups g₀ g = (g ≤ groups) × (storedVerdict table ≡ eachGroup 37 (storesOwn table) g (drop g (places table)))
+
+abbrev μ-loop : tie.MeasureT-loop
+μ-loop table index groups g₀ g = groups - g
+
+group-total-requires : tie.Need-group-total-requires Inv-loop μ-loop
+group-total-requires c κs = c .before .before .pre .0 .long
+
+loop-holds : tie.Need-loop-holds Inv-loop μ-loop
+loop-holds c = (search needs, unfold storedVerdict in refl)
+
+stores-own-requires : tie.Need-stores-own-requires Inv-loop μ-loop
+stores-own-requires c κs =
+    let h = c .before .before .before .before .before .pre in
+    (h .0, h .1, omega (arith, h .0 .total, c .before .before .group-total .ensures .0, c .loop-test .taken))
+
+group-place-requires : tie.Need-group-place-requires Inv-loop μ-loop
+group-place-requires c κs =
+    let h = c .before .before .before .before .before .before .before .pre .0 in
+    (h .long, omega (arith, h .few, h .total, c .before .before .before .before .group-total .ensures .0, c .before .before .loop-test .taken))
+
+returns : tie.Need-returns Inv-loop μ-loop
+returns c =
+    let g = c .before .before .before .before .loop .g in
+    let h = c .before .before .before .before .before .before .before .before .pre .0 in
+    let at = h .start g (omega (arith, h .total, c .before .before .before .before .before .group-total .ensures .0, c .before .before .before .loop-test .taken)) in
+    rw (c .group-place .ensures .0) (sym (c .before .before .before .before .loop .inv .1 ∙ each-stop 37 _ g _ _ _ at (sym (c .before .before .stores-own .ensures) ∙ not-true _ (c .before .if1 .taken))))
+
+loop-again : tie.Need-loop-again Inv-loop μ-loop
+loop-again c =
+    let g = c .before .before .before .loop .g in
+    let h = c .before .before .before .before .before .before .before .pre .0 in
+    let at = h .start g (omega (arith, h .total, c .before .before .before .before .group-total .ensures .0, c .before .before .loop-test .taken)) in
+    (search needs, c .before .before .before .loop .inv .1 ∙ each-turn 37 _ g _ _ _ at (sym (c .before .stores-own .ensures) ∙ not-false _ (c .if1 .left)))
+
+returns-2 : tie.Need-returns-2 Inv-loop μ-loop
+returns-2 c =
+    let t = c .before .before .before .before .before .args .table .now in
+    let h = c .before .before .before .before .before .pre .0 in
+    let z : c .before .loop .g ≡ length (schema t) = omega (arith, h .total, c .before .before .group-total .ensures .0, c .loop-test .left, c .before .loop .inv .0) in
+    sym (c .before .loop .inv .1 ∙ each-end 37 _ (c .before .loop .g) _ (ap (λ (n : ℕ). drop n (places t)) z ∙ h .last))
+
+pub check-stored-spec : {M : Type 1} → statement M
+check-stored-spec =
+    tie.close
+    (tie.spec
+    Inv-loop
+    μ-loop
+    group-total-requires
+    loop-holds
+    stores-own-requires
+    group-place-requires
+    returns
+    (λ c. search needs)
+    (λ c. search needs)
+    loop-again
+    returns-2)

@@ -217,7 +217,7 @@ fn check_symbol(table: &[u8], p: usize, low: usize) -> schema::Verdict
     schema::Verdict::Accepted
 }
 
-// "a must-be-zero byte isn't, or a flag is not 0 or 1"
+// "a must-be-zero byte isn't, or a flag is not 0 or 1". In `GW` bytes 14-15 are the width.
 fn group_zeros(table: &[u8], p: usize) -> bool
     requires { ⌜ p + 16 ≤ length (now table) ⌝ }
     ensures { λ r. ⌜ r ≡ ltb (idFlag (drop p (now (table .entry)))) 2 && ((eqb (idFlag (drop p (now (table .entry)))) 1 || allZero (part 8 2 (drop p (now (table .entry))))) && (marked GW (drop p (now (table .entry))) || allZero (part 2 14 (drop p (now (table .entry)))))) ⌝ }

@@ -1,6 +1,6 @@
 -- Tests in a row, and what stands in a record.
 use mathlib.Core.Path.{_≡_, refl, sym, ap, _∙_}
-use mathlib.Core.Bool.{Bool, true, false, not, cond, _&&_}
+use mathlib.Core.Bool.{Bool, true, false, not, cond, _&&_, _||_}
 use mathlib.Core.List.{List, [], _∷_, _++_}
 use Prim.Native.Nat.{ℕ, zero, suc, _+_, _-_, _*_, _<_, _≤_}
 use native.Mathlib.Omega.{arith}
@@ -10,10 +10,10 @@ use lib.Dec.{leb, ltb, eqb}
 use borrow.Author.Tests.{eqb-true, eqb-false, eq-eqb, ne-eqb}
 use Rattle.schema.specs.Schema.{Group, find, known}
 use Rattle.schema.specs.Layout.{Placed}
-use Rattle.schema.specs.Table.{fieldType, fieldSize, reference, sizeOk, referenceOk, anyId, eachGroup, SY, FD, marked, groupMarked, recordVerdict, fieldVerdict, symbolVerdict, groupVerdict, enumVerdict}
+use Rattle.schema.specs.Table.{fieldType, fieldSize, reference, sizeOk, referenceOk, anyId, eachGroup, SY, GW, FD, typeId, idFlag, marked, groupMarked, recordVerdict, fieldVerdict, symbolVerdict, groupVerdict, enumVerdict}
 use Rattle.wire.specs.Bytes.{part, le, allZero}
 use Rattle.wire.proofs.Laws.{part-add}
-use Rattle.schema.proofs.Records.{number-at}
+use Rattle.schema.proofs.Records.{byte-at, number-at}
 use Rattle.schema.specs.declared.Verdict.{Verdict}
 use Rattle.schema.specs.declared.Verdict.the-variants.{Accepted, Refused}
 use Rattle.schema.specs.Faults.{need, also}
@@ -84,6 +84,12 @@ pub zeros-before : (m n i p v : ℕ) (z : Bool) (t : List ℕ) → v ≡ le (par
     → allZero (part (m + n) i (drop p t)) ≡ (eqb v 0 && z)
 zeros-before m n i p v z t is rest =
     zero-add m n i (drop p t) ∙ ap (λ (x : ℕ). eqb x 0 && allZero (part n (i + m) (drop p t))) (number-at m i p t ∙ sym is) ∙ ap (λ (b : Bool). eqb v 0 && b) (sym rest)
+
+-- a group's test of 32, over the values that the code holds
+pub group-32 : (t : List ℕ) (p id width : ℕ) (has stored : Bool) → has ≡ eqb (idFlag (drop p t)) 1 → id ≡ typeId (drop p t) → stored ≡ marked GW (drop p t)
+    → width ≡ le (part 2 (p + 14) t) → (ltb (getD t (p + 10) 0) 2 && ((has || eqb id 0) && (stored || eqb width 0)))
+    ≡ (ltb (idFlag (drop p t)) 2 && ((eqb (idFlag (drop p t)) 1 || allZero (part 8 2 (drop p t))) && (marked GW (drop p t) || allZero (part 2 14 (drop p t)))))
+group-32 t p id width has stored a b c d = rw (a, b, c, zero-le (part 8 2 (drop p t)), zeros-at 2 14 p width t d, byte-at t p 10)
 
 module _ (ne : ℕ) (gs : List Group) (next low p : ℕ) (t : List ℕ) where
   pub record-field : marked FD t ≡ true → recordVerdict ne gs next low p t ≡ fieldVerdict ne (length gs) (next - 1) p t

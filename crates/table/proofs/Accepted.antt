@@ -13,7 +13,8 @@ use Rattle.schema.specs.Symbols.{rank}
 use Rattle.schema.specs.Table.{SY, symbolValue, recordVerdict, marked, groupMarked, idFlag, typeId, groupAt, groupsFrom, enumsFrom, recordCount, enums, schema, places, shapeVerdict, groupVerdict, recordsFrom, recordsVerdict, inBounds, widthsVerdict, tableVerdict}
 use Rattle.table.specs.Measure.{Sound}
 use Rattle.table.specs.Claims.{BeginsSuper}
-use Rattle.table.proofs.Laws.{need-accepted, also-accepted, each-passed, record-group}
+use Rattle.table.proofs.Laws.{need-accepted, also-accepted, record-group}
+use Rattle.table.proofs.Groups.{each-passed}
 use Rattle.table.proofs.Records.{drop-next, symbol-no-group, symbol-no-enum, field-no-group, field-no-enum, enum-no-group, group-no-enum, group-no-field, group-no-symbol}
 use Rattle.schema.proofs.Depth.{and-both}
 use Rattle.table.proofs.Formed.{Passed, passed, Formed, end, symbol, field, enum, group, formed, shallow-out, schema-sound, supers-low}

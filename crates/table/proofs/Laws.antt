@@ -2,7 +2,7 @@
 use mathlib.Core.Path.{_≡_, refl, sym, ap, _∙_}
 use mathlib.Core.Bool.{Bool, true, false, not, cond, _&&_, _||_}
 use mathlib.Core.List.{List, [], _∷_, _++_}
-use Prim.Native.Nat.{ℕ, zero, suc, _+_, _-_, _*_, _<_, _≤_}
+use Prim.Native.Nat.{ℕ, zero, _+_, _-_, _*_, _≤_}
 use native.Mathlib.Omega.{arith}
 use lib.ListN.{length, take, drop, getD, drop-of-length-le}
 use lib.Seq.{length-take-le}
@@ -10,7 +10,7 @@ use lib.Dec.{leb, ltb, eqb}
 use borrow.Author.Tests.{eqb-true, eqb-false, eq-eqb, ne-eqb}
 use Rattle.schema.specs.Schema.{Group, find, known}
 use Rattle.schema.specs.Layout.{Placed}
-use Rattle.schema.specs.Table.{fieldType, fieldSize, reference, sizeOk, referenceOk, anyId, eachGroup, SY, GW, FD, typeId, idFlag, marked, groupMarked, recordVerdict, fieldVerdict, symbolVerdict, groupVerdict, enumVerdict}
+use Rattle.schema.specs.Table.{fieldType, fieldSize, reference, sizeOk, referenceOk, anyId, SY, GW, FD, typeId, idFlag, marked, groupMarked, recordVerdict, fieldVerdict, symbolVerdict, groupVerdict, enumVerdict}
 use Rattle.wire.specs.Bytes.{part, le, allZero}
 use Rattle.wire.proofs.Laws.{part-add}
 use Rattle.schema.proofs.Records.{byte-at, number-at}
@@ -131,28 +131,6 @@ module _ (gs : List Group) (g : ℕ) (x : Group) (r : List Group) (e : drop g gs
 pub any-end : (gs : List Group) (g : ℕ) → length gs ≤ g → anyId (drop g gs) ≡ false
 unfolding anyId
 any-end gs g h = rw (drop-of-length-le gs h)
-
-module _ (n : ℕ) (test : ℕ → ℕ → Bool) (g p : ℕ) (ps r : List ℕ) (at : drop g ps ≡ p ∷ r) where
-  pub each-stop : test g p ≡ false → eachGroup n test g (drop g ps) ≡ Refused n p
-  unfolding eachGroup need
-  each-stop h = rw (at, h)
-
-  pub each-turn : test g p ≡ true → eachGroup n test g (drop g ps) ≡ eachGroup n test (g + 1) r
-  unfolding eachGroup need
-  each-turn h = rw (at, h)
-
-pub each-end : (n : ℕ) (test : ℕ → ℕ → Bool) (g : ℕ) (ps : List ℕ) → drop g ps ≡ [] → eachGroup n test g (drop g ps) ≡ Accepted
-unfolding eachGroup
-each-end n test g ps e = rw e
-
--- where none is refused, each passed
-pub each-passed : (n : ℕ) (test : ℕ → ℕ → Bool) (g : ℕ) (ps : List ℕ) → eachGroup n test g ps ≡ Accepted → (i : ℕ) → i < length ps → test (g + i) (getD ps i 0) ≡ true
-unfolding eachGroup
-each-passed n test g [] e i l = absurd (omega arith)
-each-passed n test g (p ∷ ps) e zero l = let z : g + 0 ≡ g = omega arith in rw z (need-accepted _ _ _ _ e .0)
-each-passed n test g (p ∷ ps) e (suc i) l =
-    let z : g + 1 + i ≡ g + suc i = omega arith in
-    rw z at (each-passed n test (g + 1) ps (need-accepted _ _ _ _ e .1) i (omega arith))
 
 -- a group's test of 34, by the number that is found among the first n
 pub id-test : (gs : List Group) (n id type f : ℕ) (has b : Bool) → n ≤ length gs → has ≡ true → id ≡ type → f ≡ find (take n gs) id → ltb f n ≡ b

@@ -1,4 +1,5 @@
 pub mod Laws
+pub mod Groups
 pub mod Records
 pub mod Widths
 pub mod Supers

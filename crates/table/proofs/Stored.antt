@@ -13,7 +13,7 @@ use Rattle.schema.specs.Table.{GW, marked, storedWidth, schema, places, storesO
 use Rattle.schema.specs.Layout.{groupPlace, staticDepth, widthIn}
 use Rattle.table.specs.Index.{Placing}
 use Rattle.table.specs.Measure.{Known}
-use Rattle.table.proofs.Laws.{each-passed}
+use Rattle.table.proofs.Groups.{each-passed}
 use Rattle.table.proofs.Records.{drop-less, drop-getD}
 use Rattle.table.proofs.Widths.{width-at}
 

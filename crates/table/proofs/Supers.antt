@@ -19,7 +19,7 @@ use Rattle.schema.proofs.Groups.{placed-super}
 use Rattle.table.specs.Index.{Placing}
 use Rattle.table.specs.Claims.{Begins, BeginsSuper}
 use Rattle.table.proofs.Records.{drop-getD}
-use Rattle.table.proofs.Laws.{each-passed}
+use Rattle.table.proofs.Groups.{each-passed}
 
 -- A GROUP AND ITS SUPER
 

@@ -1,11 +1,11 @@
-use mathlib.Core.Path.{_≡_, refl, sym, ap, _∙_}
-use Prim.Native.Nat.{ℕ, _-_, _≤_}
+use mathlib.Core.Path.{_≡_, refl, sym, _∙_}
+use Prim.Native.Nat.{_-_, _≤_}
 use native.Mathlib.Omega.{arith}
-use lib.ListN.{length, drop}
+use lib.ListN.{drop}
 use borrow.Author.Needs.{needs}
 use borrow.Author.Tests.{not-true, not-false}
-use Rattle.schema.specs.Table.{schema, places, eachGroup, inherits, supersVerdict}
-use Rattle.table.proofs.Laws.{each-stop, each-turn, each-end}
+use Rattle.schema.specs.Table.{places, eachGroup, inherits, supersVerdict}
+use Rattle.table.proofs.Groups.{each-stop, each-turn, each-end}
 use Rattle.table.proofs.check_supers.Statement.{statement}
 use Rattle.table.proofs.check_supers.Tie as tie
 
@@ -33,24 +33,21 @@ group-place-requires c κs =
 
 returns : tie.Need-returns Inv-loop μ-loop
 returns c =
-    let g = c .before .before .before .before .loop .g in
+    let l = c .before .before .before .before .loop in
     let h = c .before .before .before .before .before .before .before .before .pre .0 in
-    let at = h .start g (omega (arith, h .total, c .before .before .before .before .before .group-total .ensures .0, c .before .before .before .loop-test .taken)) in
-    rw (c .group-place .ensures .0) (sym (c .before .before .before .before .loop .inv .1 ∙ each-stop 36 _ g _ _ _ at (sym (c .before .before .inherits .ensures) ∙ not-true _ (c .before .if1 .taken))))
+    rw (c .group-place .ensures .0) (each-stop 36 _ _ _ h _ (c .before .before .before .before .before .group-total .ensures .0 ∙ h .total) _ (l .g) (l .inv .1) (c .before .before .before .loop-test .taken) (sym (c .before .before .inherits .ensures) ∙ not-true _ (c .before .if1 .taken)))
 
 loop-again : tie.Need-loop-again Inv-loop μ-loop
 loop-again c =
-    let g = c .before .before .before .loop .g in
+    let l = c .before .before .before .loop in
     let h = c .before .before .before .before .before .before .before .pre .0 in
-    let at = h .start g (omega (arith, h .total, c .before .before .before .before .group-total .ensures .0, c .before .before .loop-test .taken)) in
-    (search needs, c .before .before .before .loop .inv .1 ∙ each-turn 36 _ g _ _ _ at (sym (c .before .inherits .ensures) ∙ not-false _ (c .if1 .left)))
+    (search needs, each-turn 36 _ _ _ h _ (c .before .before .before .before .group-total .ensures .0 ∙ h .total) _ (l .g) (l .inv .1) (c .before .before .loop-test .taken) (sym (c .before .inherits .ensures) ∙ not-false _ (c .if1 .left)))
 
 returns-2 : tie.Need-returns-2 Inv-loop μ-loop
 returns-2 c =
-    let t = c .before .before .before .before .before .args .table .now in
+    let l = c .before .loop in
     let h = c .before .before .before .before .before .pre .0 in
-    let z : c .before .loop .g ≡ length (schema t) = omega (arith, h .total, c .before .before .group-total .ensures .0, c .loop-test .left, c .before .loop .inv .0) in
-    sym (c .before .loop .inv .1 ∙ each-end 36 _ (c .before .loop .g) _ (ap (λ (n : ℕ). drop n (places t)) z ∙ h .last))
+    each-end 36 _ _ _ h _ (c .before .before .group-total .ensures .0 ∙ h .total) _ (l .g) (l .inv .1) (l .inv .0) (c .loop-test .left)
 
 pub check-supers-spec : {M : Type 1} → statement M
 check-supers-spec =

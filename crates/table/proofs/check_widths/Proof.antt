@@ -1,5 +1,5 @@
-use mathlib.Core.Path.{_≡_, refl, sym, ap, _∙_}
-use Prim.Native.Nat.{ℕ, _-_, _<_, _≤_}
+use mathlib.Core.Path.{_≡_, refl, _∙_}
+use Prim.Native.Nat.{_-_, _<_, _≤_}
 use native.Mathlib.Omega.{arith}
 use lib.ListN.{length, drop}
 use borrow.Author.Needs.{needs}
@@ -7,7 +7,8 @@ use borrow.Author.Tests.{not-true, not-false}
 use Rattle.schema.specs.Table.{schema, places, eachGroup, inBounds, widthsVerdict}
 use Rattle.table.specs.Index.{Placing}
 use Rattle.table.specs.Measure.{Known}
-use Rattle.table.proofs.Laws.{each-stop, each-turn, each-end, never}
+use Rattle.table.proofs.Groups.{each-stop, each-turn, each-end}
+use Rattle.table.proofs.Laws.{never}
 use Rattle.table.proofs.Widths.{in-bounds, within, placing-kept, known-more}
 use Rattle.table.proofs.check_widths.Statement.{statement}
 use Rattle.table.proofs.check_widths.Tie as tie
@@ -28,11 +29,9 @@ cast-t18 c = let b = c .slice-known3 .given (c .before .before .before .before .
 returns : tie.Need-returns Inv-loop μ-loop
 returns c =
     let l = c .before .before .before .before .before .before .before .before .loop in
-    let h = c .before .before .before .before .before .before .before .before .before .before .before .before .pre .0 in
     let t = c .before .before .before .before .before .before .before .before .before .before .before .before .args .table .now in
-    let at = l .inv .1 .start (l .g) (omega (arith, h .total, c .before .before .before .before .before .before .before .loop-test .taken)) in
     let wide = in-bounds (schema t) (l .g) _ (c .before .before .before .before .before .group-width .ensures .measured) ∙ not-true _ (c .before .if1 .taken) in
-    record { verdict = sym (l .inv .3 ∙ each-stop 35 _ (l .g) _ _ _ at wide); placing = λ q. absurd (never q); known = λ q. absurd (never q) }
+    record { verdict = each-stop 35 _ _ _ (l .inv .1) _ (c .before .before .before .before .before .before .before .before .before .before .before .before .pre .0 .total) _ (l .g) (l .inv .3) (c .before .before .before .before .before .before .before .loop-test .taken) wide; placing = λ q. absurd (never q); known = λ q. absurd (never q) }
 
 place-extent-requires : tie.Need-place-extent-requires Inv-loop μ-loop
 place-extent-requires c κs =
@@ -54,7 +53,7 @@ loop-again c =
       search needs,
       placing-kept t (l .index) _ (l .g) _ _ few new (l .inv .1),
       known-more t (l .index) _ (l .g) _ _ few new (l .inv .1) _ (w .2) (w .0) (w .1) m (l .inv .2),
-      l .inv .3 ∙ each-turn 35 _ (l .g) _ _ _ (l .inv .1 .start (l .g) (omega (arith, h .total, taken))) (in-bounds (schema t) (l .g) _ m ∙ fits),
+      each-turn 35 _ _ _ (l .inv .1) _ (h .total) _ (l .g) (l .inv .3) taken (in-bounds (schema t) (l .g) _ m ∙ fits),
     )
 
 returns-2 : tie.Need-returns-2 Inv-loop μ-loop
@@ -62,7 +61,7 @@ returns-2 c =
     let l = c .before .loop in
     let t = c .before .before .before .before .before .args .table .now in
     let z : l .g ≡ length (schema t) = omega (arith, c .before .before .before .before .before .pre .0 .total, c .loop-test .left, l .inv .0) in
-    record { verdict = sym (l .inv .3 ∙ each-end 35 _ (l .g) _ (ap (λ (n : ℕ). drop n (places t)) z ∙ l .inv .1 .last)); placing = λ _. l .inv .1; known = λ _. rw (← z) (l .inv .2) }
+    record { verdict = each-end 35 _ _ _ (l .inv .1) _ (c .before .before .before .before .before .pre .0 .total) _ (l .g) (l .inv .3) (l .inv .0) (c .loop-test .left); placing = λ _. l .inv .1; known = λ _. rw (← z) (l .inv .2) }
 
 pub check-widths-spec : {M : Type 1} → statement M
 check-widths-spec =

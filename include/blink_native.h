@@ -5,6 +5,8 @@
  *   share a byte where one of them is such a room. No question keeps a pointer, allocates, calls the system or has state
  *   of its own: threads may ask at the same time, each with its own rooms.
  * Any bytes may be asked about: a table, message or sheet needs no check before a question, each question makes its own.
+ * Tables: samples/README.md says how one is written. Its groups may store their widths (GW) or not (GR): questions about a
+ *   message or a sheet have the same answers.
  *
  * Answers: a struct by value. `number` is 0 where nothing is refused; else it is the first fault's number and `place` its
  *   byte, counted from 0 at the start of the message, table or sheet.

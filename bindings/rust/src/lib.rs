@@ -75,11 +75,20 @@ fn written(answer: boundary::BlinkWritten, room: &mut [u8]) -> Result<&mut [u8],
     Ok(&mut room[..answer.length as usize])
 }
 
-/// Is the schema table accepted? Faults 30 to 37.
+/// Is the schema table accepted? Faults 30 to 37. `samples/README.md` says how a table is written.
+///
+/// Its groups may store their widths (`GW`) or not (`GR`): questions about a message or a sheet have the same answers.
 ///
 /// ```
-/// let fault = blink_native::check_table(b"not a table").unwrap_err();
-/// assert_eq!(fault.number, 30);
+/// // A bill's amount takes 4 bytes, and its tip 5 with the flag.
+/// let mut table = *b"GW\x02\0\0\0\0\0\0\0\x01\0\0\x02\x09\0\
+///                    FD\x05\0\0\0\0\0\0\0\0\0\0\0\0\0\
+///                    FD\x05\x01\0\0\0\0\0\0\0\0\0\0\0\0";
+/// assert_eq!(blink_native::check_table(&table), Ok(()));
+///
+/// table[14] = 8;
+/// let fault = blink_native::check_table(&table).unwrap_err();
+/// assert_eq!(fault.to_string(), "fault 37 at byte 0: the width that a group stores is not its own");
 /// ```
 pub fn check_table(table: &[u8]) -> Verdict {
     // SAFETY: pointer and length are a slice's own.

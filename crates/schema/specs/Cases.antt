@@ -117,7 +117,7 @@ pub cases-hold : map (λ c. tableVerdict (c .table)) cases ≡ map (λ c. c .ver
 unfolding bytesOf le same allZero need also kindWidth valueWidth fieldWidth fieldsWidth fieldsOf width shallowKind shallowFields shallow find known rank groupMarked scalarWidth kindOf fieldAt fieldsAt valuesAt groupAt enumsFrom groupsFrom placesFrom enums schema places isEnum isGroup isDue dueAfter shapeFrom shapeVerdict enumVerdict symbolVerdict groupVerdict sizeOk referenceOk fieldVerdict recordVerdict recordsFrom recordsVerdict anyId idVerdict eachGroup inBounds widthsVerdict beginsWith inherits supersVerdict storesOwn storedVerdict tableVerdict
 cases-hold = refl
 
--- Both forms of the pair are alike, and so are those of a table that stores a wrong width.
-pub forms-alike : Alike (pair (group 1 0 1) (group 2 0 1)) (pair (stored 1 0 1 4) (stored 2 0 1 9))
+-- The two accepted forms of the pair are alike; so are the first and one that stores wrong widths, which 37 refuses.
+pub forms-alike : Alike (pair (group 1 0 1) (group 2 0 1)) (pair (stored 1 0 1 4) (stored 2 0 1 5)) × Alike (pair (group 1 0 1) (group 2 0 1)) (pair (stored 1 0 1 8) (stored 2 0 1 9))
 unfolding bytesOf same plainRecord plainFrom toGR
-forms-alike = refl
+forms-alike = (refl, refl)

@@ -16,6 +16,22 @@ run:
 	target/bin/blink rewrite samples/blank.table samples/padded.message target/rewritten.message
 	cmp target/written.message samples/good.message
 	cmp target/rewritten.message samples/good.message
+	rm -f target/customers.store
+	target/bin/blink settings new target/customers.store 8
+	target/bin/blink settings add target/customers.store 7 1 4 6 8
+	target/bin/blink settings add target/customers.store 12 1
+	target/bin/blink settings add target/customers.store 7 2 4
+	target/bin/blink settings add target/customers.store 300 1 6
+	target/bin/blink settings add target/customers.store 12 3 4 6
+	cmp target/customers.store samples/customers.store
+	target/bin/blink settings samples/customers.store
+	target/bin/blink settings get samples/customers.store 7 1
+	target/bin/blink check samples/blank.table samples/rubbish.message
+	target/bin/blink check samples/blank.table samples/rubbish.message --settings samples/customers.store --customer 7
+	target/bin/blink check samples/blank.table samples/rubbish.message --settings samples/customers.store --customer 12
+	target/bin/blink rewrite --settings samples/customers.store --customer 12 samples/blank.table samples/rubbish.message target/cleaned.message
+	target/bin/blink check samples/blank.table target/cleaned.message
+	cmp target/cleaned.message samples/good-no-note.message
 
 # The gate, as it decides what lands.
 test:

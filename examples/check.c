@@ -1,16 +1,27 @@
 /* Checks messages of the Blank group and prints the barcode of each one that is accepted:
  *
  *     check TABLE MESSAGE..
+ *     check --under STORE CUSTOMER TABLE MESSAGE..
  *
+ * The second form reads them under a customer's settings: what its stations leave in unused bytes is no fault then.
  * `make examples` builds it and runs it on samples/. A refused message hands out nothing but its fault's number and place,
  * whichever question is asked. */
 #include "blink_native.h"
 
 #include <inttypes.h>
 #include <stdio.h>
+#include <stdlib.h>
+#include <string.h>
 
 enum { BARCODE = 0 };   /* Blank's first field: fields count from 0 */
-enum { LIMIT = 65536 }; /* no table and no message is longer */
+enum { LIMIT = 65536 }; /* no table and no message is longer; nor is a store here */
+
+/* A settings store, and whose messages are read. An empty store ignores nothing. */
+typedef struct {
+    uint8_t store[LIMIT + 1];
+    size_t length;
+    uint16_t customer;
+} Settings;
 
 /* Reads a file of at most LIMIT bytes; a longer one is cut after LIMIT + 1, which every question refuses. */
 static int load(const char *name, uint8_t bytes[LIMIT + 1], size_t *length) {
@@ -28,12 +39,13 @@ static int load(const char *name, uint8_t bytes[LIMIT + 1], size_t *length) {
     return !failed;
 }
 
-static void check(const char *name, const uint8_t *table, size_t table_length,
+static void check(const char *name, const uint8_t *table, size_t table_length, const Settings *under,
                   const uint8_t *message, size_t message_length) {
     static uint8_t scratch[LIMIT];
 
     BlinkVerdict verdict =
-        blink_check_message(table, table_length, message, message_length, scratch, sizeof scratch);
+        blink_check_message(table, table_length, under->store, under->length, under->customer,
+                            message, message_length, scratch, sizeof scratch);
     if (verdict.number == 0) {
         printf("%s: accepted\n", name);
     } else {
@@ -42,7 +54,8 @@ static void check(const char *name, const uint8_t *table, size_t table_length,
 
     /* It makes every check itself, so it may be asked first. */
     BlinkPart barcode =
-        blink_read_bytes(table, table_length, message, message_length, scratch, sizeof scratch, BARCODE, 0);
+        blink_read_bytes(table, table_length, under->store, under->length, under->customer,
+                         message, message_length, scratch, sizeof scratch, BARCODE, 0);
     if (barcode.number == 0) {
         printf("%s: barcode ", name);
         fwrite(message + barcode.offset, 1, barcode.length, stdout);
@@ -52,29 +65,52 @@ static void check(const char *name, const uint8_t *table, size_t table_length,
     }
 }
 
+/* Says why a table or a store is refused, if it is. */
+static int passes(const char *name, BlinkVerdict verdict) {
+    if (verdict.number != 0) {
+        printf("%s: refused, fault %" PRIu32 " at byte %" PRIu64 "\n", name, verdict.number, verdict.place);
+    }
+    return verdict.number == 0;
+}
+
+static int load_settings(const char *name, const char *customer, Settings *under) {
+    char *end;
+    unsigned long number = strtoul(customer, &end, 10);
+    if (*customer == '\0' || *end != '\0' || number > UINT16_MAX) {
+        fprintf(stderr, "%s: no customer's number\n", customer);
+        return 0;
+    }
+    under->customer = (uint16_t)number;
+    return load(name, under->store, &under->length) && passes(name, blink_check_store(under->store, under->length));
+}
+
 int main(int count, char **names) {
+    static Settings under;
     static uint8_t table[LIMIT + 1];
     static uint8_t message[LIMIT + 1];
     size_t table_length;
     size_t message_length;
+    int first = 1;
 
-    if (count < 3) {
-        fprintf(stderr, "usage: %s TABLE MESSAGE..\n", names[0]);
+    if (count > 3 && strcmp(names[1], "--under") == 0) {
+        if (!load_settings(names[2], names[3], &under)) {
+            return 1;
+        }
+        first = 4;
+    }
+    if (count < first + 2) {
+        fprintf(stderr, "usage: %s [--under STORE CUSTOMER] TABLE MESSAGE..\n", names[0]);
         return 2;
     }
-    if (!load(names[1], table, &table_length)) {
+    if (!load(names[first], table, &table_length) ||
+        !passes(names[first], blink_check_table(table, table_length))) {
         return 1;
     }
-    BlinkVerdict verdict = blink_check_table(table, table_length);
-    if (verdict.number != 0) {
-        printf("%s: refused, fault %" PRIu32 " at byte %" PRIu64 "\n", names[1], verdict.number, verdict.place);
-        return 1;
-    }
-    for (int i = 2; i < count; i++) {
+    for (int i = first + 1; i < count; i++) {
         if (!load(names[i], message, &message_length)) {
             return 1;
         }
-        check(names[i], table, table_length, message, message_length);
+        check(names[i], table, table_length, &under, message, message_length);
     }
     return 0;
 }

@@ -8,11 +8,18 @@
  * Tables: samples/README.md says how one is written. Its groups may store their widths (GW) or not (GR): questions about a
  *   message or a sheet have the same answers.
  *
+ * Settings: each question about a message takes a settings store and the customer whose message it is. They say which of
+ *   the faults 4, 6 and 8 are no faults in this customer's messages; the bytes that they are about reach no sheet and no
+ *   reading. An empty store (NULL, 0) ignores nothing, and so does a customer that it does not know.
+ *   A store is lent like other bytes: records of 9 bytes from its start on, zeros behind them. samples/README.md says how
+ *   one is written, blink_add_settings adds a record. It is checked in every call, in time linear in its length; one of
+ *   more than 256 records takes 512 KiB of stack for that.
+ *
  * Answers: a struct by value. `number` is 0 where nothing is refused; else it is the first fault's number and `place` its
- *   byte, counted from 0 at the start of the message, table or sheet.
+ *   byte, counted from 0 at the start of the message, table, store or sheet.
  *
  * Scratch: working room, at least as long as the message (else fault 21); 65536 bytes are enough for every message.
- *   After faults 20, 21 and 23 it is untouched. After every other answer its first bytes, as many as the message has, are
+ *   After faults 20, 21, 23 and 50 it is untouched. After every other answer its first bytes, as many as the message has, are
  *   zero, and the rest is untouched.
  * Other rooms: on success the first `length` bytes are written and the rest is untouched. On a refusal they are untouched,
  *   but for the sheet room of blink_rewrite, which says its own rule.
@@ -59,6 +66,9 @@
  * 46 the sheet is longer than its room
  * 47 the message is longer than its room or than 65536 bytes
  * 48 the field is of another kind: no number, or no bytes
+ * 50 the settings store is damaged, has a flag that is neither 0 nor 1 or a version that does not rise, or the addition would make it so
+ * 51 the settings store has no room for another record
+ * 59 the customer has no settings of that version
  *
  * Places. The byte that the words name, and:
  *   of 1, 2, 14, 24 and 25 the group's start; of 3 and 5 the offset;
@@ -67,7 +77,9 @@
  *   of 31 to 37 the record, or the table's length where a record or an id is missing;
  *   of 40, 41, 44 and 45 the record, and where a sheet is asked about, of 1, 2, 7, 9 to 12, 24 and 25 too;
  *   of 43 the first byte behind the record;
- *   of 20 to 23, 28 to 30, 42 and 46 to 48 always 0. */
+ *   of 50 the store's first record at fault, or what follows its last record; where an addition is refused by it, where
+ *   the new record would stand;
+ *   of 20 to 23, 28 to 30, 42, 46 to 48, 51 and 59 always 0. */
 #ifndef BLINK_NATIVE_H
 #define BLINK_NATIVE_H
 
@@ -119,17 +131,40 @@ typedef struct {
     uint64_t length; /* 0 on a refusal */
 } BlinkPart;
 
+/* One version of a customer's settings: 1 where 4 (absent fields), 6 (pads) or 8 (unused inline bytes) is ignored. */
+typedef struct {
+    uint32_t number; /* 0: it was read */
+    uint64_t place;
+    uint32_t absent; /* 0 or 1, and 0 on a refusal; so too the next two */
+    uint32_t pads;
+    uint32_t unused;
+} BlinkSettings;
+
 /* Is the schema table accepted? Faults 30 to 37. */
 BlinkVerdict blink_check_table(const uint8_t *table, size_t table_length);
 
-/* Is the message accepted under the table? Faults 20, 23, 21, 22, then 1 to 14 and 24 to 27. */
+/* Does the settings store pass? Fault 50. */
+BlinkVerdict blink_check_store(const uint8_t *store, size_t store_length);
+
+/* Reads one version of a customer's settings; older ones stay readable. Faults 50, then 59. */
+BlinkSettings blink_read_settings(const uint8_t *store, size_t store_length, uint16_t customer, uint16_t version);
+
+/* Adds a version of a customer's settings, which governs its messages from then on. It must be above the customer's newest
+ * one, and each flag 0 or 1, else fault 50; fewer than 9 free bytes are fault 51. On a refusal the store is untouched. */
+BlinkVerdict blink_add_settings(uint8_t *store, size_t store_length, uint16_t customer, uint16_t version,
+                                uint8_t absent, uint8_t pads, uint8_t unused);
+
+/* Is the message accepted under the table and the customer's settings? Faults 20, 23, 21, 50, 22, then 1 to 14 and 24 to
+ * 27. */
 BlinkVerdict blink_check_message(const uint8_t *table, size_t table_length,
+                                 const uint8_t *store, size_t store_length, uint16_t customer,
                                  const uint8_t *message, size_t message_length,
                                  uint8_t *scratch, size_t scratch_length);
 
 /* Writes the message's sheet, its meaning as a row of records. A sheet room of 11 * message_length bytes is always
  * enough. Faults of the message, then 46. */
 BlinkWritten blink_message_to_sheet(const uint8_t *table, size_t table_length,
+                                    const uint8_t *store, size_t store_length, uint16_t customer,
                                     const uint8_t *message, size_t message_length,
                                     uint8_t *scratch, size_t scratch_length,
                                     uint8_t *sheet, size_t sheet_length);
@@ -140,10 +175,11 @@ BlinkWritten blink_sheet_to_message(const uint8_t *table, size_t table_length,
                                     const uint8_t *sheet, size_t sheet_length,
                                     uint8_t *output, size_t output_length);
 
-/* Writes the message anew, in the one shortest form of its meaning. A sheet room of 11 * message_length bytes and an
+/* Writes the message anew, in the one shortest form of its meaning, which is accepted with nothing ignored. A sheet room of 11 * message_length bytes and an
  * output room of message_length bytes are always enough. Faults of the message, then 46, then 47. The sheet room holds
  * the message's sheet at its start after success and after 47; else it is untouched. */
 BlinkWritten blink_rewrite(const uint8_t *table, size_t table_length,
+                           const uint8_t *store, size_t store_length, uint16_t customer,
                            const uint8_t *message, size_t message_length,
                            uint8_t *scratch, size_t scratch_length,
                            uint8_t *sheet, size_t sheet_length,
@@ -153,6 +189,7 @@ BlinkWritten blink_rewrite(const uint8_t *table, size_t table_length,
  * floats. Fields count from 0, and so do the items of a sequence; item is 0 where the field is no sequence. Faults of the
  * message, then 28, 29, 28 for the item, 48. */
 BlinkNumber blink_read_number(const uint8_t *table, size_t table_length,
+                              const uint8_t *store, size_t store_length, uint16_t customer,
                               const uint8_t *message, size_t message_length,
                               uint8_t *scratch, size_t scratch_length,
                               uint64_t field, uint64_t item);
@@ -161,6 +198,7 @@ BlinkNumber blink_read_number(const uint8_t *table, size_t table_length,
  * their size word, so that such a part is a message too. Nothing is copied. Field, item and faults are as for
  * blink_read_number. */
 BlinkPart blink_read_bytes(const uint8_t *table, size_t table_length,
+                           const uint8_t *store, size_t store_length, uint16_t customer,
                            const uint8_t *message, size_t message_length,
                            uint8_t *scratch, size_t scratch_length,
                            uint64_t field, uint64_t item);

@@ -126,20 +126,20 @@ int main(int count, char **names) {
     // THE PROVED LIBRARY
 
     auto check = [&] {
-        auto verdict = blink_check_message(table.data(), table.size(), message.data(), message.size(), scratch.data(), scratch.size());
+        auto verdict = blink_check_message(table.data(), table.size(), nullptr, 0, 0, message.data(), message.size(), scratch.data(), scratch.size());
         if (verdict.number != 0) {
             fail("the message is refused");
         }
     };
     auto barcode = [&] {
-        auto part = blink_read_bytes(table.data(), table.size(), message.data(), message.size(), scratch.data(), scratch.size(), kBarcode, 0);
+        auto part = blink_read_bytes(table.data(), table.size(), nullptr, 0, 0, message.data(), message.size(), scratch.data(), scratch.size(), kBarcode, 0);
         if (part.number != 0) {
             fail("the barcode is refused");
         }
         sink = message[part.offset] + part.length;
     };
     auto sheet = [&] {
-        auto written = blink_message_to_sheet(table.data(), table.size(), message.data(), message.size(), scratch.data(),
+        auto written = blink_message_to_sheet(table.data(), table.size(), nullptr, 0, 0, message.data(), message.size(), scratch.data(),
                                               scratch.size(), room.data(), room.size());
         if (written.number != 0) {
             fail("the sheet is refused");

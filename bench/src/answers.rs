@@ -11,6 +11,15 @@ pub fn theirs<T>(answer: Result<T, blink_reference::Fault>) -> Answer<T> {
     answer.map_err(|fault| (fault.number as u8, fault.place))
 }
 
+/// The flags of settings that are read.
+pub fn our_flags(ignored: blink_native::Ignored) -> [bool; 3] {
+    [ignored.absent, ignored.pads, ignored.unused]
+}
+
+pub fn their_flags(ignored: blink_reference::Ignored) -> [bool; 3] {
+    [ignored.absent, ignored.pads, ignored.unused]
+}
+
 /// Of a number that is written: a float by its bits, since NaNs do not equal themselves.
 pub fn our_number(number: blink_native::Number) -> String {
     use blink_native::Number::*;

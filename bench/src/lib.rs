@@ -1,6 +1,7 @@
 //! Timing: medians over many short rounds, both sides in turn within each, so that a busy moment or a change of the clock meets both.
 pub mod answers;
 pub mod messages;
+pub mod stores;
 pub mod tables;
 
 use std::time::Instant;

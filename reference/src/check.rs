@@ -6,6 +6,7 @@
 use crate::area::{Area, Marks};
 use crate::fault::{require, Fault, FaultNumber};
 use crate::schema::{Field, Group, Schema, Type};
+use crate::settings::{Ignored, Settings};
 use crate::utf8::is_utf8;
 use crate::wire::{first_nonzero, i32_at, u32_at, u64_at, word_at};
 
@@ -61,21 +62,27 @@ impl Role {
 
 impl Schema<'_> {
     /// Checks one message. The scratch must be as long as the message.
-    pub fn check_message(&self, message: &[u8], scratch: &mut [u8]) -> Result<(), Fault> {
+    pub fn check_message(
+        &self,
+        settings: Settings<'_>,
+        message: &[u8],
+        scratch: &mut [u8],
+    ) -> Result<(), Fault> {
         require(message.len() <= MAX_MESSAGE, FaultNumber::MessageTooLong, 0)?;
         let Some(scratch) = scratch.get_mut(..message.len()) else {
             return Err(Fault::at(FaultNumber::ScratchTooShort, 0));
         };
-        let verdict = self.check_bytes(message, Marks::new(scratch));
+        let ignored = settings.ignored()?;
+        let verdict = self.check_bytes(message, Marks::new(scratch), ignored);
         scratch.fill(0);
         verdict
     }
 
     /// Fault 22, then the walk.
-    fn check_bytes(&self, message: &[u8], marks: Marks) -> Result<(), Fault> {
+    fn check_bytes(&self, message: &[u8], marks: Marks, ignored: Ignored) -> Result<(), Fault> {
         let framed = message.len() >= WORD && message.len() as u64 == WORD as u64 + word_at(message, 0);
         require(framed, FaultNumber::LengthNotSize, 0)?;
-        let mut walk = Walk { schema: self, message, marks };
+        let mut walk = Walk { schema: self, message, marks, ignored };
         walk.group(0, message.len(), 1, Role::Message)
     }
 }
@@ -99,6 +106,7 @@ struct Walk<'a> {
     schema: &'a Schema<'a>,
     message: &'a [u8],
     marks: Marks<'a>,
+    ignored: Ignored,
 }
 
 impl Walk<'_> {
@@ -125,6 +133,9 @@ impl Walk<'_> {
         self.fields(group, fields, &mut area, level)?;
         if let Some(location) = extension {
             self.extension(location, &mut area, level)?;
+        }
+        if self.ignored.pads {
+            return Ok(());
         }
         match area.first_bad_pad(&self.marks, self.message) {
             Some(place) => Err(Fault::at(FaultNumber::PadNotZero, place)),
@@ -179,6 +190,9 @@ impl Walk<'_> {
 
     /// Fault 4: an absent field's bytes are zero.
     fn absent(&self, at: usize, width: usize) -> Result<(), Fault> {
+        if self.ignored.absent {
+            return Ok(());
+        }
         match first_nonzero(&self.message[at..at + width]) {
             Some(index) => Err(Fault::at(FaultNumber::AbsentNotZero, at + index)),
             None => Ok(()),
@@ -208,6 +222,7 @@ impl Walk<'_> {
         let fits = count <= field.size;
         require(fits, FaultNumber::InlineCountOverCapacity, at)?;
         let (text, unused) = self.message[at + 1..at + 1 + field.size].split_at(count);
+        let unused = if self.ignored.unused { &[] } else { unused };
         if let Some(index) = first_nonzero(unused) {
             let place = at + 1 + count + index;
             return Err(Fault::at(FaultNumber::UnusedInlineNotZero, place));

@@ -1,7 +1,7 @@
 //! Why a question is refused, with the papers' numbers.
 
-/// The fault numbers of document 01, and 36 and 37 of document 02. `number as
-/// u8` is the paper's number.
+/// The fault numbers of document 01, and 36, 37, 50, 51 and 59 of document 02.
+/// `number as u8` is the paper's number.
 #[derive(Clone, Copy, Debug, PartialEq, Eq, PartialOrd, Ord)]
 #[repr(u8)]
 pub enum FaultNumber {
@@ -46,10 +46,13 @@ pub enum FaultNumber {
     SheetRoomTooShort = 46,
     OutputTooShort = 47,
     OtherKind = 48,
+    StoreDamaged = 50,
+    StoreFull = 51,
+    NoSuchSettings = 59,
 }
 
 /// A refusal: the first fault in the papers' order, and its place, counted
-/// from the first byte of the message, table or sheet.
+/// from the first byte of the message, table, sheet or store.
 #[derive(Clone, Copy, Debug, PartialEq, Eq)]
 pub struct Fault {
     pub number: FaultNumber,

@@ -1,11 +1,12 @@
 //! A question to the library with lent bytes of stated lengths, and its
-//! reply, tested for what document 01 promises of lent bytes.
+//! reply, tested for what the papers promise of lent bytes.
 
 use std::ops::Range;
 
 use crate::{
-    check_message, check_table, message_to_sheet, read_bytes, read_bytes_part, read_bytes_verdict,
-    read_number, rewrite, sheet_to_message, Fault, FaultNumber, Number,
+    add_settings, check_message, check_store, check_table, message_to_sheet, read_bytes, read_bytes_part,
+    read_bytes_verdict, read_number, read_settings, rewrite, sheet_to_message, Fault, FaultNumber, Ignored,
+    Number, Settings,
 };
 
 /// The public questions, with the numbers that stored cases use.
@@ -19,10 +20,14 @@ pub enum Kind {
     Rewrite,
     ReadNumber,
     ReadBytes,
+    // 8 is no question: the store and customer in force.
+    CheckStore = 9,
+    ReadSettings,
+    AddSettings,
 }
 
 impl Kind {
-    pub const ALL: [Kind; 7] = [
+    pub const ALL: [Kind; 10] = [
         Kind::CheckTable,
         Kind::CheckMessage,
         Kind::MessageToSheet,
@@ -30,10 +35,28 @@ impl Kind {
         Kind::Rewrite,
         Kind::ReadNumber,
         Kind::ReadBytes,
+        Kind::CheckStore,
+        Kind::ReadSettings,
+        Kind::AddSettings,
     ];
+
+    /// The questions about a message, which settings may govern.
+    pub const OF_MESSAGES: [Kind; 5] =
+        [Kind::CheckMessage, Kind::MessageToSheet, Kind::Rewrite, Kind::ReadNumber, Kind::ReadBytes];
+
+    /// The questions about a settings store.
+    pub const OF_STORES: [Kind; 3] = [Kind::CheckStore, Kind::ReadSettings, Kind::AddSettings];
 
     pub fn from_number(number: u32) -> Option<Kind> {
         Kind::ALL.into_iter().find(|&kind| kind as u32 == number)
+    }
+
+    pub fn is_of_message(self) -> bool {
+        Kind::OF_MESSAGES.contains(&self)
+    }
+
+    pub fn is_of_store(self) -> bool {
+        Kind::OF_STORES.contains(&self)
     }
 }
 
@@ -41,13 +64,16 @@ impl Kind {
 #[derive(Clone, Debug, PartialEq, Eq)]
 pub struct Question {
     pub kind: Kind,
-    /// The table, message or sheet that the question is about.
+    /// The table, message, sheet or store that the question is about. A store
+    /// that settings are added to is lent too.
     pub input: Vec<u8>,
     /// Lengths of the lent scratch, sheet room and output.
     pub scratch: usize,
     pub sheet: usize,
     pub output: usize,
+    /// The field, or a customer.
     pub field: u64,
+    /// The item, or a version; behind the version of an addition its flags.
     pub item: u64,
 }
 
@@ -55,6 +81,30 @@ impl Question {
     /// A question that lends nothing.
     pub fn new(kind: Kind, input: Vec<u8>) -> Question {
         Question { kind, input, scratch: 0, sheet: 0, output: 0, field: 0, item: 0 }
+    }
+
+    pub fn read_settings(store: Vec<u8>, customer: u16, version: u16) -> Question {
+        let (field, item) = (customer.into(), version.into());
+        Question { field, item, ..Question::new(Kind::ReadSettings, store) }
+    }
+
+    pub fn add_settings(store: Vec<u8>, customer: u16, version: u16, flags: [u8; 3]) -> Question {
+        let [low, high] = version.to_le_bytes();
+        let [absent, pads, unused] = flags;
+        let item = u64::from_le_bytes([low, high, absent, pads, unused, 0, 0, 0]);
+        Question { field: customer.into(), item, ..Question::new(Kind::AddSettings, store) }
+    }
+
+    fn customer(&self) -> u16 {
+        self.field.try_into().expect("a customer's number has 16 bits")
+    }
+
+    /// The version and the flags of an addition.
+    fn addition(&self) -> (u16, [u8; 3]) {
+        let [low, high, absent, pads, unused, 0, 0, 0] = self.item.to_le_bytes() else {
+            panic!("an addition's version and flags have 40 bits");
+        };
+        (u16::from_le_bytes([low, high]), [absent, pads, unused])
     }
 }
 
@@ -69,6 +119,7 @@ pub enum Answer {
     Number(Number),
     /// A part of the message.
     Part(Range<usize>),
+    Settings(Ignored),
 }
 
 /// The answer or refusal, and every lent byte afterwards.
@@ -78,6 +129,8 @@ pub struct Reply {
     pub scratch: Vec<u8>,
     pub sheet: Vec<u8>,
     pub output: Vec<u8>,
+    /// The store that settings were added to; else empty.
+    pub store: Vec<u8>,
 }
 
 /// What lent bytes hold before a question.
@@ -85,28 +138,54 @@ pub fn pattern(length: usize) -> Vec<u8> {
     (0..length).map(|index| 2 + (index % 251) as u8).collect()
 }
 
-/// Asks under the given table (a question about a table has it as input).
-/// Panics if lent bytes are not as document 01 says.
-pub fn ask(table: &[u8], question: &Question) -> Reply {
+/// Asks under the given table and settings (a question about a table or a
+/// store has it as input). Panics if lent bytes are not as the papers say.
+pub fn ask(table: &[u8], settings: Settings<'_>, question: &Question) -> Reply {
+    let Settings { store, customer } = settings;
     let input = &question.input[..];
     let (field, item) = (question.field, question.item);
     let mut scratch = pattern(question.scratch);
     let mut sheet = pattern(question.sheet);
     let mut output = pattern(question.output);
+    let mut lent_store = match question.kind {
+        Kind::AddSettings => input.to_vec(),
+        _ => Vec::new(),
+    };
     let answer = match question.kind {
         Kind::CheckTable => check_table(input).map(|_| Answer::Accepted),
-        Kind::CheckMessage => check_message(table, input, &mut scratch).map(|()| Answer::Accepted),
-        Kind::MessageToSheet => message_to_sheet(table, input, &mut scratch, &mut sheet).map(Answer::Written),
+        Kind::CheckMessage => {
+            check_message(table, store, customer, input, &mut scratch).map(|()| Answer::Accepted)
+        }
+        Kind::MessageToSheet => {
+            message_to_sheet(table, store, customer, input, &mut scratch, &mut sheet).map(Answer::Written)
+        }
         Kind::SheetToMessage => sheet_to_message(table, input, &mut output).map(Answer::Written),
-        Kind::Rewrite => rewrite(table, input, &mut scratch, &mut sheet, &mut output).map(Answer::Written),
-        Kind::ReadNumber => read_number(table, input, &mut scratch, field, item).map(Answer::Number),
-        Kind::ReadBytes => read_bytes(table, input, &mut scratch, field, item).map(Answer::Part),
+        Kind::Rewrite => {
+            rewrite(table, store, customer, input, &mut scratch, &mut sheet, &mut output).map(Answer::Written)
+        }
+        Kind::ReadNumber => {
+            read_number(table, store, customer, input, &mut scratch, field, item).map(Answer::Number)
+        }
+        Kind::ReadBytes => {
+            read_bytes(table, store, customer, input, &mut scratch, field, item).map(Answer::Part)
+        }
+        Kind::CheckStore => check_store(input).map(|()| Answer::Accepted),
+        Kind::ReadSettings => {
+            let version = item.try_into().expect("a version has 16 bits");
+            read_settings(input, question.customer(), version).map(Answer::Settings)
+        }
+        Kind::AddSettings => {
+            let (version, [absent, pads, unused]) = question.addition();
+            add_settings(&mut lent_store, question.customer(), version, absent, pads, unused)
+                .map(|()| Answer::Accepted)
+        }
     };
-    let reply = Reply { answer, scratch, sheet, output };
+    let reply = Reply { answer, scratch, sheet, output, store: lent_store };
     assert_scratch(question, &reply);
-    assert_sheet(table, question, &reply);
+    assert_sheet(table, settings, question, &reply);
     assert_output(question, &reply);
-    assert_twins(table, question, &reply);
+    assert_store(question, &reply);
+    assert_twins(table, settings, question, &reply);
     reply
 }
 
@@ -115,16 +194,14 @@ fn untouched_from(lent: &[u8], from: usize) -> bool {
     lent[from..] == pattern(lent.len())[from..]
 }
 
-/// After 20, 23 and 21 untouched; after all else its first bytes, as many as
-/// the message has, are zero and the rest untouched.
+/// After 20, 23, 21 and 50 untouched; after all else its first bytes, as many
+/// as the message has, are zero and the rest untouched.
 fn assert_scratch(question: &Question, reply: &Reply) {
-    use FaultNumber::{MessageTooLong, ScratchTooShort, TableRefused};
-    let uses_scratch = !matches!(question.kind, Kind::CheckTable | Kind::SheetToMessage);
-    let before_walk = reply
-        .answer
-        .as_ref()
-        .is_err_and(|fault| matches!(fault.number, TableRefused | MessageTooLong | ScratchTooShort));
-    let cleared = match uses_scratch && !before_walk {
+    use FaultNumber::{MessageTooLong, ScratchTooShort, StoreDamaged, TableRefused};
+    let before_walk = reply.answer.as_ref().is_err_and(|fault| {
+        matches!(fault.number, TableRefused | MessageTooLong | ScratchTooShort | StoreDamaged)
+    });
+    let cleared = match question.kind.is_of_message() && !before_walk {
         true => question.input.len(),
         false => 0,
     };
@@ -134,12 +211,12 @@ fn assert_scratch(question: &Question, reply: &Reply) {
 
 /// Untouched on a refusal, but for a rewriting refused by 47: then, as after
 /// success, it starts with the sheet and the rest is untouched.
-fn assert_sheet(table: &[u8], question: &Question, reply: &Reply) {
+fn assert_sheet(table: &[u8], settings: Settings, question: &Question, reply: &Reply) {
     let written = match (question.kind, &reply.answer) {
         (Kind::MessageToSheet, Ok(Answer::Written(length))) => *length,
-        (Kind::Rewrite, Ok(_)) => assert_rewritten_sheet(table, question, reply),
+        (Kind::Rewrite, Ok(_)) => assert_rewritten_sheet(table, settings, question, reply),
         (Kind::Rewrite, Err(fault)) if fault.number == FaultNumber::OutputTooShort => {
-            assert_rewritten_sheet(table, question, reply)
+            assert_rewritten_sheet(table, settings, question, reply)
         }
         _ => 0,
     };
@@ -147,10 +224,11 @@ fn assert_sheet(table: &[u8], question: &Question, reply: &Reply) {
 }
 
 /// The room starts with the message's sheet; gives the sheet's length.
-fn assert_rewritten_sheet(table: &[u8], question: &Question, reply: &Reply) -> usize {
+fn assert_rewritten_sheet(table: &[u8], settings: Settings, question: &Question, reply: &Reply) -> usize {
+    let Settings { store, customer } = settings;
     let mut scratch = vec![0; question.input.len()];
     let mut sheet = vec![0; question.sheet];
-    let length = message_to_sheet(table, &question.input, &mut scratch, &mut sheet)
+    let length = message_to_sheet(table, store, customer, &question.input, &mut scratch, &mut sheet)
         .expect("a message that passed 46 has a sheet that fits");
     assert_eq!(reply.sheet[..length], sheet[..length]);
     length
@@ -170,18 +248,35 @@ fn assert_output(question: &Question, reply: &Reply) {
     assert!(untouched_from(&reply.output, written));
 }
 
+/// Untouched on a refusal; else a record that says what was added stands
+/// behind those that were there, and no other byte has changed.
+fn assert_store(question: &Question, reply: &Reply) {
+    if question.kind != Kind::AddSettings {
+        return assert!(reply.store.is_empty());
+    }
+    let mut due = question.input.clone();
+    if reply.answer.is_ok() {
+        let at = 9 * due.chunks(9).take_while(|record| record.starts_with(b"CS")).count();
+        let (version, flags) = question.addition();
+        let (customer, version) = (question.customer().to_le_bytes(), version.to_le_bytes());
+        due[at..at + 9].copy_from_slice(&[&b"CS"[..], &customer, &version, &flags].concat());
+    }
+    assert!(reply.store == due);
+}
+
 /// The bytes answer and its twin agree with the reply.
-fn assert_twins(table: &[u8], question: &Question, reply: &Reply) {
+fn assert_twins(table: &[u8], settings: Settings, question: &Question, reply: &Reply) {
+    let Settings { store, customer } = settings;
     if question.kind != Kind::ReadBytes {
         return;
     }
     let (field, item) = (question.field, question.item);
     let input = &question.input[..];
     let mut scratch = pattern(question.scratch);
-    let part = read_bytes_part(table, input, &mut scratch, field, item);
+    let part = read_bytes_part(table, store, customer, input, &mut scratch, field, item);
     assert_eq!(scratch, reply.scratch);
     let mut scratch = pattern(question.scratch);
-    let verdict = read_bytes_verdict(table, input, &mut scratch, field, item);
+    let verdict = read_bytes_verdict(table, store, customer, input, &mut scratch, field, item);
     assert_eq!(scratch, reply.scratch);
     match &reply.answer {
         Ok(Answer::Part(range)) => {

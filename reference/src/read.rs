@@ -5,6 +5,7 @@ use std::ops::Range;
 use crate::check::{HEADER, WORD};
 use crate::fault::{require, Fault, FaultNumber};
 use crate::schema::{Field, Schema, Type};
+use crate::settings::Settings;
 use crate::wire::{array_at, u32_at, u64_at};
 
 /// The answer of a reading as a number.
@@ -27,12 +28,13 @@ impl Schema<'_> {
     /// count from 0; a field that is no sequence has item 0 alone.
     pub fn read_number(
         &self,
+        settings: Settings<'_>,
         message: &[u8],
         scratch: &mut [u8],
         field: u64,
         item: u64,
     ) -> Result<Number, Fault> {
-        self.check_message(message, scratch)?;
+        self.check_message(settings, message, scratch)?;
         let (field, at) = self.find_item(message, field, item)?;
         number_at(message, field.ty, at).ok_or(Fault::at(FaultNumber::OtherKind, 0))
     }
@@ -42,12 +44,13 @@ impl Schema<'_> {
     /// dynamic group.
     pub fn read_bytes(
         &self,
+        settings: Settings<'_>,
         message: &[u8],
         scratch: &mut [u8],
         field: u64,
         item: u64,
     ) -> Result<Range<usize>, Fault> {
-        self.check_message(message, scratch)?;
+        self.check_message(settings, message, scratch)?;
         let (field, at) = self.find_item(message, field, item)?;
         bytes_at(message, field, at).ok_or(Fault::at(FaultNumber::OtherKind, 0))
     }

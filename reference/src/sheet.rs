@@ -6,6 +6,7 @@
 use crate::check::{EXTENSION_OFFSET, HEADER, WORD};
 use crate::fault::{require, Fault, FaultNumber};
 use crate::schema::{Field, Group, Schema, Type};
+use crate::settings::Settings;
 use crate::wire::{u32_at, u64_at, word_at};
 
 /// The marks of the sheet's records.
@@ -28,11 +29,12 @@ impl Schema<'_> {
     /// the sheet room is untouched.
     pub fn message_to_sheet(
         &self,
+        settings: Settings<'_>,
         message: &[u8],
         scratch: &mut [u8],
         sheet: &mut [u8],
     ) -> Result<usize, Fault> {
-        self.check_message(message, scratch)?;
+        self.check_message(settings, message, scratch)?;
         let mut length = Length(0);
         Lister::new(self, message, &mut length).group(0);
         let fits = length.0 <= sheet.len();

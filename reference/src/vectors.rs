@@ -2,26 +2,34 @@
 //! is described in crates/conformance/README.md.
 
 use crate::question::{ask, Answer, Kind, Question, Reply};
-use crate::Number;
+use crate::{Ignored, Number, Settings};
 
-/// The stored files, by name, and the kind of question each holds.
-pub const FILES: [(&str, Kind); 7] = [
-    ("table", Kind::CheckTable),
-    ("check", Kind::CheckMessage),
-    ("sheet", Kind::MessageToSheet),
-    ("write", Kind::SheetToMessage),
-    ("rewrite", Kind::Rewrite),
-    ("number", Kind::ReadNumber),
-    ("bytes", Kind::ReadBytes),
+/// The stored files, by name, and the kinds of questions each holds. Those of
+/// the last are asked under stores, all before it under none.
+pub const FILES: [(&str, &[Kind]); 9] = [
+    ("table", &[Kind::CheckTable]),
+    ("check", &[Kind::CheckMessage]),
+    ("sheet", &[Kind::MessageToSheet]),
+    ("write", &[Kind::SheetToMessage]),
+    ("rewrite", &[Kind::Rewrite]),
+    ("number", &[Kind::ReadNumber]),
+    ("bytes", &[Kind::ReadBytes]),
+    ("store", &Kind::OF_STORES),
+    ("settings", &Kind::OF_MESSAGES),
 ];
 
 const HEADER: usize = 40;
+/// The kinds of records that ask nothing.
+const TABLE: u32 = 0;
+const SETTINGS: u32 = 8;
 
 /// A record of a file.
 #[derive(Clone, Debug, PartialEq, Eq)]
 pub enum Entry {
     /// The table in force from here on.
     Table(Vec<u8>),
+    /// The store and the customer in force from here on.
+    Settings(Vec<u8>, u16),
     Ask(Question),
 }
 
@@ -29,6 +37,7 @@ impl Entry {
     fn input(&self) -> &[u8] {
         match self {
             Entry::Table(table) => table,
+            Entry::Settings(store, _) => store,
             Entry::Ask(question) => &question.input,
         }
     }
@@ -46,7 +55,8 @@ pub fn encode(entries: &[Entry]) -> Vec<u8> {
         let input = entry.input();
         let stored = stored_length(input);
         let (kind, lent, numbers) = match entry {
-            Entry::Table(_) => (0, [0; 3], [0; 2]),
+            Entry::Table(_) => (TABLE, [0; 3], [0; 2]),
+            Entry::Settings(_, customer) => (SETTINGS, [0; 3], [u64::from(*customer), 0]),
             Entry::Ask(q) => (q.kind as u32, [q.scratch, q.sheet, q.output], [q.field, q.item]),
         };
         file.extend(kind.to_le_bytes());
@@ -74,7 +84,8 @@ pub fn decode(mut file: &[u8]) -> Option<Vec<Entry>> {
         input.resize(length, 0);
         file = &file[HEADER + stored..];
         entries.push(match word(0) {
-            0 => Entry::Table(input),
+            TABLE => Entry::Table(input),
+            SETTINGS => Entry::Settings(input, crate::wire::u64_at(header, 24).try_into().ok()?),
             kind => Entry::Ask(Question {
                 kind: Kind::from_number(kind)?,
                 input,
@@ -92,12 +103,14 @@ pub fn decode(mut file: &[u8]) -> Option<Vec<Entry>> {
 /// The line that answers each question, and its fault number (0 for none).
 pub fn answer_lines(entries: &[Entry]) -> Vec<(String, u8)> {
     let mut table: &[u8] = &[];
+    let mut settings = Settings::NONE;
     let mut lines = Vec::new();
     for entry in entries {
         match entry {
             Entry::Table(bytes) => table = bytes,
+            Entry::Settings(store, customer) => settings = Settings::of(store, *customer),
             Entry::Ask(question) => {
-                let reply = ask(table, question);
+                let reply = ask(table, settings, question);
                 let number = reply.answer.as_ref().map_or_else(|f| f.number as u8, |_| 0);
                 lines.push((answer_line(question, &reply), number));
             }
@@ -114,7 +127,15 @@ fn answer_line(question: &Question, reply: &Reply) -> String {
     let mut words = vec![number.to_string(), place.to_string()];
     let answer = reply.answer.as_ref().ok();
     match question.kind {
-        Kind::CheckTable | Kind::CheckMessage => {}
+        Kind::CheckTable | Kind::CheckMessage | Kind::CheckStore | Kind::AddSettings => {}
+        Kind::ReadSettings => {
+            let ignored = match answer {
+                Some(Answer::Settings(ignored)) => *ignored,
+                _ => Ignored::NOTHING,
+            };
+            let flags = [ignored.absent, ignored.pads, ignored.unused];
+            words.extend(flags.map(|flag| u8::from(flag).to_string()));
+        }
         Kind::MessageToSheet | Kind::SheetToMessage | Kind::Rewrite => {
             let length = match answer {
                 Some(Answer::Written(length)) => *length,
@@ -145,7 +166,8 @@ fn answer_line(question: &Question, reply: &Reply) -> String {
 /// The buffers that a question of this kind lends, in the answer's order.
 fn lent_buffers(kind: Kind, reply: &Reply) -> Vec<&[u8]> {
     match kind {
-        Kind::CheckTable => vec![],
+        Kind::CheckTable | Kind::CheckStore | Kind::ReadSettings => vec![],
+        Kind::AddSettings => vec![&reply.store],
         Kind::CheckMessage | Kind::ReadNumber | Kind::ReadBytes => vec![&reply.scratch],
         Kind::MessageToSheet => vec![&reply.scratch, &reply.sheet],
         Kind::SheetToMessage => vec![&reply.output],
@@ -201,6 +223,7 @@ mod tests {
     fn entries_survive_a_file() {
         let entries = [
             Entry::Table(b"EN\0\0".to_vec()),
+            Entry::Settings(b"CS\0\0\x01\0\0\0\x01\0".to_vec(), 65_535),
             Entry::Ask(Question {
                 scratch: 1,
                 sheet: 2,
@@ -210,9 +233,10 @@ mod tests {
                 ..Question::new(Kind::Rewrite, vec![0, 7, 0])
             }),
             Entry::Ask(Question::new(Kind::CheckMessage, vec![0; 70_000])),
+            Entry::Ask(Question::add_settings(vec![0; 9], 65_535, 65_535, [255; 3])),
         ];
         let file = encode(&entries);
-        assert_eq!(file.len(), 3 * HEADER + 2 + 2);
+        assert_eq!(file.len(), 5 * HEADER + 2 + 9 + 2);
         assert_eq!(decode(&file).unwrap(), entries);
         assert_eq!(decode(&file[..file.len() - 1]), None);
     }

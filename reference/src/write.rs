@@ -7,6 +7,7 @@
 use crate::check::{check_plain, Role, EXTENSION_OFFSET, HEADER, MAX_LEVEL, MAX_MESSAGE, MIN_SIZE, WORD};
 use crate::fault::{require, Fault, FaultNumber};
 use crate::schema::{Field, Group, Schema, Type};
+use crate::settings::Settings;
 use crate::sheet::mark::{self, Mark};
 use crate::utf8::is_utf8;
 use crate::wire::{array_at, u32_at, u64_at, word_at};
@@ -30,12 +31,13 @@ impl Schema<'_> {
     /// refusal is 46 or comes before it; after 47 it holds the sheet.
     pub fn rewrite(
         &self,
+        settings: Settings<'_>,
         message: &[u8],
         scratch: &mut [u8],
         sheet: &mut [u8],
         output: &mut [u8],
     ) -> Result<usize, Fault> {
-        let length = self.message_to_sheet(message, scratch, sheet)?;
+        let length = self.message_to_sheet(settings, message, scratch, sheet)?;
         self.sheet_to_message(&sheet[..length], output)
     }
 }

@@ -4,7 +4,7 @@
 use blink_reference::generate::edges::{hex, record::*};
 use blink_reference::{
     check_message, check_table, message_to_sheet, read_bytes, read_number, rewrite, sheet_to_message, Fault,
-    FaultNumber, Number,
+    FaultNumber, Number, Settings,
 };
 
 const HELLO: &str = "
@@ -76,14 +76,14 @@ const MAIL_AS_PRINTED: &str = "
 fn reads_and_writes(table: &str, message: &str, records: &[Vec<u8>]) {
     let (table, message, sheet) = (hex(table), hex(message), records.concat());
     let mut scratch = vec![1; message.len()];
-    assert_eq!(check_message(&table, &message, &mut scratch), Ok(()));
+    assert_eq!(check_message(&table, &[], 0, &message, &mut scratch), Ok(()));
 
     let mut room = vec![0; sheet.len()];
-    let length = message_to_sheet(&table, &message, &mut scratch, &mut room);
+    let length = message_to_sheet(&table, &[], 0, &message, &mut scratch, &mut room);
     assert_eq!(length, Ok(sheet.len()));
     assert_eq!(room, sheet);
     let short = &mut room[1..];
-    let refused = message_to_sheet(&table, &message, &mut scratch, short);
+    let refused = message_to_sheet(&table, &[], 0, &message, &mut scratch, short);
     assert_eq!(refused, fault(FaultNumber::SheetRoomTooShort, 0));
 
     let mut output = vec![0; message.len()];
@@ -94,7 +94,7 @@ fn reads_and_writes(table: &str, message: &str, records: &[Vec<u8>]) {
     assert_eq!(refused, fault(FaultNumber::OutputTooShort, 0));
 
     let mut output = vec![0; message.len()];
-    let length = rewrite(&table, &message, &mut scratch, &mut room, &mut output);
+    let length = rewrite(&table, &[], 0, &message, &mut scratch, &mut room, &mut output);
     assert_eq!(length, Ok(message.len()));
     assert_eq!(output, message);
 }
@@ -209,14 +209,14 @@ fn mail_corrected() {
 #[test]
 fn canvas_as_printed() {
     let (table, message) = (hex(SHAPES), hex(CANVAS_AS_PRINTED));
-    let verdict = check_message(&table, &message, &mut [0; 100]);
+    let verdict = check_message(&table, &[], 0, &message, &mut [0; 100]);
     assert_eq!(verdict, fault(FaultNumber::ValuePastArea, 47));
 }
 
 #[test]
 fn mail_as_printed() {
     let (table, message) = (hex(MAIL), hex(MAIL_AS_PRINTED));
-    let verdict = check_message(&table, &message, &mut [0; 200]);
+    let verdict = check_message(&table, &[], 0, &message, &mut [0; 200]);
     assert_eq!(verdict, fault(FaultNumber::ValuePastArea, 88));
 }
 
@@ -226,7 +226,7 @@ fn mail_with_an_unknown_extension_group() {
     let table = &hex(MAIL)[..48];
     let message = hex(&MAIL_AS_PRINTED.replace("08000000 1f000000", "08000000 28000000"));
     let mut sheet = [0; 500];
-    let length = message_to_sheet(table, &message, &mut [0; 200], &mut sheet).unwrap();
+    let length = message_to_sheet(table, &[], 0, &message, &mut [0; 200], &mut sheet).unwrap();
     let records =
         [gb(10), st(b"Hello"), st(b"How are you?"), xt(2), xu(&message[61..97]), xu(&message[97..132]), ge()];
     assert_eq!(sheet[..length], records.concat());
@@ -240,7 +240,7 @@ fn numbers_of_document_01() {
         4644 09 00 00 00 0000 0000000000000000");
     let read = |date: &str, float: &str, field| {
         let message = [hex("18000000 0100000000000000 00000000"), hex(date), hex(float)].concat();
-        read_number(&table, &message, &mut [0; 28], field, 0)
+        read_number(&table, &[], 0, &message, &mut [0; 28], field, 0)
     };
     let zero = "0000000000000000";
     assert_eq!(read("ffffffff", zero, 0), Ok(Number::Signed(-1)));
@@ -259,11 +259,11 @@ fn numbers_of_document_01() {
 fn a_part_is_the_text_or_the_whole_group() {
     let message = hex(&CANVAS_AS_PRINTED.replace("13000000", "1c000000"));
     let table = hex(SHAPES);
-    let part = read_bytes(&table, &message, &mut [0; 76], 0, 1).unwrap();
+    let part = read_bytes(&table, &[], 0, &message, &mut [0; 76], 0, 1).unwrap();
     assert_eq!(part, 56..76);
-    assert_eq!(check_message(&table, &message[part], &mut [0; 20]), Ok(()));
+    assert_eq!(check_message(&table, &[], 0, &message[part], &mut [0; 20]), Ok(()));
     let message = hex(&MAIL_AS_PRINTED.replace("08000000 1f000000", "08000000 28000000"));
-    let part = read_bytes(&hex(MAIL), &message, &mut [0; 132], 1, 0).unwrap();
+    let part = read_bytes(&hex(MAIL), &[], 0, &message, &mut [0; 132], 1, 0).unwrap();
     assert_eq!(&message[part], b"How are you?");
 }
 
@@ -274,8 +274,8 @@ fn a_schema_serves_many_messages() {
     let mut scratch = [9; 25];
     for tip in 0..=255 {
         let message = hex(&format!("15000000 0200000000000000 00000000 64000000 01{tip:02x}000000"));
-        assert_eq!(schema.check_message(&message, &mut scratch), Ok(()));
-        let read = schema.read_number(&message, &mut scratch, 1, 0);
+        assert_eq!(schema.check_message(Settings::NONE, &message, &mut scratch), Ok(()));
+        let read = schema.read_number(Settings::NONE, &message, &mut scratch, 1, 0);
         assert_eq!(read, Ok(Number::Unsigned(tip)));
     }
 }

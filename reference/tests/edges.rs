@@ -8,7 +8,7 @@ fn edges_answer_as_the_papers_say() {
     let wrong: Vec<String> = edges()
         .iter()
         .filter_map(|edge| {
-            let reply = ask(&edge.table, &edge.question);
+            let reply = ask(&edge.table, edge.settings(), &edge.question);
             let given = match reply.answer {
                 Ok(_) => (0, 0),
                 Err(fault) => (fault.number as u8, fault.place),

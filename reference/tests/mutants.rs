@@ -75,22 +75,23 @@ fn compile(copy: &Path, arguments: &[&str]) {
     assert!(output.status.success(), "{}:\n{errors}", copy.display());
 }
 
-/// Builds the copy and asks the stored questions: whether an answer differs
-/// (or the copy stops in the middle).
-fn differs(copy: &Path) -> bool {
+/// Builds the copy and asks the stored questions, the named files before all:
+/// whether an answer differs (or the copy stops in the middle).
+fn differs(copy: &Path, first: &[&str]) -> bool {
     compile(copy, &["--crate-type", "rlib", "--crate-name", "blink_reference", "src/lib.rs"]);
     compile(copy, &["--extern", "blink_reference", "src/bin/replay.rs"]);
-    let output = Command::new(copy.join("replay"))
-        .arg(root().join("../crates/conformance"))
-        .output()
-        .expect("the built program runs");
-    !output.status.success()
+    let replay = |names: &[&str]| {
+        let conformance = root().join("../crates/conformance");
+        let output = Command::new(copy.join("replay")).arg(conformance).args(names).output();
+        !output.expect("the built program runs").status.success()
+    };
+    (!first.is_empty() && replay(first)) || replay(&[])
 }
 
 #[test]
 fn stored_cases_notice_every_mutant() {
     let unedited = copy_library("unedited");
-    assert!(!differs(&unedited), "the unedited library differs");
+    assert!(!differs(&unedited, &[]), "the unedited library differs");
 
     let mut paths: Vec<PathBuf> =
         fs::read_dir(root().join("mutants")).unwrap().map(|entry| entry.unwrap().path()).collect();
@@ -101,7 +102,12 @@ fn stored_cases_notice_every_mutant() {
         let edit = Edit::read(&path);
         let copy = copy_library(&edit.name);
         edit.apply(&copy);
-        if !differs(&copy) {
+        // It saves time to begin where a difference is likely.
+        let first: &[&str] = match edit.name.starts_with("settings-") {
+            true => &["store", "settings"],
+            false => &[],
+        };
+        if !differs(&copy, first) {
             unnoticed.push(edit.name);
         }
     }

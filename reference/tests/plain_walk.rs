@@ -2,13 +2,13 @@
 //! taken bytes for each data area, every value looked at, and the generator's
 //! plan in place of the table.
 
-use blink_reference::check_table;
-use blink_reference::generate::damage::damage_message;
+use blink_reference::generate::damage::{damage_message, litter};
 use blink_reference::generate::message::{canonical, random_message, scattered};
+use blink_reference::generate::store::{setting, store, COMBINATIONS};
 use blink_reference::generate::table::{random_table, FieldPlan, TablePlan};
 use blink_reference::generate::Random;
 use blink_reference::question::pattern;
-use blink_reference::Type;
+use blink_reference::{check_table, Settings, Type};
 
 /// Number and place of the first fault.
 type Verdict = Result<(), (u8, usize)>;
@@ -32,6 +32,8 @@ enum Role {
 struct Walk<'a> {
     plan: &'a TablePlan,
     message: &'a [u8],
+    /// The faults that are not made.
+    ignored: &'a [u8],
 }
 
 /// A data area and which of the message's bytes its values have taken.
@@ -46,6 +48,11 @@ impl Walk<'_> {
     fn word(&self, at: usize) -> u64 {
         let bytes = &self.message[at..at + 4];
         bytes.iter().rev().fold(0, |number, &byte| number << 8 | u64::from(byte))
+    }
+
+    /// A test that settings may ignore.
+    fn test_zero(&self, met: bool, number: u8, place: usize) -> Verdict {
+        test(met || self.ignored.contains(&number), number, place)
     }
 
     fn whole(&self) -> Verdict {
@@ -85,7 +92,7 @@ impl Walk<'_> {
             }
         }
         for at in area.start as usize..end {
-            test(area.taken[at] || self.message[at] == 0, 6, at)?;
+            self.test_zero(area.taken[at] || self.message[at] == 0, 6, at)?;
         }
         Ok(())
     }
@@ -101,7 +108,7 @@ impl Walk<'_> {
             }
             if !present {
                 for absent in at..at + width {
-                    test(self.message[absent] == 0, 4, absent)?;
+                    self.test_zero(self.message[absent] == 0, 4, absent)?;
                 }
             } else if field.sequence {
                 let width = self.plan.item_width(field);
@@ -138,7 +145,7 @@ impl Walk<'_> {
                 let count = usize::from(self.message[at]);
                 test(count <= field.size.into(), 7, at)?;
                 for unused in at + 1 + count..at + 1 + usize::from(field.size) {
-                    test(self.message[unused] == 0, 8, unused)?;
+                    self.test_zero(self.message[unused] == 0, 8, unused)?;
                 }
                 self.text(field, at + 1, count)
             }
@@ -196,6 +203,7 @@ fn is_text(text: &[u8]) -> bool {
 fn the_check_agrees_with_a_plain_walk() {
     let mut random = Random::new(2);
     let mut refused = 0;
+    let mut accepted_rubbish = 0;
     for _ in 0..24_000 {
         let plan = random_table(&mut random);
         let Some(tree) = random_message(&mut random, &plan) else {
@@ -205,20 +213,31 @@ fn the_check_agrees_with_a_plain_walk() {
         let schema = check_table(&table).unwrap();
         let layouts = [canonical(&plan, &tree), scattered(&plan, &tree, &mut random)];
         for layout in layouts {
-            for _ in 0..8 {
-                let message = damage_message(&mut random, &plan, &layout);
+            for turn in 0..8 {
+                // Half of them with rubbish, under some settings.
+                let flags = if turn < 4 { [0; 3] } else { random.pick(&COMBINATIONS) };
+                let settings = store(&[setting(1, 1, flags)], 0);
+                let ignored: Vec<u8> =
+                    [4, 6, 8].into_iter().zip(flags).filter(|ignored| ignored.1 == 1).map(|i| i.0).collect();
+                let layout = if turn < 4 { layout.clone() } else { litter(&mut random, &layout, [true; 3]) };
+                let message = match turn {
+                    7 => layout.bytes.clone(),
+                    _ => damage_message(&mut random, &plan, &layout),
+                };
                 if message.len() > 65_536 {
                     continue;
                 }
                 let mut scratch = pattern(message.len());
                 let verdict = schema
-                    .check_message(&message, &mut scratch)
+                    .check_message(Settings::of(&settings, 1), &message, &mut scratch)
                     .map_err(|fault| (fault.number as u8, fault.place));
-                let plain = Walk { plan: &plan, message: &message }.whole();
+                let plain = Walk { plan: &plan, message: &message, ignored: &ignored }.whole();
                 assert_eq!(verdict, plain, "{table:02x?} {message:02x?}");
                 refused += usize::from(plain.is_err());
+                accepted_rubbish += usize::from(turn == 7 && flags != [0; 3] && plain.is_ok());
             }
         }
     }
     assert!(refused > 100_000, "only {refused} messages were refused");
+    assert!(accepted_rubbish > 10_000, "only {accepted_rubbish} messages were let through");
 }

@@ -7,7 +7,7 @@ use blink_reference::generate::message::{
 use blink_reference::generate::table::{field, random_table, TablePlan};
 use blink_reference::generate::{batch, Random};
 use blink_reference::question::{ask, pattern, Kind};
-use blink_reference::{check_table, FaultNumber, Schema, Type};
+use blink_reference::{check_table, FaultNumber, Schema, Settings, Type};
 
 const TREES: u64 = 20_000;
 const BATCHES: u64 = 4_000;
@@ -16,7 +16,7 @@ fn sheet_of(schema: &Schema, message: &[u8]) -> Vec<u8> {
     let mut sheet = pattern(11 * message.len());
     let mut scratch = pattern(message.len());
     let length = schema
-        .message_to_sheet(message, &mut scratch, &mut sheet)
+        .message_to_sheet(Settings::NONE, message, &mut scratch, &mut sheet)
         .expect("an accepted message's sheet is at most eleven times as long");
     sheet.truncate(length);
     sheet
@@ -28,7 +28,7 @@ fn rewritten(schema: &Schema, message: &[u8]) -> Vec<u8> {
     let mut sheet = pattern(11 * message.len());
     let mut output = pattern(message.len());
     let length = schema
-        .rewrite(message, &mut scratch, &mut sheet, &mut output)
+        .rewrite(Settings::NONE, message, &mut scratch, &mut sheet, &mut output)
         .expect("rewriting succeeds in these rooms");
     output.truncate(length);
     output
@@ -120,7 +120,7 @@ fn whatever_is_accepted_has_one_form() {
             match question.kind {
                 Kind::CheckMessage => {
                     let mut scratch = pattern(input.len());
-                    if schema.check_message(input, &mut scratch).is_ok() {
+                    if schema.check_message(Settings::NONE, input, &mut scratch).is_ok() {
                         accepted += 1;
                         assert_one_form(&schema, input);
                     }
@@ -148,7 +148,7 @@ fn random_questions_reach_every_fault() {
     for seed in 10_000..10_000 + BATCHES {
         let batch = batch(seed);
         for question in &batch.questions {
-            match ask(&batch.table, question).answer {
+            match ask(&batch.table, Settings::NONE, question).answer {
                 Ok(_) => counts[0] += 1,
                 Err(fault) => counts[fault.number as usize] += 1,
             }

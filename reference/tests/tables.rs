@@ -8,7 +8,7 @@ use blink_reference::generate::damage::{damage_widths, forget_super};
 use blink_reference::generate::table::{field, random_table, TablePlan};
 use blink_reference::generate::{batch, Random};
 use blink_reference::question::{ask, Answer, Kind};
-use blink_reference::{check_table, Fault, FaultNumber, Number, Type};
+use blink_reference::{check_table, Fault, FaultNumber, Number, Settings, Type};
 
 fn verdict(table: &[u8]) -> Result<(), Fault> {
     check_table(table).map(|_| ())
@@ -153,8 +153,8 @@ fn both_forms_answer_alike() {
         assert_ne!(batch.table, twin);
         assert_eq!(verdict(&twin), Ok(()));
         for question in batch.questions.iter().filter(|question| question.kind != Kind::CheckTable) {
-            let reply = ask(&batch.table, question);
-            let other = ask(&twin, question);
+            let reply = ask(&batch.table, Settings::NONE, question);
+            let other = ask(&twin, Settings::NONE, question);
             assert_eq!(words(&reply.answer), words(&other.answer), "{question:02x?}");
             assert!(reply.scratch == other.scratch, "{question:02x?}");
             assert!(reply.sheet == other.sheet, "{question:02x?}");
@@ -162,7 +162,7 @@ fn both_forms_answer_alike() {
             *counts.entry((question.kind, reply.answer.is_ok())).or_default() += 1;
         }
     }
-    for kind in Kind::ALL.into_iter().filter(|&kind| kind != Kind::CheckTable) {
+    for kind in Kind::ALL.into_iter().filter(|kind| kind.is_of_message() || *kind == Kind::SheetToMessage) {
         for accepted in [true, false] {
             let count = counts.get(&(kind, accepted)).copied().unwrap_or(0);
             assert!(count >= 500, "{kind:?}, accepted {accepted}: {count} times");

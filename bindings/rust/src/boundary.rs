@@ -30,12 +30,24 @@ pub struct BlinkPart {
     pub length: u64,
 }
 
+#[repr(C)]
+pub struct BlinkSettings {
+    pub number: u32,
+    pub place: u64,
+    pub absent: u32,
+    pub pads: u32,
+    pub unused: u32,
+}
+
 extern "C" {
     pub fn blink_check_table(table: *const u8, table_length: usize) -> BlinkVerdict;
 
     pub fn blink_check_message(
         table: *const u8,
         table_length: usize,
+        store: *const u8,
+        store_length: usize,
+        customer: u16,
         message: *const u8,
         message_length: usize,
         scratch: *mut u8,
@@ -45,6 +57,9 @@ extern "C" {
     pub fn blink_message_to_sheet(
         table: *const u8,
         table_length: usize,
+        store: *const u8,
+        store_length: usize,
+        customer: u16,
         message: *const u8,
         message_length: usize,
         scratch: *mut u8,
@@ -65,6 +80,9 @@ extern "C" {
     pub fn blink_rewrite(
         table: *const u8,
         table_length: usize,
+        store: *const u8,
+        store_length: usize,
+        customer: u16,
         message: *const u8,
         message_length: usize,
         scratch: *mut u8,
@@ -78,6 +96,9 @@ extern "C" {
     pub fn blink_read_number(
         table: *const u8,
         table_length: usize,
+        store: *const u8,
+        store_length: usize,
+        customer: u16,
         message: *const u8,
         message_length: usize,
         scratch: *mut u8,
@@ -89,6 +110,9 @@ extern "C" {
     pub fn blink_read_bytes(
         table: *const u8,
         table_length: usize,
+        store: *const u8,
+        store_length: usize,
+        customer: u16,
         message: *const u8,
         message_length: usize,
         scratch: *mut u8,
@@ -96,4 +120,23 @@ extern "C" {
         field: u64,
         item: u64,
     ) -> BlinkPart;
+
+    pub fn blink_check_store(store: *const u8, store_length: usize) -> BlinkVerdict;
+
+    pub fn blink_read_settings(
+        store: *const u8,
+        store_length: usize,
+        customer: u16,
+        version: u16,
+    ) -> BlinkSettings;
+
+    pub fn blink_add_settings(
+        store: *mut u8,
+        store_length: usize,
+        customer: u16,
+        version: u16,
+        absent: u8,
+        pads: u8,
+        unused: u8,
+    ) -> BlinkVerdict;
 }

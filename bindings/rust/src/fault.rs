@@ -11,9 +11,10 @@ const FAULTS: &str = include_str!("../../../include/faults.txt");
 /// ```
 #[derive(Clone, Copy, Debug, PartialEq, Eq, Hash)]
 pub struct Fault {
-    /// Which fault it is: 1 to 14, 20 to 37 or 40 to 48.
+    /// Which fault it is: 1 to 14, 20 to 37, 40 to 48, 50, 51 or 59.
     pub number: u8,
-    /// Its byte, counted from 0 at the start of the message, table or sheet; 0 where the fault has no place.
+    /// Its byte, counted from 0 at the start of the message, table, sheet or settings store; 0 where the fault has no
+    /// place.
     pub place: usize,
 }
 
@@ -25,7 +26,7 @@ impl Fault {
     }
 
     fn has_place(&self) -> bool {
-        !matches!(self.number, 20..=23 | 28..=30 | 42 | 46..=48)
+        !matches!(self.number, 20..=23 | 28..=30 | 42 | 46..=48 | 51 | 59)
     }
 }
 

@@ -4,8 +4,11 @@
 //! unseen. A refusal is an [`Err`] with the first [`Fault`]'s number and place, and hands out nothing.
 //!
 //! `scratch` is working room, at least as long as the message; [`MESSAGE_LIMIT`] bytes are enough for every message. After
-//! faults 20, 21 and 23 it is untouched. After every other answer its first bytes, as many as the message has, are zero,
-//! and the rest is untouched.
+//! faults 20, 21, 23 and 50 it is untouched. After every other answer its first bytes, as many as the message has, are
+//! zero, and the rest is untouched.
+//!
+//! Some customers' stations leave rubbish in bytes that mean nothing. [`Settings`] say, by customer, in which; they answer
+//! the same questions.
 //!
 //! ```
 //! // A bill has an amount and, perhaps, a tip.
@@ -30,8 +33,10 @@
 
 mod boundary;
 mod fault;
+mod settings;
 
 pub use fault::Fault;
+pub use settings::{add_settings, check_store, read_settings, Ignored, Settings};
 
 /// No message is longer, in bytes.
 pub const MESSAGE_LIMIT: usize = 65_536;
@@ -110,18 +115,7 @@ pub fn check_table(table: &[u8]) -> Verdict {
 /// assert_eq!(blink_native::check_message(table, cut, &mut scratch).unwrap_err().number, 22);
 /// ```
 pub fn check_message(table: &[u8], message: &[u8], scratch: &mut [u8]) -> Verdict {
-    // SAFETY: pointers and lengths are slices' own, and no slice shares a byte with the scratch.
-    let answer = unsafe {
-        boundary::blink_check_message(
-            table.as_ptr(),
-            table.len(),
-            message.as_ptr(),
-            message.len(),
-            scratch.as_mut_ptr(),
-            scratch.len(),
-        )
-    };
-    verdict(answer.number, answer.place)
+    Settings::NONE.check_message(table, message, scratch)
 }
 
 /// Writes the message's sheet, its meaning as a row of records, at the start of the room `sheet`, and answers that part.
@@ -146,20 +140,7 @@ pub fn message_to_sheet<'a>(
     scratch: &mut [u8],
     sheet: &'a mut [u8],
 ) -> Result<&'a mut [u8], Fault> {
-    // SAFETY: pointers and lengths are slices' own, and no slice shares a byte with the scratch or the sheet room.
-    let answer = unsafe {
-        boundary::blink_message_to_sheet(
-            table.as_ptr(),
-            table.len(),
-            message.as_ptr(),
-            message.len(),
-            scratch.as_mut_ptr(),
-            scratch.len(),
-            sheet.as_mut_ptr(),
-            sheet.len(),
-        )
-    };
-    written(answer, sheet)
+    Settings::NONE.message_to_sheet(table, message, scratch, sheet)
 }
 
 /// Writes the message that a sheet stands for, in its one shortest form, at the start of the room `output`, and answers that
@@ -224,22 +205,7 @@ pub fn rewrite<'a>(
     sheet: &mut [u8],
     output: &'a mut [u8],
 ) -> Result<&'a mut [u8], Fault> {
-    // SAFETY: pointers and lengths are slices' own, and no slice shares a byte with the scratch, the sheet room or the output.
-    let answer = unsafe {
-        boundary::blink_rewrite(
-            table.as_ptr(),
-            table.len(),
-            message.as_ptr(),
-            message.len(),
-            scratch.as_mut_ptr(),
-            scratch.len(),
-            sheet.as_mut_ptr(),
-            sheet.len(),
-            output.as_mut_ptr(),
-            output.len(),
-        )
-    };
-    written(answer, output)
+    Settings::NONE.rewrite(table, message, scratch, sheet, output)
 }
 
 /// Reads a field of the message's own group as a number.
@@ -265,29 +231,7 @@ pub fn read_number(
     field: usize,
     item: usize,
 ) -> Result<Number, Fault> {
-    // SAFETY: pointers and lengths are slices' own, and no slice shares a byte with the scratch.
-    let answer = unsafe {
-        boundary::blink_read_number(
-            table.as_ptr(),
-            table.len(),
-            message.as_ptr(),
-            message.len(),
-            scratch.as_mut_ptr(),
-            scratch.len(),
-            field as u64,
-            item as u64,
-        )
-    };
-    verdict(answer.number, answer.place)?;
-    let bits = answer.bits;
-    Ok(match answer.kind {
-        1 => Number::Signed(bits as i64),
-        2 => Number::Unsigned(bits),
-        3 => Number::Bool(bits != 0),
-        4 => Number::Decimal { exponent: answer.exponent as i8, mantissa: bits as i64 },
-        5 | 6 => Number::Float(f64::from_bits(bits)),
-        kind => unreachable!("a number of kind {kind}"),
-    })
+    Settings::NONE.read_number(table, message, scratch, field, item)
 }
 
 /// A field's bytes, as they lie in the message: strings and binaries without their count, fixed fields, and dynamic groups
@@ -311,19 +255,5 @@ pub fn read_bytes<'a>(
     field: usize,
     item: usize,
 ) -> Result<&'a [u8], Fault> {
-    // SAFETY: pointers and lengths are slices' own, and no slice shares a byte with the scratch.
-    let answer = unsafe {
-        boundary::blink_read_bytes(
-            table.as_ptr(),
-            table.len(),
-            message.as_ptr(),
-            message.len(),
-            scratch.as_mut_ptr(),
-            scratch.len(),
-            field as u64,
-            item as u64,
-        )
-    };
-    verdict(answer.number, answer.place)?;
-    Ok(&message[answer.offset as usize..][..answer.length as usize])
+    Settings::NONE.read_bytes(table, message, scratch, field, item)
 }

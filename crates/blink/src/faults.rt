@@ -1,9 +1,10 @@
 // The faults' words.
+use printing::dump;
 use printing::lines;
 use printing::print;
 
 // What each means, in plain words, as include/faults.txt has them for all.
-const MEANINGS: [u8; 2182] =
+const MEANINGS: [u8; 2418] =
     *b" 1 a group's size is under 12: too short for its type id and its extension offset
  2 no group of the table has this type id
  3 the extension offset leads outside the group's data area
@@ -45,6 +46,9 @@ const MEANINGS: [u8; 2182] =
 46 the sheet is longer than its room
 47 the message is longer than its room or than 65536 bytes
 48 the field is of another kind: no number, or no bytes
+50 the settings store is damaged, has a flag that is neither 0 nor 1 or a version that does not rise, or the addition would make it so
+51 the settings store has no room for another record
+59 the customer has no settings of that version
 ";
 
 // Asks for every line, as a fault's number asks for its own.
@@ -68,13 +72,13 @@ pub fn print_all() {
     print_meanings(ALL);
 }
 
-pub fn print_meaning(number: u8) {
+fn print_meaning(number: u8) {
     print_meanings(number);
     print::end_line();
 }
 
 // The line for programs.
-pub fn print_refusal(number: u8, place: usize) {
+fn print_refusal(number: u8, place: usize) {
     print::text(b"refused ");
     print::number(number as usize);
     print::text(b" at ");
@@ -89,6 +93,22 @@ pub fn has_place(number: u8) -> bool {
         28 | 29 | 30 => false,
         42 => false,
         46 | 47 | 48 => false,
+        51 => false,
+        59 => false,
         _ => true,
+    }
+}
+
+// A refusal: for programs the first line, for people what it means.
+pub fn print_fault(number: u8, place: usize) {
+    print_refusal(number, place);
+    print_meaning(number);
+}
+
+// The same, and where it is.
+pub fn explain(number: u8, place: usize, bytes: &[u8]) {
+    print_fault(number, place);
+    if has_place(number) {
+        dump::print_around(bytes, place);
     }
 }

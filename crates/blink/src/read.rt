@@ -8,16 +8,18 @@ use printing::value;
 // Prints the value, or answers why there is none.
 pub fn print_field(
     table: &[u8],
+    store: &[u8],
+    customer: u16,
     message: &[u8],
     scratch: &mut [u8],
     field: usize,
     item: usize,
 ) -> Verdict {
-    let n = codec::read_number(table, message, scratch, field, item);
+    let n = codec::read_number(table, store, customer, message, scratch, field, item);
     match n {
         Number::Refused { number, place } => {
             if number == 48 {
-                return print_bytes(table, message, scratch, field, item);
+                return print_bytes(table, store, customer, message, scratch, field, item);
             }
             Verdict::Refused { number, place }
         }
@@ -38,15 +40,17 @@ fn print_number(n: Number) {
 // The field is no number: "48 other kind".
 fn print_bytes(
     table: &[u8],
+    store: &[u8],
+    customer: u16,
     message: &[u8],
     scratch: &mut [u8],
     field: usize,
     item: usize,
 ) -> Verdict {
-    let v = codec::read_bytes_verdict(table, message, scratch, field, item);
+    let v = codec::read_bytes_verdict(table, store, customer, message, scratch, field, item);
     match v {
         Verdict::Accepted => {
-            let bytes = codec::read_bytes(table, message, scratch, field, item);
+            let bytes = codec::read_bytes(table, store, customer, message, scratch, field, item);
             print_part(
                 rows::field_type(table, rows::message_field(table, message, field)),
                 bytes,

@@ -1,104 +1,128 @@
 // The rooms for the files and the answers. A file stands at the start of its room. A length that is more than the room says that the
 // file could not be read.
 use crate::answer;
-use crate::arguments;
-use crate::command::Command;
-use crate::file;
+use inputs::arguments;
+use inputs::command;
+use inputs::command::Question;
+use inputs::file;
+use inputs::options;
 
-// A table and a message have at most this many bytes.
+// A table, a message and a store have at most this many bytes.
 const MESSAGE: usize = 65536;
 
 const SHEET: usize = 1048576;
 
 fn load_table(room: &mut [u8; MESSAGE]) -> usize {
-    file::load(arguments::TABLE, room)
+    file::load(arguments::plain(command::TABLE), room)
 }
 
 fn load_input(room: &mut [u8; SHEET], most: usize) -> usize {
-    file::load_most(arguments::INPUT, room, most)
+    file::load_most(arguments::plain(command::INPUT), room, most)
 }
 
-// How long the command's input may be: it is a sheet or a message.
-fn longest_input(command: Command) -> usize {
-    match command {
-        Command::Write => SHEET,
+// The store that the options name. None is an empty one, which has no settings.
+fn load_store(room: &mut [u8; MESSAGE]) -> usize {
+    let i = options::store();
+    if i == 0 {
+        return 0;
+    }
+    file::load(i, room)
+}
+
+// How long the input may be: it is a sheet or a message.
+fn longest_input(question: Question) -> usize {
+    match question {
+        Question::Write => SHEET,
         _ => MESSAGE,
     }
 }
 
 // A question on the files that the arguments name.
-pub fn ask(command: Command) {
+pub fn ask(question: Question, customer: u16) {
     let mut tables = [0u8; MESSAGE];
+    let mut stores = [0u8; MESSAGE];
     let mut inputs = [0u8; SHEET];
-    let mut room = [0u8; MESSAGE];
     let table = load_table(&mut tables);
     if MESSAGE < table {
         return;
     }
-    let input = load_input(&mut inputs, longest_input(command));
+    let store = load_store(&mut stores);
+    if MESSAGE < store {
+        return;
+    }
+    let input = load_input(&mut inputs, longest_input(question));
     if SHEET < input {
         return;
     }
-    lend(command, &tables, table, &inputs, input, &mut room);
-}
-
-// The rooms are arrays up to here, and slices from here on.
-fn lend(
-    command: Command,
-    tables: &[u8; MESSAGE],
-    table: usize,
-    inputs: &[u8; SHEET],
-    input: usize,
-    room: &mut [u8; MESSAGE],
-) {
-    answer(
-        command,
-        file::contents(tables, table),
-        file::contents(inputs, input),
-        room,
+    lend(
+        question,
+        &tables,
+        table,
+        &stores,
+        store,
+        customer,
+        &inputs,
+        input,
     );
 }
 
-// The room is scratch, or takes the message that is written.
-fn answer(command: Command, table: &[u8], input: &[u8], room: &mut [u8]) {
-    match command {
-        Command::Check => answer::check(table, input, room),
-        Command::Read { field, item } => answer::read(table, input, room, field, item),
-        Command::Write => answer::write(table, input, room),
-        _ => make_sheet(command, table, input, room),
-    }
+// The files are arrays up to here, and slices from here on.
+fn lend(
+    question: Question,
+    tables: &[u8; MESSAGE],
+    table: usize,
+    stores: &[u8; MESSAGE],
+    store: usize,
+    customer: u16,
+    inputs: &[u8; SHEET],
+    input: usize,
+) {
+    make(
+        question,
+        file::contents(tables, table),
+        file::contents(stores, store),
+        customer,
+        file::contents(inputs, input),
+    );
 }
 
-// A question on the message's sheet.
-fn make_sheet(command: Command, table: &[u8], message: &[u8], scratch: &mut [u8]) {
+// Makes the rooms for what is written.
+fn make(question: Question, table: &[u8], store: &[u8], customer: u16, input: &[u8]) {
+    let mut scratch = [0u8; MESSAGE];
     let mut sheet = [0u8; SHEET];
     let mut output = [0u8; MESSAGE];
-    lend_sheet(command, table, message, scratch, &mut sheet, &mut output);
+    answer(
+        question,
+        table,
+        store,
+        customer,
+        input,
+        &mut scratch,
+        &mut sheet,
+        &mut output,
+    );
 }
 
-fn lend_sheet(
-    command: Command,
+fn answer(
+    question: Question,
     table: &[u8],
-    message: &[u8],
-    scratch: &mut [u8],
+    store: &[u8],
+    customer: u16,
+    input: &[u8],
+    scratch: &mut [u8; MESSAGE],
     sheet: &mut [u8; SHEET],
     output: &mut [u8; MESSAGE],
 ) {
-    answer_sheet(command, table, message, scratch, sheet, output);
-}
-
-fn answer_sheet(
-    command: Command,
-    table: &[u8],
-    message: &[u8],
-    scratch: &mut [u8],
-    sheet: &mut [u8],
-    output: &mut [u8],
-) {
-    match command {
-        Command::Show => answer::show(table, message, scratch, sheet),
-        Command::Sheet => answer::sheet(table, message, scratch, sheet),
-        Command::Rewrite => answer::rewrite(table, message, scratch, sheet, output),
-        _ => {}
+    match question {
+        Question::Check => answer::check(table, store, customer, input, scratch),
+        Question::Read { field, item } => {
+            answer::read(table, store, customer, input, scratch, field, item)
+        }
+        Question::Show => answer::show(table, store, customer, input, scratch, sheet),
+        Question::Sheet => answer::sheet(table, store, customer, input, scratch, sheet),
+        Question::Write => answer::write(table, input, output),
+        Question::Rewrite => {
+            answer::rewrite(table, store, customer, input, scratch, sheet, output)
+        }
     }
 }

@@ -14,7 +14,7 @@ use Rattle.reading.specs.declared.Number.{Number}
 use Rattle.reading.specs.declared.Number.the-variants.{Float, NanBits}
 use Rattle.reading.specs.Item.{Item, missing, item}
 use Rattle.reading.specs.Number.{unsignedTypes, signedTypes, floatOf, decimalOf, numberOf, numberAt}
-use Rattle.codec.specs.Answers.{messageVerdict, numberUnder, numberAnswer}
+use Rattle.codec.specs.Answers.{Under, messageVerdict, numberUnder, numberAnswer}
 use Rattle.capi.specs.Boundary.{NoNan}
 
 either : (c : Bool) (x y : Number) → NoNan x → NoNan y → NoNan (cond c x y)
@@ -46,6 +46,6 @@ unfolding numberUnder NoNan
 under-no-nan Accepted x h = h
 under-no-nan (Refused n p) x h = tt
 
-pub no-nan : (t b : List ℕ) (scratch f i : ℕ) → NoNan (numberAnswer t b scratch f i)
+pub no-nan : (t b : List ℕ) (u : Under) (f i : ℕ) → NoNan (numberAnswer t b u f i)
 unfolding numberAnswer
-no-nan t b scratch f i = under-no-nan (messageVerdict t b scratch) _ (at-no-nan b _)
+no-nan t b u f i = under-no-nan (messageVerdict t b u) _ (at-no-nan b _)

@@ -7,6 +7,8 @@ use lib.Ieee.{binary64, isNan, toBits}
 use Rattle.wire.specs.Bytes.{pattern}
 use Rattle.schema.specs.declared.Verdict.{Verdict}
 use Rattle.schema.specs.declared.Verdict.the-variants.{Accepted, Refused}
+use Rattle.settings.specs.declared.Setting.{Setting}
+use Rattle.settings.specs.declared.Setting.the-variants.{Ignores, Refused as Unknown}
 use Rattle.reading.specs.declared.Number.{Number}
 use Rattle.reading.specs.declared.Number.the-variants.{Signed, Unsigned, Bool as Flag, Decimal, Float, NanBits, Refused as NotRead}
 use Rattle.codec.specs.declared.Written.{Written}
@@ -17,6 +19,7 @@ use Rattle.capi.specs.declared.BlinkVerdict.{BlinkVerdict}
 use Rattle.capi.specs.declared.BlinkWritten.{BlinkWritten}
 use Rattle.capi.specs.declared.BlinkNumber.{BlinkNumber}
 use Rattle.capi.specs.declared.BlinkPart.{BlinkPart}
+use Rattle.capi.specs.declared.BlinkSettings.{BlinkSettings}
 
 -- A fault's number and place; both 0 where nothing is refused.
 unfoldable pub exported : Verdict → BlinkVerdict
@@ -32,6 +35,11 @@ exportedWritten (Unwritten n p) = record { number = n; place = p; length = 0 }
 unfoldable pub exportedSpan : Span → BlinkPart
 exportedSpan (Lie s n) = record { number = 0; place = 0; offset = s; length = n }
 exportedSpan (NoBytes n p) = record { number = n; place = p; offset = 0; length = 0 }
+
+-- Flags as numbers: 0 where it is refused.
+unfoldable pub exportedSettings : Setting → BlinkSettings
+exportedSettings (Ignores x) = record { number = 0; place = 0; absent = cond (x .absent) 1 0; pads = cond (x .pads) 1 0; unused = cond (x .unused) 1 0 }
+exportedSettings (Unknown n p) = record { number = n; place = p; absent = 0; pads = 0; unused = 0 }
 
 -- An answer that is a number, of a kind.
 abbrev pub answered : ℕ → ℤ → ℕ → BlinkNumber

@@ -16,7 +16,10 @@ use Rattle.schema.specs.Faults.{need, also}
 use Rattle.schema.specs.Schema.{Group}
 use Rattle.schema.specs.Table.{schema, tableVerdict}
 use Rattle.table.proofs.Accepted as table
-use Rattle.message.specs.Walk.{Reading, refused, done, strict, walk}
+use Rattle.settings.specs.declared.Ignored.{Ignored}
+use Rattle.settings.specs.Store.{strict, storeVerdict, governing}
+use Rattle.store.proofs.Claims.{claims, sound-of}
+use Rattle.message.specs.Walk.{Reading, refused, done, walk, messageR}
 use Rattle.message.specs.Proper.{Proper}
 use Rattle.message.specs.Conforms.{Conforms}
 use Rattle.message.proofs.Accepted.{accepted-conforms}
@@ -26,13 +29,14 @@ use Rattle.reading.specs.declared.Part.{Part}
 use Rattle.reading.specs.declared.Part.the-variants.{Refusal, Lies}
 use Rattle.reading.specs.Part.{bytesIn}
 use Rattle.reading.specs.Part as part
+use Rattle.reading.proofs.Alike.{walk-laxer}
 use Rattle.sheet.specs.Written.{Writing, stopped, wrote, fitted, written}
 use Rattle.sheet.specs.Rewritten.{Rooms, Enough, sheetIn, rewritten}
 use Rattle.sheet.specs.Canonical as canonical
 use Rattle.sheet.proofs.RoundTrip as trip
-use Rattle.codec.specs.Answers.{accepted, verdictOf, messageVerdict, roomAfter, toSheet, toMessage, rewriting, numberUnder, numberAnswer, partUnder, partAnswer, bytesVerdict}
+use Rattle.codec.specs.Answers.{accepted, Under, under, messageReading, verdictOf, messageVerdict, roomAfter, toSheet, toMessage, rewriting, numberUnder, numberAnswer, partUnder, partAnswer, bytesVerdict}
 use Rattle.codec.specs.Demands.{Demand1, Means, Makes, Demand2, OneForm, Demand3, Demands}
-use Rattle.codec.proofs.Laws.{sized, reading-under, message-under}
+use Rattle.codec.proofs.Laws.{sized, reading-under, message-under, strictest}
 
 -- DEMAND 1
 
@@ -46,14 +50,14 @@ no-part Accepted (Refusal k) b n p e = refl
 no-part Accepted (Lies q k) b n p e = let z : _≡_ {A = ℕ} 0 1 = cc in absurd (omega arith)
 no-part (Refused k q) x b n p e = refl
 
-demand1 : (t b s : List ℕ) (scratch : ℕ) → Demand1 t b s scratch
+demand1 : (t b s : List ℕ) (u : Under) → Demand1 t b s u
 unfolding numberAnswer numberUnder bytesVerdict partAnswer
-demand1 t b s scratch = record {
+demand1 t b s u = record {
   no-number = λ n p e field item. rw e;
-  no-bytes = λ field item n p e. no-part (messageVerdict t b scratch) _ b n p e;
+  no-bytes = λ field item n p e. no-part (messageVerdict t b u) _ b n p e;
   no-sheet = λ n p room e. refused-room _ n p room e;
   no-message = λ n p output e. refused-room _ n p output e;
-  no-rewriting = λ n p rooms output e. refused-room _ n p output e;
+  no-rewriting = λ st c n p rooms output e. refused-room _ n p output e;
 }
 
 -- WHAT AN ACCEPTED TABLE GIVES
@@ -73,42 +77,48 @@ unfolding verdictOf
 is-done x (s, m, e) = rw e
 
 -- "as long as 4 + its size word"
-sat-size : (gs : List Group) (b : List ℕ) → Sat (λ s m. length b ≡ 4 + le (take 4 b)) (walk strict gs b)
+sat-size : (x : Ignored) (gs : List Group) (b : List ℕ) → Sat (λ s m. length b ≡ 4 + le (take 4 b)) (walk x gs b)
 unfolding walk
-sat-size gs b = sat-need _ 22 0 (λ t. sat-all (λ s m. eqb-true _ _ (and-eq-true-iff (leb 4 (length b)) _ .0 t .1)) _)
+sat-size x gs b = sat-need _ 22 0 (λ t. sat-all (λ s m. eqb-true _ _ (and-eq-true-iff (leb 4 (length b)) _ .0 t .1)) _)
 
-module _ (t : List ℕ) (e : tableVerdict t ≡ Accepted) where
+module _ (t st : List ℕ) (c : ℕ) (e : tableVerdict t ≡ Accepted) (pass : storeVerdict st ≡ Accepted) where
+  abbrev x : Ignored
+  x = governing st c
+
   abbrev gs : List Group
   gs = schema t
 
-  rewrites : (b : List ℕ) (rooms : Rooms) → rewriting t b rooms ≡ rewritten strict gs rooms b
+  reading : (b : List ℕ) (scratch : ℕ) → messageReading t b (under st c scratch) ≡ messageR x gs scratch b
+  reading b scratch = reading-under t e (under st c scratch) (sound-of st pass) b
+
+  rewrites : (b : List ℕ) (rooms : Rooms) → rewriting t b st c rooms ≡ rewritten x gs rooms b
   unfolding rewriting toSheet rewritten
-  rewrites b rooms = rw (reading-under t e b (rooms .scratch))
+  rewrites b rooms = rw (reading b (rooms .scratch))
 
-  there : (b s : List ℕ) → Means t b s → canonical.Means strict gs b s
-  there b s M scratch h = sym (reading-under t e b scratch) ∙ M scratch h
+  there : (b s : List ℕ) → Means t st c b s → canonical.Means x gs b s
+  there b s M scratch h = sym (reading b scratch) ∙ M scratch h
 
-  back : (b s : List ℕ) → canonical.Means strict gs b s → Means t b s
-  back b s M scratch h = reading-under t e b scratch ∙ M scratch h
+  back : (b s : List ℕ) → canonical.Means x gs b s → Means t st c b s
+  back b s M scratch h = reading b scratch ∙ M scratch h
 
   -- DEMAND 2
 
-  accepted-exactly : (b : List ℕ) (scratch : ℕ) → length b ≤ scratch → (messageVerdict t b scratch ≡ Accepted) ↔ Conforms strict gs b
+  accepted-exactly : (b : List ℕ) (scratch : ℕ) → length b ≤ scratch → (messageVerdict t b (under st c scratch) ≡ Accepted) ↔ Conforms x gs b
   unfolding messageVerdict
   accepted-exactly b scratch room =
-      let iff = accepted-conforms strict gs (proper t e) scratch b room in
-      (λ v. iff .0 (done-is _ (ap verdictOf (sym (reading-under t e b scratch)) ∙ v)), λ c. ap verdictOf (reading-under t e b scratch) ∙ is-done _ (iff .1 c))
+      let iff = accepted-conforms x gs (proper t e) scratch b room in
+      (λ v. iff .0 (done-is _ (ap verdictOf (sym (reading b scratch)) ∙ v)), λ c. ap verdictOf (reading b scratch) ∙ is-done _ (iff .1 c))
 
-  sheet : (b : List ℕ) (scratch : ℕ) → messageVerdict t b scratch ≡ Accepted → (s : List ℕ) × Means t b s
+  sheet : (b : List ℕ) (scratch : ℕ) → messageVerdict t b (under st c scratch) ≡ Accepted → (s : List ℕ) × Means t st c b s
   unfolding messageVerdict
-  sheet b scratch v = let (s, m, d) = done-is _ v in (s, back b s (trip.message-means strict gs scratch b s m (sym (reading-under t e b scratch) ∙ d)))
+  sheet b scratch v = let (s, m, d) = done-is _ v in (s, back b s (trip.message-means x gs scratch b s m (sym (reading b scratch) ∙ d)))
 
-  sheet-written : (b s : List ℕ) → Means t b s → (scratch room : ℕ) → length b ≤ scratch → length s ≤ room → toSheet t b scratch room ≡ wrote s [] []
+  sheet-written : (b s : List ℕ) → Means t st c b s → (scratch room : ℕ) → length b ≤ scratch → length s ≤ room → toSheet t b (under st c scratch) room ≡ wrote s [] []
   unfolding toSheet sheetIn need
   sheet-written b s M scratch room h l = rw (M scratch h, le-leb _ _ l)
 
-  reads-back : (s X Y r : List ℕ) (room : ℕ) → toMessage t s room ≡ wrote X Y r → (length X ≤ room) × Means t X s
-  reads-back s X Y r room w = let (l, M) = trip.written-means gs (sized t e) strict room s X Y r (sym (message-under t e s room) ∙ w) in (l, back X s M)
+  reads-back : (s X Y r : List ℕ) (room : ℕ) → toMessage t s room ≡ wrote X Y r → (length X ≤ room) × Means t st c X s
+  reads-back s X Y r room w = let (l, M) = trip.written-means gs (sized t e) x room s X Y r (sym (message-under t e s room) ∙ w) in (l, back X s M)
 
   only-room : (s X : List ℕ) → Makes t s X → (room n p : ℕ) → toMessage t s room ≡ stopped n p → (n ≡ 47) × (p ≡ 0)
   unfolding written fitted need
@@ -118,9 +128,9 @@ module _ (t : List ℕ) (e : tableVerdict t ≡ Accepted) where
       go true q = unfold need in let z : _≡_ {A = ℕ} 0 1 = cc in absurd (omega arith)
       go false q = unfold need in let a : n ≡ 47 = cc in let b : p ≡ 0 = cc in (a, b)
 
-  room-exactly : (s X : List ℕ) → Makes t s X → (room : ℕ) → (toMessage t s room ≡ stopped 47 0) ↔ ((c : List ℕ) → Means t c s → length c ≤ room → ⊥)
+  room-exactly : (s X : List ℕ) → Makes t s X → (room : ℕ) → (toMessage t s room ≡ stopped 47 0) ↔ ((d : List ℕ) → Means t st c d s → length d ≤ room → ⊥)
   room-exactly s X m room =
-      let iff = trip.room-short gs (sized t e) strict room s X [] [] m in
+      let iff = trip.room-short gs (sized t e) x room s X [] [] m in
       (λ w c M l. iff .0 (sym (message-under t e s room) ∙ w) c (there c s M) l, λ f. message-under t e s room ∙ iff .1 (λ c M l. f c (back c s M) l))
 
   read-one-way : (s s′ X Y Y′ r r′ : List ℕ) (room room′ : ℕ) → toMessage t s room ≡ wrote X Y r → toMessage t s′ room′ ≡ wrote X Y′ r′ → s ≡ s′
@@ -129,43 +139,52 @@ module _ (t : List ℕ) (e : tableVerdict t ≡ Accepted) where
       let u′ = reads-back s′ X Y′ r′ room′ w′ .1 (length X) (omega arith) in
       cc
 
-  demand2 : Demand2 t
+  demand2 : Demand2 t st c
   demand2 = record {
     accepted-exactly = accepted-exactly;
     sheet = λ b scratch h v. sheet b scratch v;
     sheet-written = sheet-written;
-    sheet-short = λ b s M. eleven gs (sized t e) strict b s [] (trip.means-walk strict gs b s (there b s M) .1);
+    sheet-short = λ b s M. eleven gs (sized t e) x b s [] (trip.means-walk x gs b s (there b s M) .1);
     reads-back = reads-back;
     only-room = only-room;
     room-exactly = room-exactly;
-    allowed = λ b s M. let (X, m, l) = trip.read-write gs (sized t e) strict b s (there b s M) in (X, m);
+    allowed = λ b s M. let (X, m, l) = trip.read-write gs (sized t e) x b s (there b s M) in (X, m);
     read-one-way = read-one-way;
   }
 
   -- DEMAND 3
 
-  one-form : (a s : List ℕ) → Means t a s → OneForm t a s
+  -- what is accepted with nothing ignored is accepted under every setting
+  anywhere : (b s : List ℕ) → canonical.Means strict gs b s → (st′ : List ℕ) (c′ : ℕ) → storeVerdict st′ ≡ Accepted → Means t st′ c′ b s
+  anywhere b s M st′ c′ p scratch h =
+      let y = governing st′ c′ in
+      let w = trip.means-walk strict gs b s M in
+      reading-under t e (under st′ c′ scratch) (sound-of st′ p) b ∙ trip.walk-means y gs b s (w .0) (walk-laxer strict y (strictest y) gs b s [] (w .1)) scratch h
+
+  one-form : (a s : List ℕ) → Means t st c a s → OneForm t st c a s
   unfolding roomAfter
   one-form a s M =
-      let c = trip.canonical gs (sized t e) strict a s (there a s M) in
-      let succeeds : (rooms : Rooms) → Enough rooms a → rewriting t a rooms ≡ wrote (c .form) [] [] = λ rooms R. rewrites a rooms ∙ c .rewrites rooms R in
+      let f = trip.canonical gs (sized t e) x a s (there a s M) in
+      let succeeds : (rooms : Rooms) → Enough rooms a → rewriting t a st c rooms ≡ wrote (f .form) [] [] = λ rooms R. rewrites a rooms ∙ f .rewrites rooms R in
       record {
-        form = c .form;
+        form = f .form;
         succeeds = succeeds;
-        stands = λ rooms R output l. ap (λ (x : Writing). take (length (c .form)) (roomAfter x output)) (succeeds rooms R)
-            ∙ part-splice (length (c .form)) 0 (c .form) output (omega (arith, l, R .output, c .least a (there a s M))) refl;
-        size = sat-is (rw (trip.means-walk strict gs (c .form) s (c .means) .1) at (sat-size gs (c .form)));
-        in-order = c .made;
-        keeps = back (c .form) s (c .means);
-        again = λ rooms R. rewrites (c .form) rooms ∙ c .again rooms R;
-        least = λ d N. c .least d (there d s N);
+        stands = λ rooms R output l. ap (λ (x : Writing). take (length (f .form)) (roomAfter x output)) (succeeds rooms R)
+            ∙ part-splice (length (f .form)) 0 (f .form) output (omega (arith, l, R .output, f .least a (there a s M))) refl;
+        size = sat-is (rw (trip.means-walk x gs (f .form) s (f .means-here) .1) at (sat-size x gs (f .form)));
+        in-order = f .made;
+        keeps = back (f .form) s (f .means-here);
+        keeps-strictly = anywhere (f .form) s (f .means) [] 0 (claims .none 0);
+        keeps-anywhere = anywhere (f .form) s (f .means);
+        again = λ rooms R. rewrites (f .form) rooms ∙ f .again-here rooms R;
+        least = λ d N. f .least d (there d s N);
       }
 
-  demand3 : Demand3 t
+  demand3 : Demand3 t st c
   unfolding one-form
   demand3 = record {
     one-form = one-form;
-    same-form = λ a b s s′ A B. trip.same-form gs (sized t e) strict a b s s′ (there a s A) (there b s′ B);
+    same-form = λ a b s s′ A B. trip.same-form gs (sized t e) x a b s s′ (there a s A) (there b s′ B);
   }
 
 -- All of it.

@@ -1,5 +1,5 @@
 -- The public answers, by what the crates below found.
-use Prim.Native.Nat.{ℕ, _+_, _<_, _≤_}
+use Prim.Native.Nat.{ℕ, _+_, _*_, _<_, _≤_}
 use mathlib.Core.Path.{_≡_, refl, sym, ap, _∙_}
 use mathlib.Core.Bool.{Bool, true, false, _&&_}
 use mathlib.Core.List.{List, [], _∷_}
@@ -16,7 +16,10 @@ use Rattle.schema.specs.Table.{schema, tableVerdict}
 use Rattle.schema.specs.Layout.{Layout}
 use Rattle.message.specs.declared.Walked.{Walked}
 use Rattle.message.specs.declared.Walked.the-variants.{Counted as Passed, Refused as Failed}
-use Rattle.message.specs.Walk.{Reading, refused, done, strict, walk, messageR}
+use Rattle.settings.specs.declared.Ignored.{Ignored}
+use Rattle.settings.specs.declared.Setting.the-variants.{Ignores, Refused as Unknown}
+use Rattle.settings.specs.Store.{strict, lax, records, sound, governing, settingOf}
+use Rattle.message.specs.Walk.{Reading, refused, done, walk, messageR}
 use Rattle.schema.proofs.Depth.{and-both}
 use Rattle.table.specs.Measure.{soundKind, soundFields}
 use Rattle.table.proofs.Accepted as table
@@ -36,25 +39,26 @@ use Rattle.reading.specs.Item.{itemOf}
 use Rattle.reading.specs.Number.{numberAt}
 use Rattle.reading.specs.Part.{partAt}
 use Rattle.reading.specs.Part as parts
+use Rattle.reading.proofs.Alike.{Laxer, walk-laxer, laxest}
 use Rattle.codec.specs.declared.Span.the-variants.{Refused as NoBytes}
 use Rattle.codec.specs.declared.Written.{Written}
 use Rattle.codec.specs.declared.Written.the-variants.{Bytes, Refused as Unwritten}
-use Rattle.codec.specs.Answers.{accepted, messageReading, verdictOf, messageVerdict, scratchAfter, Opened, writtenOf, roomAfter, Writes, toSheet, toMessage, Known, Allowed, Within, numberUnder, numberAnswer, partUnder, partAnswer, bytesVerdict, spanOf, spanUnder, spanAnswer}
+use Rattle.codec.specs.Answers.{accepted, Under, under, messageReading, verdictOf, messageVerdict, scratchAfter, Opened, writtenOf, roomAfter, Writes, toSheet, toMessage, Known, Allowed, Within, numberUnder, numberAnswer, partUnder, partAnswer, bytesVerdict, spanOf, spanUnder, spanAnswer}
 
 -- a refusal opens nothing
-pub opens-nothing : (t b : List ℕ) (scratch : ℕ) (k : List ℕ) (w : Walked) (n p : ℕ) → w ≡ Failed n p → messageReading t b scratch ≡ refused n p → Opened t b scratch k w
-opens-nothing t b scratch k w n p e r = record {
+pub opens-nothing : (t b : List ℕ) (u : Under) (k : List ℕ) (w : Walked) (n p : ℕ) → w ≡ Failed n p → messageReading t b u ≡ refused n p → Opened t b u k w
+opens-nothing t b u k w n p e r = record {
   refuses = λ n′ p′ f. let a : n ≡ n′ = cc in let c : p ≡ p′ = cc in rw (a, c) at r;
   opens = λ n′ f. let z : _≡_ {A = ℕ} 0 1 = cc in absurd (omega arith);
 }
 
 -- 20
-module _ (t b s : List ℕ) (n p : ℕ) (e : Refused n p ≡ tableVerdict t) where
-  pub reading-20 : (scratch : ℕ) → messageReading t b scratch ≡ refused 20 0
+module _ (t st b s : List ℕ) (n p : ℕ) (e : Refused n p ≡ tableVerdict t) where
+  pub reading-20 : (u : Under) → messageReading t b u ≡ refused 20 0
   unfolding messageReading accepted need
-  reading-20 scratch = rw (← e)
+  reading-20 u = rw (← e)
 
-  pub scratch-20 : scratchAfter t b s ≡ s
+  pub scratch-20 : scratchAfter t st b s ≡ s
   unfolding scratchAfter accepted
   scratch-20 = rw (← e)
 
@@ -74,9 +78,37 @@ sized-fields n own (f ∷ fs) e = let x = and-both _ _ e in (sized-kind n own (f
 pub sized : (t : List ℕ) → tableVerdict t ≡ Accepted → Sized (schema t)
 sized t e = let a = table.accepted t e in record { kinds = λ g. sized-fields _ g _ (a .sound g); shallows = a .shallows }
 
-pub reading-under : (t : List ℕ) → tableVerdict t ≡ Accepted → (b : List ℕ) (scratch : ℕ) → messageReading t b scratch ≡ messageR strict (schema t) scratch b
-unfolding messageReading accepted need
-reading-under t e b scratch = rw e
+pub reading-under : (t : List ℕ) → tableVerdict t ≡ Accepted → (u : Under) → sound (u .store) ≡ true
+    → (b : List ℕ) → messageReading t b u ≡ messageR (governing (u .store) (u .customer)) (schema t) (u .scratch) b
+unfolding messageReading accepted need messageR
+reading-under t e u f b = rw (e, f)
+
+-- nothing ignores less than `strict`
+pub strictest : (x : Ignored) → Laxer strict x
+strictest x = record { absent = λ e. absurd (none e); pads = λ e. absurd (none e); unused = λ e. absurd (none e) }
+  where
+    none : false ≡ true → ⊥
+    none e = let z : _≡_ {A = ℕ} 0 1 = cc in omega arith
+
+-- THE STORE
+
+-- what the store says of a customer's settings
+module _ (st : List ℕ) (c : ℕ) where
+  pub settled : (x : Ignored) → Ignores x ≡ settingOf st c → (sound st ≡ true) × (x ≡ governing st c)
+  unfolding settingOf
+  settled x e = go (sound st) e
+    where
+      go : (b : Bool) → Ignores x ≡ need b (Unknown 50 (9 * records st)) (Ignores (governing st c)) → (b ≡ true) × (x ≡ governing st c)
+      go true e = unfold need in let q : x ≡ governing st c = cc in (refl, q)
+      go false e = unfold need in let z : _≡_ {A = ℕ} 0 1 = cc in absurd (omega arith)
+
+  pub unsettled : (n p : ℕ) → Unknown n p ≡ settingOf st c → (sound st ≡ false) × (refused 50 (9 * records st) ≡ refused n p)
+  unfolding settingOf
+  unsettled n p e = go (sound st) e
+    where
+      go : (b : Bool) → Unknown n p ≡ need b (Unknown 50 (9 * records st)) (Ignores (governing st c)) → (b ≡ false) × (refused 50 (9 * records st) ≡ refused n p)
+      go true e = unfold need in let z : _≡_ {A = ℕ} 0 1 = cc in absurd (omega arith)
+      go false e = unfold need in let q : n ≡ 50 = cc in let r : p ≡ 9 * records st = cc in (refl, rw (q, r))
 
 -- what a check says of the walk
 walked-refuses : (x : Reading) (n p : ℕ) → countOf (Failed n p) [] ≡ count x → x ≡ refused n p
@@ -89,52 +121,74 @@ unfolding countOf count
 walked-means (refused n′ p) n e = let z : _≡_ {A = ℕ} 0 1 = cc in absurd (omega arith)
 walked-means (done s m) n e = let l : length s ≡ n = cc in let i : m ≡ [] = cc in (s, ap (done s) i, l)
 
-module _ (t b s : List ℕ) (e : Accepted ≡ tableVerdict t) where
-  module _ (long : 65536 < length b) where
-    pub reading-23 : messageReading t b (length s) ≡ refused 23 0
-    unfolding messageR need
-    reading-23 = reading-under t (sym e) b (length s) ∙ rw (lt-leb _ _ long)
+module _ (t st : List ℕ) (c : ℕ) (b s : List ℕ) (e : Accepted ≡ tableVerdict t) where
+  abbrev asked : Under
+  asked = under st c (length s)
 
-    pub scratch-23 : scratchAfter t b s ≡ s
+  module _ (long : 65536 < length b) where
+    pub reading-23 : messageReading t b asked ≡ refused 23 0
+    unfolding messageReading accepted need
+    reading-23 = rw (← e, lt-leb _ _ long)
+
+    pub scratch-23 : scratchAfter t st b s ≡ s
     unfolding scratchAfter accepted
     scratch-23 = rw (← e, lt-leb _ _ long)
 
   module _ (fits : length b ≤ 65536) (short : length s < length b) where
-    pub reading-21 : messageReading t b (length s) ≡ refused 21 0
-    unfolding messageR need
-    reading-21 = reading-under t (sym e) b (length s) ∙ rw (le-leb _ _ fits, lt-leb _ _ short)
+    pub reading-21 : messageReading t b asked ≡ refused 21 0
+    unfolding messageReading accepted need
+    reading-21 = rw (← e, le-leb _ _ fits, lt-leb _ _ short)
 
-    pub scratch-21 : scratchAfter t b s ≡ s
+    pub scratch-21 : scratchAfter t st b s ≡ s
     unfolding scratchAfter accepted
     scratch-21 = rw (← e, le-leb _ _ fits, lt-leb _ _ short)
 
   module _ (fits : length b ≤ 65536) (room : length b ≤ length s) where
-    walked : messageReading t b (length s) ≡ walk strict (schema t) b
-    unfolding messageR need
-    walked = reading-under t (sym e) b (length s) ∙ rw (le-leb _ _ fits, le-leb _ _ room)
+    module _ (n p : ℕ) (f : Unknown n p ≡ settingOf st c) where
+      pub reading-50 : messageReading t b asked ≡ refused n p
+      unfolding messageReading accepted need
+      reading-50 = let u = unsettled st c n p f in rw (← e, le-leb _ _ fits, le-leb _ _ room, u .0) (u .1)
 
-    pub opened : (k : List ℕ) → Layout t k → (w : Walked) → countOf w [] ≡ after 0 (count (walk strict (schema t) b)) → Opened t b (length s) k w
-    opened k l w c =
-        let exact : countOf w [] ≡ count (walk strict (schema t) b) = c ∙ after-exact (schema t) (sized t (sym e)) b fits in
-        record {
-          refuses = λ n p f. walked ∙ walked-refuses _ n p (ap (λ (v : Walked). countOf v []) (sym f) ∙ exact);
-          opens = λ n f.
-              let x = walked-means _ n (ap (λ (v : Walked). countOf v []) (sym f) ∙ exact) in
-              record { table = sym e; layout = l; small = fits; sheet = x .0; walks = x .1; means = walked ∙ x .1; long = x .2 };
-        }
+      pub scratch-50 : scratchAfter t st b s ≡ s
+      unfolding scratchAfter accepted
+      scratch-50 = rw (← e, le-leb _ _ fits, le-leb _ _ room, unsettled st c n p f .0)
 
-    pub scratch-cleared : scratchAfter t b s ≡ splice (length b) 0 (replicate (length b) 0) s
-    unfolding scratchAfter accepted
-    scratch-cleared = rw (← e, le-leb _ _ fits, le-leb _ _ room)
+    module _ (x : Ignored) (f : Ignores x ≡ settingOf st c) where
+      walked : messageReading t b asked ≡ walk x (schema t) b
+      unfolding messageR need
+      walked = let u = settled st c x f in reading-under t (sym e) asked (u .0) b ∙ rw (le-leb _ _ fits, le-leb _ _ room, u .1)
+
+      pub opened : (k : List ℕ) → Layout t k → (w : Walked) → countOf w [] ≡ after 0 (count (walk x (schema t) b)) → Opened t b asked k w
+      opened k l w d =
+          let exact : countOf w [] ≡ count (walk x (schema t) b) = d ∙ after-exact x (schema t) (sized t (sym e)) b fits in
+          record {
+            refuses = λ n p g. walked ∙ walked-refuses _ n p (ap (λ (v : Walked). countOf v []) (sym g) ∙ exact);
+            opens = λ n g.
+                let r = walked-means _ n (ap (λ (v : Walked). countOf v []) (sym g) ∙ exact) in
+                record {
+                  table = sym e;
+                  layout = l;
+                  small = fits;
+                  store = settled st c x f .0;
+                  sheet = r .0;
+                  walks = walk-laxer x lax (laxest x) (schema t) b _ _ (r .1);
+                  means = walked ∙ r .1;
+                  long = r .2;
+                };
+          }
+
+      pub scratch-cleared : scratchAfter t st b s ≡ splice (length b) 0 (replicate (length b) 0) s
+      unfolding scratchAfter accepted
+      scratch-cleared = rw (← e, le-leb _ _ fits, le-leb _ _ room, settled st c x f .0)
 
 -- THE ANSWERS, BY THE READING
 
-module _ (t b : List ℕ) (scratch : ℕ) where
-  pub verdict-accepted : (s m : List ℕ) → messageReading t b scratch ≡ done s m → messageVerdict t b scratch ≡ Accepted
+module _ (t b : List ℕ) (u : Under) where
+  pub verdict-accepted : (s m : List ℕ) → messageReading t b u ≡ done s m → messageVerdict t b u ≡ Accepted
   unfolding messageVerdict verdictOf
   verdict-accepted s m e = rw e
 
-  pub verdict-refused : (n p : ℕ) → messageReading t b scratch ≡ refused n p → messageVerdict t b scratch ≡ Refused n p
+  pub verdict-refused : (n p : ℕ) → messageReading t b u ≡ refused n p → messageVerdict t b u ≡ Refused n p
   unfolding messageVerdict verdictOf
   verdict-refused n p e = rw e
 
@@ -149,17 +203,17 @@ pub writes-it : (x : Writing) (X : List ℕ) (n : ℕ) (before left : List ℕ) 
 unfolding writtenOf roomAfter
 writes-it x X n before left e l f = (rw e (ap Bytes l), rw e f)
 
-module _ (t b : List ℕ) (scratch room : ℕ) where
-  pub sheet-refused : (n p : ℕ) → messageReading t b scratch ≡ refused n p → toSheet t b scratch room ≡ stopped n p
+module _ (t b : List ℕ) (u : Under) (room : ℕ) where
+  pub sheet-refused : (n p : ℕ) → messageReading t b u ≡ refused n p → toSheet t b u room ≡ stopped n p
   unfolding toSheet sheetIn
   sheet-refused n p e = rw e
 
-  module _ (s : List ℕ) (e : messageReading t b scratch ≡ done s []) where
-    pub sheet-46 : room < length s → toSheet t b scratch room ≡ stopped 46 0
+  module _ (s : List ℕ) (e : messageReading t b u ≡ done s []) where
+    pub sheet-46 : room < length s → toSheet t b u room ≡ stopped 46 0
     unfolding toSheet sheetIn need
     sheet-46 short = rw (e, lt-leb _ _ short)
 
-    pub sheet-written : length s ≤ room → toSheet t b scratch room ≡ wrote s [] []
+    pub sheet-written : length s ≤ room → toSheet t b u room ≡ wrote s [] []
     unfolding toSheet sheetIn need
     sheet-written fits = rw (e, le-leb _ _ fits)
 
@@ -233,10 +287,10 @@ module _ (gs : List Group) (s : List ℕ) (room : ℕ) where
 -- REWRITING
 
 -- "Every message whose sheet equals A's, A among them, has at least as many bytes as the rewritten A."
-pub known-within : (t b : List ℕ) (scratch : ℕ) (k : List ℕ) (n : ℕ) (K : Known t b scratch k n) → Within (schema t) (K .sheet) (length b)
-known-within t b scratch k n K =
-    let M = trip.message-means strict (schema t) scratch b (K .sheet) [] (sym (reading-under t (K .table) b scratch) ∙ K .means) in
-    let x = trip.read-write (schema t) (sized t (K .table)) strict b (K .sheet) M in
+pub known-within : (t b : List ℕ) (u : Under) (k : List ℕ) (n : ℕ) (K : Known t b u k n) → Within (schema t) (K .sheet) (length b)
+known-within t b u k n K =
+    let M = trip.message-means _ (schema t) (u .scratch) b (K .sheet) [] (sym (reading-under t (K .table) u (K .store) b) ∙ K .means) in
+    let x = trip.read-write (schema t) (sized t (K .table)) _ b (K .sheet) M in
     record { message = x .0; makes = x .1; most = x .2; small = K .small }
 
 pub unwritten : (x : Writing) (n p : ℕ) → Unwritten n p ≡ writtenOf x → x ≡ stopped n p
@@ -245,71 +299,71 @@ unwritten (stopped n′ p′) n p e = cc
 unwritten (wrote X D r) n p e = let z : _≡_ {A = ℕ} 0 1 = cc in absurd (omega arith)
 
 -- what message to sheet has written, as a part of the room
-pub record Shown (t b : List ℕ) (scratch : ℕ) (s before left : List ℕ) (n : ℕ) : Type 0 where
-  pub is : toSheet t b scratch (length before) ≡ wrote s [] []
+pub record Shown (t b : List ℕ) (u : Under) (s before left : List ℕ) (n : ℕ) : Type 0 where
+  pub is : toSheet t b u (length before) ≡ wrote s [] []
   pub inside : n ≤ length left
   pub here : part n 0 left ≡ s
 
-pub shown : (t b : List ℕ) (scratch : ℕ) (s : List ℕ) → messageReading t b scratch ≡ done s [] → (n : ℕ) (before left : List ℕ)
-    → (r : Written) → r ≡ Bytes n → Writes (toSheet t b scratch (length before)) r before left → Shown t b scratch s before left n
+pub shown : (t b : List ℕ) (u : Under) (s : List ℕ) → messageReading t b u ≡ done s [] → (n : ℕ) (before left : List ℕ)
+    → (r : Written) → r ≡ Bytes n → Writes (toSheet t b u (length before)) r before left → Shown t b u s before left n
 unfolding toSheet sheetIn
-shown t b scratch s e n before left r is (w, l) = go (leb (length s) (length before)) refl (sym is ∙ rw e at w) (rw e at l)
+shown t b u s e n before left r is (w, l) = go (leb (length s) (length before)) refl (sym is ∙ rw e at w) (rw e at l)
   where
     go : (c : Bool) → leb (length s) (length before) ≡ c → Bytes n ≡ writtenOf (need c (stopped 46 0) (wrote s [] [])) → left ≡ roomAfter (need c (stopped 46 0) (wrote s [] [])) before
-        → Shown t b scratch s before left n
+        → Shown t b u s before left n
     go true q w l = unfold need writtenOf roomAfter in
         let fits : length s ≤ length before = leb-true _ _ q in
         let room : 0 + length s ≤ length before = omega (arith, fits) in
         let k : n ≡ length s = cc in
         record {
-          is = sheet-written t b scratch (length before) s e fits;
+          is = sheet-written t b u (length before) s e fits;
           inside = omega (arith, k, fits, ap length l, length-splice (length s) 0 s before room refl);
           here = rw (k, l) (part-splice (length s) 0 s before room refl);
         }
     go false q w l = unfold need writtenOf in let z : _≡_ {A = ℕ} 0 1 = cc in absurd (omega arith)
 
-module _ (t b : List ℕ) (scratch room output : ℕ) where
-  pub onward-refused : (n p : ℕ) → toSheet t b scratch room ≡ stopped n p → onward (schema t) output (toSheet t b scratch room) ≡ stopped n p
+module _ (t b : List ℕ) (u : Under) (room output : ℕ) where
+  pub onward-refused : (n p : ℕ) → toSheet t b u room ≡ stopped n p → onward (schema t) output (toSheet t b u room) ≡ stopped n p
   unfolding onward
   onward-refused n p e = rw e
 
-  pub onward-written : (s : List ℕ) → toSheet t b scratch room ≡ wrote s [] [] → onward (schema t) output (toSheet t b scratch room) ≡ written (schema t) output s
+  pub onward-written : (s : List ℕ) → toSheet t b u room ≡ wrote s [] [] → onward (schema t) output (toSheet t b u room) ≡ written (schema t) output s
   unfolding onward
   onward-written s e = rw e
 
 -- READING ONE FIELD
 
-module _ (t b : List ℕ) (scratch f i : ℕ) where
-  module _ (s m : List ℕ) (e : messageReading t b scratch ≡ done s m) where
-    pub number-read : numberAnswer t b scratch f i ≡ numberAt b (itemOf (schema t) b f i)
+module _ (t b : List ℕ) (u : Under) (f i : ℕ) where
+  module _ (s m : List ℕ) (e : messageReading t b u ≡ done s m) where
+    pub number-read : numberAnswer t b u f i ≡ numberAt b (itemOf (schema t) b f i)
     unfolding numberAnswer numberUnder
-    number-read = rw (verdict-accepted t b scratch s m e)
+    number-read = rw (verdict-accepted t b u s m e)
 
-    pub part-read : partAnswer t b scratch f i ≡ partAt b (itemOf (schema t) b f i)
+    pub part-read : partAnswer t b u f i ≡ partAt b (itemOf (schema t) b f i)
     unfolding partAnswer partUnder
-    part-read = rw (verdict-accepted t b scratch s m e)
+    part-read = rw (verdict-accepted t b u s m e)
 
-    pub bytes-read : bytesVerdict t b scratch f i ≡ parts.verdictOf (partAt b (itemOf (schema t) b f i))
+    pub bytes-read : bytesVerdict t b u f i ≡ parts.verdictOf (partAt b (itemOf (schema t) b f i))
     unfolding bytesVerdict also
-    bytes-read = rw (verdict-accepted t b scratch s m e)
+    bytes-read = rw (verdict-accepted t b u s m e)
 
-    pub span-read : spanAnswer t b scratch f i ≡ spanOf (partAt b (itemOf (schema t) b f i))
+    pub span-read : spanAnswer t b u f i ≡ spanOf (partAt b (itemOf (schema t) b f i))
     unfolding spanAnswer spanUnder
-    span-read = rw (verdict-accepted t b scratch s m e)
+    span-read = rw (verdict-accepted t b u s m e)
 
-  module _ (n p : ℕ) (e : messageReading t b scratch ≡ refused n p) where
-    pub number-refused : numberAnswer t b scratch f i ≡ NotRead n p
+  module _ (n p : ℕ) (e : messageReading t b u ≡ refused n p) where
+    pub number-refused : numberAnswer t b u f i ≡ NotRead n p
     unfolding numberAnswer numberUnder
-    number-refused = rw (verdict-refused t b scratch n p e)
+    number-refused = rw (verdict-refused t b u n p e)
 
-    pub part-refused : partAnswer t b scratch f i ≡ Refusal n
+    pub part-refused : partAnswer t b u f i ≡ Refusal n
     unfolding partAnswer partUnder
-    part-refused = rw (verdict-refused t b scratch n p e)
+    part-refused = rw (verdict-refused t b u n p e)
 
-    pub bytes-refused : bytesVerdict t b scratch f i ≡ Refused n p
+    pub bytes-refused : bytesVerdict t b u f i ≡ Refused n p
     unfolding bytesVerdict also
-    bytes-refused = rw (verdict-refused t b scratch n p e)
+    bytes-refused = rw (verdict-refused t b u n p e)
 
-    pub span-refused : spanAnswer t b scratch f i ≡ NoBytes n p
+    pub span-refused : spanAnswer t b u f i ≡ NoBytes n p
     unfolding spanAnswer spanUnder
-    span-refused = rw (verdict-refused t b scratch n p e)
+    span-refused = rw (verdict-refused t b u n p e)

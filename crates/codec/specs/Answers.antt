@@ -2,7 +2,7 @@
 use mathlib.Core.Path.{_≡_}
 use mathlib.Core.Bool.{Bool, true, false, cond, _&&_}
 use mathlib.Core.List.{List, []}
-use Prim.Native.Nat.{ℕ, _≤_}
+use Prim.Native.Nat.{ℕ, _*_, _≤_}
 use lib.ListN.{length, replicate}
 use lib.Dec.{leb}
 use Rattle.wire.specs.Bytes.{splice}
@@ -14,7 +14,8 @@ use Rattle.schema.specs.Table.{schema, tableVerdict}
 use Rattle.schema.specs.Layout.{Layout}
 use Rattle.message.specs.declared.Walked.{Walked}
 use Rattle.message.specs.declared.Walked.the-variants.{Counted as Passed, Refused as Failed}
-use Rattle.message.specs.Walk.{Reading, refused, done, strict, walk, messageR}
+use Rattle.settings.specs.Store.{lax, records, sound, governing}
+use Rattle.message.specs.Walk.{Reading, refused, done, walk, fitting}
 use Rattle.reading.specs.declared.Number.{Number}
 use Rattle.reading.specs.declared.Number.the-variants.{Refused as NotRead}
 use Rattle.reading.specs.declared.Part.{Part}
@@ -38,40 +39,54 @@ unfoldable pub accepted : Verdict → Bool
 accepted Accepted = true
 accepted (Refused n p) = false
 
--- The message b under the table t, with a scratch of this length: its first fault, or its sheet.
--- "Whole message: 20, 23, 21, 22." 20 has place 0, whatever the table's own.
-unfoldable pub messageReading : List ℕ → List ℕ → ℕ → Reading
-messageReading t b scratch = need (accepted (tableVerdict t)) (refused 20 0) (messageR strict (schema t) scratch b)
+-- What a message is read under, besides the table: the settings store, whose message it is, and how long the scratch is.
+pub record Under : Type 0 where
+  pub store : List ℕ
+  pub customer : ℕ
+  pub scratch : ℕ
+
+abbrev pub under : List ℕ → ℕ → ℕ → Under
+under store customer scratch = record { store = store; customer = customer; scratch = scratch }
+
+-- The message b under the table t: its first fault, or its sheet.
+-- "Whole message: 20, 23, 21, 22." 20 has place 0, whatever the table's own. "In every message question 50 comes right after 21".
+unfoldable pub messageReading : List ℕ → List ℕ → Under → Reading
+messageReading t b u =
+    need (accepted (tableVerdict t)) (refused 20 0)
+    (fitting (u .scratch) b
+    (need (sound (u .store)) (refused 50 (9 * records (u .store)))
+    (walk (governing (u .store) (u .customer)) (schema t) b)))
 
 -- A reading's verdict.
 unfoldable pub verdictOf : Reading → Verdict
 verdictOf (refused n p) = Refused n p
 verdictOf (done s m) = Accepted
 
-unfoldable pub messageVerdict : List ℕ → List ℕ → ℕ → Verdict
-messageVerdict t b scratch = verdictOf (messageReading t b scratch)
+unfoldable pub messageVerdict : List ℕ → List ℕ → Under → Verdict
+messageVerdict t b u = verdictOf (messageReading t b u)
 
 -- The scratch s after any question about a message: "after 20, 23 and 21 untouched; after all else its first bytes, as many as the message has,
--- are zero and the rest untouched".
-unfoldable pub scratchAfter : List ℕ → List ℕ → List ℕ → List ℕ
-scratchAfter t b s =
-    cond (accepted (tableVerdict t) && (leb (length b) 65536 && leb (length b) (length s)))
+-- are zero and the rest untouched"; after 50 untouched.
+unfoldable pub scratchAfter : List ℕ → List ℕ → List ℕ → List ℕ → List ℕ
+scratchAfter t st b s =
+    cond (accepted (tableVerdict t) && (leb (length b) 65536 && (leb (length b) (length s) && sound st)))
     (splice (length b) 0 (replicate (length b) 0) s) s
 
 -- An accepted message b of the table t, whose index is k: its sheet, of n bytes.
-pub record Known (t b : List ℕ) (scratch : ℕ) (k : List ℕ) (n : ℕ) : Type 0 where
+pub record Known (t b : List ℕ) (u : Under) (k : List ℕ) (n : ℕ) : Type 0 where
   pub table : tableVerdict t ≡ Accepted
   pub layout : Layout t k
   pub small : length b ≤ 65536
+  pub store : sound (u .store) ≡ true
   pub sheet : List ℕ
-  pub walks : walk strict (schema t) b ≡ done sheet []
-  pub means : messageReading t b scratch ≡ done sheet []
+  pub walks : walk lax (schema t) b ≡ done sheet []
+  pub means : messageReading t b u ≡ done sheet []
   pub long : length sheet ≡ n
 
 -- What a question that goes on from the check's answer w learns.
-pub record Opened (t b : List ℕ) (scratch : ℕ) (k : List ℕ) (w : Walked) : Type 0 where
-  pub refuses : (n p : ℕ) → w ≡ Failed n p → messageReading t b scratch ≡ refused n p
-  pub opens : (n : ℕ) → w ≡ Passed n → Known t b scratch k n
+pub record Opened (t b : List ℕ) (u : Under) (k : List ℕ) (w : Walked) : Type 0 where
+  pub refuses : (n p : ℕ) → w ≡ Failed n p → messageReading t b u ≡ refused n p
+  pub opens : (n : ℕ) → w ≡ Passed n → Known t b u k n
 
 -- MESSAGE TO SHEET
 
@@ -90,8 +105,8 @@ abbrev pub Writes : Writing → Written → List ℕ → List ℕ → Type 0
 Writes x r before left = (r ≡ writtenOf x) × (left ≡ roomAfter x before)
 
 -- The sheet of the message b, for a room of this length.
-unfoldable pub toSheet : List ℕ → List ℕ → ℕ → ℕ → Writing
-toSheet t b scratch room = sheetIn room (messageReading t b scratch)
+unfoldable pub toSheet : List ℕ → List ℕ → Under → ℕ → Writing
+toSheet t b u room = sheetIn room (messageReading t b u)
 
 -- SHEET TO MESSAGE, AND REWRITING
 
@@ -116,8 +131,8 @@ abbrev pub rooms : List ℕ → List ℕ → List ℕ → Rooms
 rooms scratch sheet output = record { scratch = length scratch; sheet = length sheet; output = length output }
 
 -- "Rewriting checks the message, then 46, then 47."
-unfoldable pub rewriting : List ℕ → List ℕ → Rooms → Writing
-rewriting t b r = onward (schema t) (r .output) (toSheet t b (r .scratch) (r .sheet))
+unfoldable pub rewriting : List ℕ → List ℕ → List ℕ → ℕ → Rooms → Writing
+rewriting t b st c r = onward (schema t) (r .output) (toSheet t b (under st c (r .scratch)) (r .sheet))
 
 -- READING ONE FIELD
 -- "After the message's own faults: 28 no such field, 29 absent, 28 no such item, 48 other kind (each at place 0)."
@@ -127,8 +142,8 @@ numberUnder Accepted x = x
 numberUnder (Refused n p) x = NotRead n p
 
 -- Item i of field f, as a number.
-unfoldable pub numberAnswer : List ℕ → List ℕ → ℕ → ℕ → ℕ → Number
-numberAnswer t b scratch f i = numberUnder (messageVerdict t b scratch) (numberAt b (itemOf (schema t) b f i))
+unfoldable pub numberAnswer : List ℕ → List ℕ → Under → ℕ → ℕ → Number
+numberAnswer t b u f i = numberUnder (messageVerdict t b u) (numberAt b (itemOf (schema t) b f i))
 
 -- A refused message has no part; the number does not matter there, since the twin question gives the message's own.
 unfoldable pub partUnder : Verdict → Part → Part
@@ -136,11 +151,11 @@ partUnder Accepted x = x
 partUnder (Refused n p) x = Refusal n
 
 -- "On any refusal it is the empty part, and a twin question gives the number."
-unfoldable pub partAnswer : List ℕ → List ℕ → ℕ → ℕ → ℕ → Part
-partAnswer t b scratch f i = partUnder (messageVerdict t b scratch) (partAt b (itemOf (schema t) b f i))
+unfoldable pub partAnswer : List ℕ → List ℕ → Under → ℕ → ℕ → Part
+partAnswer t b u f i = partUnder (messageVerdict t b u) (partAt b (itemOf (schema t) b f i))
 
-unfoldable pub bytesVerdict : List ℕ → List ℕ → ℕ → ℕ → ℕ → Verdict
-bytesVerdict t b scratch f i = also (messageVerdict t b scratch) (part.verdictOf (partAt b (itemOf (schema t) b f i)))
+unfoldable pub bytesVerdict : List ℕ → List ℕ → Under → ℕ → ℕ → Verdict
+bytesVerdict t b u f i = also (messageVerdict t b u) (part.verdictOf (partAt b (itemOf (schema t) b f i)))
 
 -- Where those bytes lie in the message, for callers to whom a part cannot be lent.
 unfoldable pub spanOf : Part → Span
@@ -151,5 +166,5 @@ unfoldable pub spanUnder : Verdict → Part → Span
 spanUnder Accepted x = spanOf x
 spanUnder (Refused n p) x = NoBytes n p
 
-unfoldable pub spanAnswer : List ℕ → List ℕ → ℕ → ℕ → ℕ → Span
-spanAnswer t b scratch f i = spanUnder (messageVerdict t b scratch) (partAt b (itemOf (schema t) b f i))
+unfoldable pub spanAnswer : List ℕ → List ℕ → Under → ℕ → ℕ → Span
+spanAnswer t b u f i = spanUnder (messageVerdict t b u) (partAt b (itemOf (schema t) b f i))

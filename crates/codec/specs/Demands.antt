@@ -8,31 +8,33 @@ use lib.ListN.{length, take}
 use Rattle.wire.specs.Bytes.{le}
 use Rattle.schema.specs.declared.Verdict.the-variants.{Accepted, Refused}
 use Rattle.schema.specs.Table.{schema, tableVerdict}
-use Rattle.message.specs.Walk.{done, strict}
+use Rattle.settings.specs.Store.{storeVerdict, governing}
+use Rattle.message.specs.Walk.{done}
 use Rattle.message.specs.Conforms.{Conforms}
 use Rattle.reading.specs.Part.{bytesIn}
 use Rattle.reading.specs.declared.Number.the-variants.{Refused as NotRead}
 use Rattle.sheet.specs.Written.{stopped, wrote, sheetW}
 use Rattle.sheet.specs.Rewritten.{Rooms, Enough}
-use Rattle.codec.specs.Answers.{messageReading, messageVerdict, roomAfter, toSheet, toMessage, rewriting, numberAnswer, partAnswer, bytesVerdict}
+use Rattle.codec.specs.Answers.{Under, under, messageReading, messageVerdict, roomAfter, toSheet, toMessage, rewriting, numberAnswer, partAnswer, bytesVerdict}
 
 -- DEMAND 1
 -- "Any bytes may arrive as message, schema table or value sheet. Every public question answers or refuses with the first number and place that
 -- document 01's order gives": that is the contracts of src/lib.rt, which have no premise and are equations with Answers.antt.
 
 -- "A refusal hands out no field, and writes nothing but the working room that document 01 names": of any table t, message b, sheet s.
-pub record Demand1 (t b s : List ℕ) (scratch : ℕ) : Type 0 where
-  pub no-number : (n p : ℕ) → messageVerdict t b scratch ≡ Refused n p → (field item : ℕ) → numberAnswer t b scratch field item ≡ NotRead n p
-  pub no-bytes : (field item n p : ℕ) → bytesVerdict t b scratch field item ≡ Refused n p → bytesIn b (partAnswer t b scratch field item) ≡ []
-  pub no-sheet : (n p : ℕ) (room : List ℕ) → toSheet t b scratch (length room) ≡ stopped n p → roomAfter (toSheet t b scratch (length room)) room ≡ room
+pub record Demand1 (t b s : List ℕ) (u : Under) : Type 0 where
+  pub no-number : (n p : ℕ) → messageVerdict t b u ≡ Refused n p → (field item : ℕ) → numberAnswer t b u field item ≡ NotRead n p
+  pub no-bytes : (field item n p : ℕ) → bytesVerdict t b u field item ≡ Refused n p → bytesIn b (partAnswer t b u field item) ≡ []
+  pub no-sheet : (n p : ℕ) (room : List ℕ) → toSheet t b u (length room) ≡ stopped n p → roomAfter (toSheet t b u (length room)) room ≡ room
   pub no-message : (n p : ℕ) (output : List ℕ) → toMessage t s (length output) ≡ stopped n p → roomAfter (toMessage t s (length output)) output ≡ output
-  pub no-rewriting : (n p : ℕ) (rooms : Rooms) (output : List ℕ) → rewriting t b rooms ≡ stopped n p → roomAfter (rewriting t b rooms) output ≡ output
+  pub no-rewriting : (st : List ℕ) (c n p : ℕ) (rooms : Rooms) (output : List ℕ) → rewriting t b st c rooms ≡ stopped n p → roomAfter (rewriting t b st c rooms) output ≡ output
 
 -- WORDS OF THE DEMANDS 2 AND 3
 
--- The message b is accepted under the table t, with any "scratch at least as long as the message", and s is its sheet.
-abbrev pub Means : List ℕ → List ℕ → List ℕ → Type 0
-Means t b s = (scratch : ℕ) → length b ≤ scratch → messageReading t b scratch ≡ done s []
+-- The message b is accepted under the table t and the settings of customer c in the store st, with any "scratch at least as long as the message", and s is
+-- its sheet.
+abbrev pub Means : List ℕ → List ℕ → ℕ → List ℕ → List ℕ → Type 0
+Means t st c b s = (scratch : ℕ) → length b ≤ scratch → messageReading t b (under st c scratch) ≡ done s []
 
 -- "Every sheet that document 01 allows": none of the sheet faults 40 to 45, 1, 2, 25, 24, 7 and 9 to 12. The message that the writing order makes of it is X.
 abbrev pub Makes : List ℕ → List ℕ → List ℕ → Type 0
@@ -40,49 +42,54 @@ Makes t s X = sheetW (schema t) s ≡ wrote X [] []
 
 -- DEMAND 2
 
-pub record Demand2 (t : List ℕ) : Type 0 where
+-- "demand 2 needs a store that passes and leaves the ignored rules out": under the settings of customer c in the store st.
+pub record Demand2 (t st : List ℕ) (c : ℕ) : Type 0 where
   -- "Under an accepted table, and with scratch as long as the message, a message is accepted exactly when it meets all strong and weak constraints of
   -- Blink Native beta4 as document 01 reads them, and its house rules"
-  pub accepted-exactly : (b : List ℕ) (scratch : ℕ) → length b ≤ scratch → (messageVerdict t b scratch ≡ Accepted) ↔ Conforms strict (schema t) b
+  pub accepted-exactly : (b : List ℕ) (scratch : ℕ) → length b ≤ scratch → (messageVerdict t b (under st c scratch) ≡ Accepted) ↔ Conforms (governing st c) (schema t) b
   -- "and its sheet then lists its values exactly": there is one, which is the walk's, and it is written wherever there is room for it
-  pub sheet : (b : List ℕ) (scratch : ℕ) → length b ≤ scratch → messageVerdict t b scratch ≡ Accepted → (s : List ℕ) × Means t b s
-  pub sheet-written : (b s : List ℕ) → Means t b s → (scratch room : ℕ) → length b ≤ scratch → length s ≤ room → toSheet t b scratch room ≡ wrote s [] []
-  pub sheet-short : (b s : List ℕ) → Means t b s → length s ≤ 11 * length b
+  pub sheet : (b : List ℕ) (scratch : ℕ) → length b ≤ scratch → messageVerdict t b (under st c scratch) ≡ Accepted → (s : List ℕ) × Means t st c b s
+  pub sheet-written : (b s : List ℕ) → Means t st c b s → (scratch room : ℕ) → length b ≤ scratch → length s ≤ room → toSheet t b (under st c scratch) room ≡ wrote s [] []
+  pub sheet-short : (b s : List ℕ) → Means t st c b s → length s ≤ 11 * length b
   -- "Every sheet that document 01 allows is written as a message that reads back as that sheet, or refused for room."
-  pub reads-back : (s X Y r : List ℕ) (room : ℕ) → toMessage t s room ≡ wrote X Y r → (length X ≤ room) × Means t X s
+  pub reads-back : (s X Y r : List ℕ) (room : ℕ) → toMessage t s room ≡ wrote X Y r → (length X ≤ room) × Means t st c X s
   pub only-room : (s X : List ℕ) → Makes t s X → (room n p : ℕ) → toMessage t s room ≡ stopped n p → (n ≡ 47) × (p ≡ 0)
   -- "It is refused for room exactly if no accepted message with that sheet fits the room."
-  pub room-exactly : (s X : List ℕ) → Makes t s X → (room : ℕ) → (toMessage t s room ≡ stopped 47 0) ↔ ((c : List ℕ) → Means t c s → length c ≤ room → ⊥)
+  pub room-exactly : (s X : List ℕ) → Makes t s X → (room : ℕ) → (toMessage t s room ≡ stopped 47 0) ↔ ((d : List ℕ) → Means t st c d s → length d ≤ room → ⊥)
   -- every accepted message's sheet is allowed, and two different sheets are never written as the same message
-  pub allowed : (b s : List ℕ) → Means t b s → (X : List ℕ) × Makes t s X
+  pub allowed : (b s : List ℕ) → Means t st c b s → (X : List ℕ) × Makes t s X
   pub read-one-way : (s s′ X Y Y′ r r′ : List ℕ) (room room′ : ℕ) → toMessage t s room ≡ wrote X Y r → toMessage t s′ room′ ≡ wrote X Y′ r′ → s ≡ s′
 
 -- DEMAND 3
 
 -- "Take any accepted table and any messages A and B accepted under it. Each rewriting has scratch at least as long as its message, sheet room at least
 -- eleven times that long and output at least that long, whatever stood in them before." Of the message a with the sheet s:
-pub record OneForm (t a s : List ℕ) : Type 0 where
+pub record OneForm (t st : List ℕ) (c : ℕ) (a s : List ℕ) : Type 0 where
   pub form : List ℕ
   -- "Then rewriting A succeeds": it stands at the start of the output, as long as 4 + its size word
-  pub succeeds : (rooms : Rooms) → Enough rooms a → rewriting t a rooms ≡ wrote form [] []
-  pub stands : (rooms : Rooms) → Enough rooms a → (output : List ℕ) → length output ≡ rooms .output → take (length form) (roomAfter (rewriting t a rooms) output) ≡ form
+  pub succeeds : (rooms : Rooms) → Enough rooms a → rewriting t a st c rooms ≡ wrote form [] []
+  pub stands : (rooms : Rooms) → Enough rooms a → (output : List ℕ) → length output ≡ rooms .output → take (length form) (roomAfter (rewriting t a st c rooms) output) ≡ form
   pub size : length form ≡ 4 + le (take 4 form)
   -- "and gives the message that document 01's writing order makes of A's sheet."
   pub in-order : Makes t s form
   -- "The rewritten A is accepted under the same table, and its sheet equals A's."
-  pub keeps : Means t form s
+  pub keeps : Means t st c form s
+  -- request 7: "the rewritten message is accepted with nothing ignored", and under every other setting
+  pub keeps-strictly : Means t [] 0 form s
+  pub keeps-anywhere : (st′ : List ℕ) (c′ : ℕ) → storeVerdict st′ ≡ Accepted → Means t st′ c′ form s
   -- "Rewriting it succeeds too and gives the same bytes again."
-  pub again : (rooms : Rooms) → Enough rooms form → rewriting t form rooms ≡ wrote form [] []
+  pub again : (rooms : Rooms) → Enough rooms form → rewriting t form st c rooms ≡ wrote form [] []
   -- "Every message accepted under this table whose sheet equals A's, A among them, has at least as many bytes as the rewritten A."
-  pub least : (c : List ℕ) → Means t c s → length form ≤ length c
+  pub least : (d : List ℕ) → Means t st c d s → length form ≤ length d
 
-pub record Demand3 (t : List ℕ) : Type 0 where
-  pub one-form : (a s : List ℕ) → Means t a s → OneForm t a s
+-- "Under any one setting demand 3 holds as written over what that setting accepts".
+pub record Demand3 (t st : List ℕ) (c : ℕ) : Type 0 where
+  pub one-form : (a s : List ℕ) → Means t st c a s → OneForm t st c a s
   -- "A and B rewrite to equal bytes exactly when their sheets are equal."
-  pub same-form : (a b s s′ : List ℕ) (A : Means t a s) (B : Means t b s′) → (one-form a s A .form ≡ one-form b s′ B .form) ↔ (s ≡ s′)
+  pub same-form : (a b s s′ : List ℕ) (A : Means t st c a s) (B : Means t st c b s′) → (one-form a s A .form ≡ one-form b s′ B .form) ↔ (s ≡ s′)
 
--- Demand 1 of all bytes; the others of every accepted table.
+-- Demand 1 of all bytes; the others of every accepted table, and every customer of a store that passes.
 pub record Demands : Type 0 where
-  pub first : (t b s : List ℕ) (scratch : ℕ) → Demand1 t b s scratch
-  pub second : (t : List ℕ) → tableVerdict t ≡ Accepted → Demand2 t
-  pub third : (t : List ℕ) → tableVerdict t ≡ Accepted → Demand3 t
+  pub first : (t b s : List ℕ) (u : Under) → Demand1 t b s u
+  pub second : (t st : List ℕ) (c : ℕ) → tableVerdict t ≡ Accepted → storeVerdict st ≡ Accepted → Demand2 t st c
+  pub third : (t st : List ℕ) (c : ℕ) → tableVerdict t ≡ Accepted → storeVerdict st ≡ Accepted → Demand3 t st c

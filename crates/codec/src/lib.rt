@@ -4,18 +4,21 @@ use parsing::Parsed;
 pub use reading::Number;
 use reading::Part;
 pub use schema::Verdict;
+pub use settings::Ignored;
+pub use settings::Setting;
 ghost use mathlib.Core.Path.{_≡_};
-ghost use Prim.Native.Nat.{ℕ, _+_};
+ghost use Prim.Native.Nat.{_+_};
 ghost use lib.ListN.{length, replicate};
 ghost use denote.Ref.{ptr};
 ghost use Rattle.schema.specs.Table.{schema, tableVerdict};
 ghost use Rattle.schema.specs.Layout.{Layout};
 ghost use Rattle.table.specs.Index.{Checked};
+ghost use Rattle.settings.specs.Store.{storeVerdict, settingAt, addVerdict, storeAfter};
 ghost use Rattle.message.specs.declared.Walked.the-variants.{Refused as Failed};
 ghost use Rattle.sheet.specs.Written.{written};
 ghost use Rattle.sheet.specs.Rewritten.{onward};
 ghost use Rattle.reading.specs.Part.{bytesIn, startOf};
-ghost use Rattle.codec.specs.Answers.{messageVerdict, scratchAfter, Known, Opened, writtenOf, roomAfter, Writes, toSheet, toMessage, Allowed, Within, rooms, rewriting, numberAnswer, partAnswer, bytesVerdict, spanOf, spanAnswer};
+ghost use Rattle.codec.specs.Answers.{Under, under, messageVerdict, scratchAfter, Known, Opened, writtenOf, roomAfter, Writes, toSheet, toMessage, Allowed, Within, rooms, rewriting, numberAnswer, partAnswer, bytesVerdict, spanOf, spanAnswer};
 
 // How many bytes were written, or why none.
 pub enum Written {
@@ -36,13 +39,48 @@ pub fn check_table(table: &[u8]) -> Verdict
     table::check_table(table)
 }
 
+// Whether a settings store passes: 50.
+pub fn check_store(store: &[u8]) -> Verdict
+    ensures { λ r. ⌜ r ≡ storeVerdict (now (store .entry)) ⌝ }
+{
+    store::check_store(store)
+}
+
+// One version of a customer's settings: 50, 59.
+pub fn read_settings(store: &[u8], customer: u16, version: u16) -> Setting
+    ensures { λ r. ⌜ r ≡ settingAt (now (store .entry)) customer version ⌝ }
+{
+    store::read_settings(store, customer, version)
+}
+
+// A new version of a customer's settings, behind the last record: 50, 51.
+pub fn add_settings(
+    store: &mut [u8],
+    customer: u16,
+    version: u16,
+    absent: u8,
+    pads: u8,
+    unused: u8,
+) -> Verdict
+    ensures { λ r. ⌜ r ≡ addVerdict (now (store .entry)) customer version absent pads unused ⌝ }
+    ensures { λ _. ⌜ now (store .exit) ≡ storeAfter (now (store .entry)) customer version absent pads unused ⌝ }
+{
+    store::add_settings(store, customer, version, absent, pads, unused)
+}
+
 // Whether a message is accepted under a schema table, with scratch as working room.
-pub fn check_message(table: &[u8], message: &[u8], scratch: &mut [u8]) -> Verdict
-    ensures { λ r. ⌜ r ≡ messageVerdict (now (table .entry)) (now (message .entry)) (length (now (scratch .entry))) ⌝ }
-    ensures { λ _. ⌜ now (scratch .exit) ≡ scratchAfter (now (table .entry)) (now (message .entry)) (now (scratch .entry)) ⌝ }
+pub fn check_message(
+    table: &[u8],
+    store: &[u8],
+    customer: u16,
+    message: &[u8],
+    scratch: &mut [u8],
+) -> Verdict
+    ensures { λ r. ⌜ r ≡ messageVerdict (now (table .entry)) (now (message .entry)) (under (now (store .entry)) customer (length (now (scratch .entry)))) ⌝ }
+    ensures { λ _. ⌜ now (scratch .exit) ≡ scratchAfter (now (table .entry)) (now (store .entry)) (now (message .entry)) (now (scratch .entry)) ⌝ }
 {
     let mut index = [0u16; 322];
-    let walked = open_message(table, &mut index, message, scratch);
+    let walked = open_message(table, &mut index, store, customer, message, scratch);
     match walked {
         Walked::Counted { length } => Verdict::Accepted,
         Walked::Refused { number, place } => Verdict::Refused { number, place },
@@ -52,16 +90,18 @@ pub fn check_message(table: &[u8], message: &[u8], scratch: &mut [u8]) -> Verdic
 // The sheet of a message, at the start of the room `sheet`.
 pub fn message_to_sheet(
     table: &[u8],
+    store: &[u8],
+    customer: u16,
     message: &[u8],
     scratch: &mut [u8],
     sheet: &mut [u8],
 ) -> Written
-    ensures { λ r. ⌜ r ≡ writtenOf (toSheet (now (table .entry)) (now (message .entry)) (length (now (scratch .entry))) (length (now (sheet .entry)))) ⌝ }
-    ensures { λ _. ⌜ now (scratch .exit) ≡ scratchAfter (now (table .entry)) (now (message .entry)) (now (scratch .entry)) ⌝ }
-    ensures { λ _. ⌜ now (sheet .exit) ≡ roomAfter (toSheet (now (table .entry)) (now (message .entry)) (length (now (scratch .entry))) (length (now (sheet .entry)))) (now (sheet .entry)) ⌝ }
+    ensures { λ r. ⌜ r ≡ writtenOf (toSheet (now (table .entry)) (now (message .entry)) (under (now (store .entry)) customer (length (now (scratch .entry)))) (length (now (sheet .entry)))) ⌝ }
+    ensures { λ _. ⌜ now (scratch .exit) ≡ scratchAfter (now (table .entry)) (now (store .entry)) (now (message .entry)) (now (scratch .entry)) ⌝ }
+    ensures { λ _. ⌜ now (sheet .exit) ≡ roomAfter (toSheet (now (table .entry)) (now (message .entry)) (under (now (store .entry)) customer (length (now (scratch .entry)))) (length (now (sheet .entry)))) (now (sheet .entry)) ⌝ }
 {
     let mut index = [0u16; 322];
-    let walked = open_message(table, &mut index, message, scratch);
+    let walked = open_message(table, &mut index, store, customer, message, scratch);
     match walked {
         Walked::Counted { length } => sheet_of(table, &index, message, length, sheet),
         Walked::Refused { number, place } => Written::Refused { number, place },
@@ -87,18 +127,20 @@ pub fn sheet_to_message(table: &[u8], sheet: &[u8], output: &mut [u8]) -> Writte
 // A message with the same sheet, as short as can be, at the start of `output`. The sheet goes into the room `sheet`.
 pub fn rewrite(
     table: &[u8],
+    store: &[u8],
+    customer: u16,
     message: &[u8],
     scratch: &mut [u8],
     sheet: &mut [u8],
     output: &mut [u8],
 ) -> Written
-    ensures { λ r. ⌜ r ≡ writtenOf (rewriting (now (table .entry)) (now (message .entry)) (rooms (now (scratch .entry)) (now (sheet .entry)) (now (output .entry)))) ⌝ }
-    ensures { λ _. ⌜ now (scratch .exit) ≡ scratchAfter (now (table .entry)) (now (message .entry)) (now (scratch .entry)) ⌝ }
-    ensures { λ _. ⌜ now (sheet .exit) ≡ roomAfter (toSheet (now (table .entry)) (now (message .entry)) (length (now (scratch .entry))) (length (now (sheet .entry)))) (now (sheet .entry)) ⌝ }
-    ensures { λ _. ⌜ now (output .exit) ≡ roomAfter (rewriting (now (table .entry)) (now (message .entry)) (rooms (now (scratch .entry)) (now (sheet .entry)) (now (output .entry)))) (now (output .entry)) ⌝ }
+    ensures { λ r. ⌜ r ≡ writtenOf (rewriting (now (table .entry)) (now (message .entry)) (now (store .entry)) customer (rooms (now (scratch .entry)) (now (sheet .entry)) (now (output .entry)))) ⌝ }
+    ensures { λ _. ⌜ now (scratch .exit) ≡ scratchAfter (now (table .entry)) (now (store .entry)) (now (message .entry)) (now (scratch .entry)) ⌝ }
+    ensures { λ _. ⌜ now (sheet .exit) ≡ roomAfter (toSheet (now (table .entry)) (now (message .entry)) (under (now (store .entry)) customer (length (now (scratch .entry)))) (length (now (sheet .entry)))) (now (sheet .entry)) ⌝ }
+    ensures { λ _. ⌜ now (output .exit) ≡ roomAfter (rewriting (now (table .entry)) (now (message .entry)) (now (store .entry)) customer (rooms (now (scratch .entry)) (now (sheet .entry)) (now (output .entry)))) (now (output .entry)) ⌝ }
 {
     let mut index = [0u16; 322];
-    let walked = open_message(table, &mut index, message, scratch);
+    let walked = open_message(table, &mut index, store, customer, message, scratch);
     match walked {
         Walked::Counted { length } => {
             rewrite_under(table, &index, message, length, sheet, output)
@@ -110,16 +152,18 @@ pub fn rewrite(
 // Item `item` of the field `field` of the message's group, as a number.
 pub fn read_number(
     table: &[u8],
+    store: &[u8],
+    customer: u16,
     message: &[u8],
     scratch: &mut [u8],
     field: usize,
     item: usize,
 ) -> Number
-    ensures { λ r. ⌜ r ≡ numberAnswer (now (table .entry)) (now (message .entry)) (length (now (scratch .entry))) field item ⌝ }
-    ensures { λ _. ⌜ now (scratch .exit) ≡ scratchAfter (now (table .entry)) (now (message .entry)) (now (scratch .entry)) ⌝ }
+    ensures { λ r. ⌜ r ≡ numberAnswer (now (table .entry)) (now (message .entry)) (under (now (store .entry)) customer (length (now (scratch .entry)))) field item ⌝ }
+    ensures { λ _. ⌜ now (scratch .exit) ≡ scratchAfter (now (table .entry)) (now (store .entry)) (now (message .entry)) (now (scratch .entry)) ⌝ }
 {
     let mut index = [0u16; 322];
-    let walked = open_message(table, &mut index, message, scratch);
+    let walked = open_message(table, &mut index, store, customer, message, scratch);
     match walked {
         Walked::Counted { length } => reading::read_number(table, &index, message, field, item),
         Walked::Refused { number, place } => Number::Refused { number, place },
@@ -129,18 +173,20 @@ pub fn read_number(
 // The bytes of item `item` of the field `field`: a part of the message itself, empty on any refusal.
 pub fn read_bytes<'a>(
     table: &[u8],
+    store: &[u8],
+    customer: u16,
     message: &'a [u8],
     scratch: &mut [u8],
     field: usize,
     item: usize,
 ) -> &'a [u8]
-    ensures what { λ r. ⌜ now r ≡ bytesIn (now (message .entry)) (partAnswer (now (table .entry)) (now (message .entry)) (length (now (scratch .entry))) field item) ⌝ }
+    ensures what { λ r. ⌜ now r ≡ bytesIn (now (message .entry)) (partAnswer (now (table .entry)) (now (message .entry)) (under (now (store .entry)) customer (length (now (scratch .entry)))) field item) ⌝ }
     ensures block { λ r. ⌜ ptr r .0 ≡ ptr (message .entry) .0 ⌝ }
-    ensures offset { λ r. ⌜ ptr r .1 ≡ ptr (message .entry) .1 + startOf (partAnswer (now (table .entry)) (now (message .entry)) (length (now (scratch .entry))) field item) ⌝ }
-    ensures { λ _. ⌜ now (scratch .exit) ≡ scratchAfter (now (table .entry)) (now (message .entry)) (now (scratch .entry)) ⌝ }
+    ensures offset { λ r. ⌜ ptr r .1 ≡ ptr (message .entry) .1 + startOf (partAnswer (now (table .entry)) (now (message .entry)) (under (now (store .entry)) customer (length (now (scratch .entry)))) field item) ⌝ }
+    ensures { λ _. ⌜ now (scratch .exit) ≡ scratchAfter (now (table .entry)) (now (store .entry)) (now (message .entry)) (now (scratch .entry)) ⌝ }
 {
     let mut index = [0u16; 322];
-    let walked = open_message(table, &mut index, message, scratch);
+    let walked = open_message(table, &mut index, store, customer, message, scratch);
     match walked {
         Walked::Counted { length } => reading::read_bytes(table, &index, message, field, item),
         Walked::Refused { number, place } => &message[0..0],
@@ -150,16 +196,18 @@ pub fn read_bytes<'a>(
 // Whether `read_bytes` hands out a part, and if not, why.
 pub fn read_bytes_verdict(
     table: &[u8],
+    store: &[u8],
+    customer: u16,
     message: &[u8],
     scratch: &mut [u8],
     field: usize,
     item: usize,
 ) -> Verdict
-    ensures { λ r. ⌜ r ≡ bytesVerdict (now (table .entry)) (now (message .entry)) (length (now (scratch .entry))) field item ⌝ }
-    ensures { λ _. ⌜ now (scratch .exit) ≡ scratchAfter (now (table .entry)) (now (message .entry)) (now (scratch .entry)) ⌝ }
+    ensures { λ r. ⌜ r ≡ bytesVerdict (now (table .entry)) (now (message .entry)) (under (now (store .entry)) customer (length (now (scratch .entry)))) field item ⌝ }
+    ensures { λ _. ⌜ now (scratch .exit) ≡ scratchAfter (now (table .entry)) (now (store .entry)) (now (message .entry)) (now (scratch .entry)) ⌝ }
 {
     let mut index = [0u16; 322];
-    let walked = open_message(table, &mut index, message, scratch);
+    let walked = open_message(table, &mut index, store, customer, message, scratch);
     match walked {
         Walked::Counted { length } => reading::read_bytes_verdict(
             table,
@@ -175,16 +223,18 @@ pub fn read_bytes_verdict(
 // Where in the message the part of `read_bytes` lies, for callers to whom no part can be lent.
 pub fn find_bytes(
     table: &[u8],
+    store: &[u8],
+    customer: u16,
     message: &[u8],
     scratch: &mut [u8],
     field: usize,
     item: usize,
 ) -> Span
-    ensures { λ r. ⌜ r ≡ spanAnswer (now (table .entry)) (now (message .entry)) (length (now (scratch .entry))) field item ⌝ }
-    ensures { λ _. ⌜ now (scratch .exit) ≡ scratchAfter (now (table .entry)) (now (message .entry)) (now (scratch .entry)) ⌝ }
+    ensures { λ r. ⌜ r ≡ spanAnswer (now (table .entry)) (now (message .entry)) (under (now (store .entry)) customer (length (now (scratch .entry)))) field item ⌝ }
+    ensures { λ _. ⌜ now (scratch .exit) ≡ scratchAfter (now (table .entry)) (now (store .entry)) (now (message .entry)) (now (scratch .entry)) ⌝ }
 {
     let mut index = [0u16; 322];
-    let walked = open_message(table, &mut index, message, scratch);
+    let walked = open_message(table, &mut index, store, customer, message, scratch);
     match walked {
         Walked::Counted { length } => {
             span_of(reading::find_part(table, &index, message, field, item))
@@ -203,14 +253,21 @@ fn span_of(part: Part) -> Span
 }
 
 // Checks the table and the message; where both pass, the index is the table's.
-fn open_message(table: &[u8], index: &mut [u16], message: &[u8], scratch: &mut [u8]) -> Walked
+fn open_message(
+    table: &[u8],
+    index: &mut [u16],
+    store: &[u8],
+    customer: u16,
+    message: &[u8],
+    scratch: &mut [u8],
+) -> Walked
     requires { ⌜ now index ≡ replicate 322 0 ⌝ }
-    ensures { λ r. ⌜ Opened (now (table .entry)) (now (message .entry)) (length (now (scratch .entry))) (now (index .exit)) r ⌝ }
-    ensures { λ _. ⌜ now (scratch .exit) ≡ scratchAfter (now (table .entry)) (now (message .entry)) (now (scratch .entry)) ⌝ }
+    ensures { λ r. ⌜ Opened (now (table .entry)) (now (message .entry)) (under (now (store .entry)) customer (length (now (scratch .entry)))) (now (index .exit)) r ⌝ }
+    ensures { λ _. ⌜ now (scratch .exit) ≡ scratchAfter (now (table .entry)) (now (store .entry)) (now (message .entry)) (now (scratch .entry)) ⌝ }
 {
     let v = table::index_table(table, index);
     match v {
-        Verdict::Accepted => open_under(table, index, message, scratch),
+        Verdict::Accepted => open_under(table, index, store, customer, message, scratch),
         Verdict::Refused { number, place } => refused(20),
     }
 }
@@ -221,11 +278,18 @@ fn refused(number: u8) -> Walked
     Walked::Refused { number, place: 0 }
 }
 
-// "23, 21, 22", and the walk, under an accepted table.
-fn open_under(table: &[u8], index: &[u16], message: &[u8], scratch: &mut [u8]) -> Walked
+// "23, 21, 50, 22", and the walk, under an accepted table.
+fn open_under(
+    table: &[u8],
+    index: &[u16],
+    store: &[u8],
+    customer: u16,
+    message: &[u8],
+    scratch: &mut [u8],
+) -> Walked
     requires { ⌜ Checked (now table) (now index) Verdict.Accepted ⌝ }
-    ensures { λ r. ⌜ Opened (now (table .entry)) (now (message .entry)) (length (now (scratch .entry))) (now (index .entry)) r ⌝ }
-    ensures { λ _. ⌜ now (scratch .exit) ≡ scratchAfter (now (table .entry)) (now (message .entry)) (now (scratch .entry)) ⌝ }
+    ensures { λ r. ⌜ Opened (now (table .entry)) (now (message .entry)) (under (now (store .entry)) customer (length (now (scratch .entry)))) (now (index .entry)) r ⌝ }
+    ensures { λ _. ⌜ now (scratch .exit) ≡ scratchAfter (now (table .entry)) (now (store .entry)) (now (message .entry)) (now (scratch .entry)) ⌝ }
 {
     if 65536 < message.len() {
         return refused(23);
@@ -233,13 +297,17 @@ fn open_under(table: &[u8], index: &[u16], message: &[u8], scratch: &mut [u8]) -
     if scratch.len() < message.len() {
         return refused(21);
     }
-    message::check(table, index, message, scratch)
+    let setting = store::find_settings(store, customer);
+    match setting {
+        Setting::Ignores { ignored } => message::check(table, index, message, ignored, scratch),
+        Setting::Refused { number, place } => Walked::Refused { number, place },
+    }
 }
 
 // The sheet, of `size` bytes, of an accepted message: 46 where it does not fit the room.
 fn sheet_of(table: &[u8], index: &[u16], message: &[u8], size: usize, sheet: &mut [u8]) -> Written
-    requires { ⌜ ((scratch : ℕ) × Known (now table) (now message) scratch (now index) size) ⌝ }
-    ensures { λ r. ⌜ ((scratch : ℕ) → Known (now (table .entry)) (now (message .entry)) scratch (now (index .entry)) size → Writes (toSheet (now (table .entry)) (now (message .entry)) scratch (length (now (sheet .entry)))) r (now (sheet .entry)) (now (sheet .exit))) ⌝ }
+    requires { ⌜ ((u : Under) × Known (now table) (now message) u (now index) size) ⌝ }
+    ensures { λ r. ⌜ ((u : Under) → Known (now (table .entry)) (now (message .entry)) u (now (index .entry)) size → Writes (toSheet (now (table .entry)) (now (message .entry)) u (length (now (sheet .entry)))) r (now (sheet .entry)) (now (sheet .exit))) ⌝ }
 {
     if sheet.len() < size {
         return Written::Refused {
@@ -294,8 +362,8 @@ fn rewrite_under(
     sheet: &mut [u8],
     output: &mut [u8],
 ) -> Written
-    requires { ⌜ ((scratch : ℕ) × Known (now table) (now message) scratch (now index) size) ⌝ }
-    ensures { λ r. ⌜ ((scratch : ℕ) → Known (now (table .entry)) (now (message .entry)) scratch (now (index .entry)) size → (Writes (onward (schema (now (table .entry))) (length (now (output .entry))) (toSheet (now (table .entry)) (now (message .entry)) scratch (length (now (sheet .entry))))) r (now (output .entry)) (now (output .exit))) × (now (sheet .exit) ≡ roomAfter (toSheet (now (table .entry)) (now (message .entry)) scratch (length (now (sheet .entry)))) (now (sheet .entry)))) ⌝ }
+    requires { ⌜ ((u : Under) × Known (now table) (now message) u (now index) size) ⌝ }
+    ensures { λ r. ⌜ ((u : Under) → Known (now (table .entry)) (now (message .entry)) u (now (index .entry)) size → (Writes (onward (schema (now (table .entry))) (length (now (output .entry))) (toSheet (now (table .entry)) (now (message .entry)) u (length (now (sheet .entry))))) r (now (output .entry)) (now (output .exit))) × (now (sheet .exit) ≡ roomAfter (toSheet (now (table .entry)) (now (message .entry)) u (length (now (sheet .entry)))) (now (sheet .entry)))) ⌝ }
 {
     let shown = sheet_of(table, index, message, size, sheet);
     match shown {

@@ -9,10 +9,26 @@ use record::Record;
 // A file has fewer records than this.
 const MOST: usize = 100000;
 
-// Whether the file goes on, and the length of the table in force.
+// What is in force: the lengths of the table and of the settings store, and whose messages are asked about.
+struct Held {
+    table: usize,
+    store: usize,
+    customer: u16,
+}
+
+// Whether the file goes on, and what is in force then.
 struct Step {
     more: bool,
-    table: usize,
+    held: Held,
+}
+
+// The lowest bytes of a record's number.
+fn low_two(x: u64) -> u16 {
+    (x % 65536) as u16
+}
+
+fn low_one(x: u64) -> u8 {
+    (x % 256) as u8
 }
 
 fn answer_table(table: &[u8], length: usize) {
@@ -22,16 +38,23 @@ fn answer_table(table: &[u8], length: usize) {
     }
 }
 
-fn answer_check(table: &[u8], message: &[u8], scratch: &mut [u8]) {
+fn answer_check(table: &[u8], store: &[u8], customer: u16, message: &[u8], scratch: &mut [u8]) {
     room::fill(scratch);
-    print::verdict(codec::check_message(table, message, scratch));
+    print::verdict(codec::check_message(table, store, customer, message, scratch));
     print::sum(scratch);
 }
 
-fn answer_sheet(table: &[u8], message: &[u8], scratch: &mut [u8], sheet: &mut [u8]) {
+fn answer_sheet(
+    table: &[u8],
+    store: &[u8],
+    customer: u16,
+    message: &[u8],
+    scratch: &mut [u8],
+    sheet: &mut [u8],
+) {
     room::fill(scratch);
     room::fill(sheet);
-    print::written(codec::message_to_sheet(table, message, scratch, sheet));
+    print::written(codec::message_to_sheet(table, store, customer, message, scratch, sheet));
     print::sum(scratch);
     print::sum(sheet);
 }
@@ -44,6 +67,8 @@ fn answer_write(table: &[u8], sheet: &[u8], output: &mut [u8]) {
 
 fn answer_rewrite(
     table: &[u8],
+    store: &[u8],
+    customer: u16,
     message: &[u8],
     scratch: &mut [u8],
     sheet: &mut [u8],
@@ -52,46 +77,91 @@ fn answer_rewrite(
     room::fill(scratch);
     room::fill(sheet);
     room::fill(output);
-    print::written(codec::rewrite(table, message, scratch, sheet, output));
+    print::written(codec::rewrite(table, store, customer, message, scratch, sheet, output));
     print::sum(scratch);
     print::sum(sheet);
     print::sum(output);
 }
 
-fn answer_number(table: &[u8], message: &[u8], scratch: &mut [u8], field: usize, item: usize) {
+fn answer_number(
+    table: &[u8],
+    store: &[u8],
+    customer: u16,
+    message: &[u8],
+    scratch: &mut [u8],
+    field: usize,
+    item: usize,
+) {
     room::fill(scratch);
-    print::answer(codec::read_number(table, message, scratch, field, item));
+    print::answer(codec::read_number(table, store, customer, message, scratch, field, item));
     print::sum(scratch);
 }
 
 // The part, its twin question, and where it lies.
-fn answer_bytes(table: &[u8], message: &[u8], scratch: &mut [u8], field: usize, item: usize) {
+fn answer_bytes(
+    table: &[u8],
+    store: &[u8],
+    customer: u16,
+    message: &[u8],
+    scratch: &mut [u8],
+    field: usize,
+    item: usize,
+) {
     room::fill(scratch);
-    print::verdict(codec::read_bytes_verdict(table, message, scratch, field, item));
+    print::verdict(codec::read_bytes_verdict(
+        table,
+        store,
+        customer,
+        message,
+        scratch,
+        field,
+        item,
+    ));
     room::fill(scratch);
-    print::span(codec::find_bytes(table, message, scratch, field, item));
+    print::span(codec::find_bytes(table, store, customer, message, scratch, field, item));
     room::fill(scratch);
-    print::sum(codec::read_bytes(table, message, scratch, field, item));
+    print::sum(codec::read_bytes(table, store, customer, message, scratch, field, item));
     print::sum(scratch);
+}
+
+// The store that is lent is the input itself.
+fn answer_addition(store: &mut [u8], customer: u16, item: u64) {
+    let v = codec::add_settings(
+        store,
+        customer,
+        low_two(item),
+        low_one(item / 65536),
+        low_one(item / 16777216),
+        low_one(item / 4294967296),
+    );
+    print::verdict(v);
+    print::sum(store);
 }
 
 // The question itself, in rooms of the lengths that the record asks for.
 fn ask(
     r: Record,
     table: &[u8],
-    input: &[u8],
+    store: &[u8],
+    customer: u16,
+    input: &mut [u8],
     scratch: &mut [u8],
     sheet: &mut [u8],
     output: &mut [u8],
 ) {
     let kind = r.kind;
+    let field = r.field as usize;
+    let item = r.item as usize;
     match kind {
-        2 => answer_check(table, input, scratch),
-        3 => answer_sheet(table, input, scratch, sheet),
+        2 => answer_check(table, store, customer, input, scratch),
+        3 => answer_sheet(table, store, customer, input, scratch, sheet),
         4 => answer_write(table, input, output),
-        5 => answer_rewrite(table, input, scratch, sheet, output),
-        6 => answer_number(table, input, scratch, r.field as usize, r.item as usize),
-        _ => answer_bytes(table, input, scratch, r.field as usize, r.item as usize),
+        5 => answer_rewrite(table, store, customer, input, scratch, sheet, output),
+        6 => answer_number(table, store, customer, input, scratch, field, item),
+        7 => answer_bytes(table, store, customer, input, scratch, field, item),
+        9 => print::verdict(codec::check_store(input)),
+        10 => print::setting(codec::read_settings(input, low_two(r.field), low_two(r.item))),
+        _ => answer_addition(input, low_two(r.field), r.item),
     }
 }
 
@@ -99,8 +169,9 @@ fn ask(
 fn answer(
     r: Record,
     table: &[u8],
-    held: usize,
-    input: &[u8],
+    store: &[u8],
+    customer: u16,
+    input: &mut [u8],
     scratch: &mut [u8],
     sheet: &mut [u8],
     output: &mut [u8],
@@ -109,19 +180,18 @@ fn answer(
     let lent = r.scratch;
     let room = r.sheet;
     let written = r.output;
-    if table.len() < held || input.len() < length {
+    if input.len() < length || scratch.len() < lent {
         return;
     }
-    if scratch.len() < lent || sheet.len() < room {
-        return;
-    }
-    if output.len() < written {
+    if sheet.len() < room || output.len() < written {
         return;
     }
     ask(
         r,
-        &table[0..held],
-        &input[0..length],
+        table,
+        store,
+        customer,
+        &mut input[0..length],
         &mut scratch[0..lent],
         &mut sheet[0..room],
         &mut output[0..written],
@@ -129,63 +199,98 @@ fn answer(
     print::end_line();
 }
 
-// Takes one record: a table to hold, or a question to answer.
+// Under what is in force.
+fn answer_under(
+    r: Record,
+    table: &[u8],
+    store: &[u8],
+    held: Held,
+    input: &mut [u8],
+    scratch: &mut [u8],
+    sheet: &mut [u8],
+    output: &mut [u8],
+) {
+    let tabled = held.table;
+    let stored = held.store;
+    if table.len() < tabled || store.len() < stored {
+        return;
+    }
+    answer(
+        r,
+        &table[0..tabled],
+        &store[0..stored],
+        held.customer,
+        input,
+        scratch,
+        sheet,
+        output,
+    );
+}
+
+// Takes one record: a table or a store to hold, or a question to answer.
 fn take(
     fd: i32,
     table: &mut [u8; 65568],
-    held: usize,
+    store: &mut [u8; 65568],
+    held: Held,
     input: &mut [u8; 1048592],
     scratch: &mut [u8; 65600],
     sheet: &mut [u8; 786432],
     output: &mut [u8; 65600],
 ) -> Step {
     let r = record::next(fd);
+    let mut next = held;
     if r.last {
         return Step {
             more: false,
-            table: held,
+            held: next,
         };
     }
     let kind = r.kind;
     match kind {
         0 => {
             record::load(fd, table, r.stored, r.length);
-            Step {
-                more: true,
-                table: r.length,
-            }
+            next.table = r.length;
         }
         1 => {
             record::load(fd, table, r.stored, r.length);
+            next.table = r.length;
             answer_table(table, r.length);
-            Step {
-                more: true,
-                table: r.length,
-            }
+        }
+        8 => {
+            record::load(fd, store, r.stored, r.length);
+            next.store = r.length;
+            next.customer = low_two(r.field);
         }
         _ => {
             record::load(fd, input, r.stored, r.length);
-            answer(r, table, held, input, scratch, sheet, output);
-            Step {
-                more: true,
-                table: held,
-            }
+            answer_under(r, table, store, held, input, scratch, sheet, output);
         }
+    }
+    Step {
+        more: true,
+        held: next,
     }
 }
 
 fn answer_all(fd: i32) {
     let mut table = [0u8; 65568];
+    let mut store = [0u8; 65568];
     let mut input = [0u8; 1048592];
     let mut scratch = [0u8; 65600];
     let mut sheet = [0u8; 786432];
     let mut output = [0u8; 65600];
-    let mut held = 0;
+    let mut held = Held {
+        table: 0,
+        store: 0,
+        customer: 0,
+    };
     let mut left = MOST;
     while 0 < left {
         let s = take(
             fd,
             &mut table,
+            &mut store,
             held,
             &mut input,
             &mut scratch,
@@ -195,7 +300,7 @@ fn answer_all(fd: i32) {
         if !s.more {
             return;
         }
-        held = s.table;
+        held = s.held;
         left -= 1;
     }
 }
@@ -218,4 +323,6 @@ fn main() {
     answer_file(b"rewrite.vec");
     answer_file(b"number.vec");
     answer_file(b"bytes.vec");
+    answer_file(b"store.vec");
+    answer_file(b"settings.vec");
 }

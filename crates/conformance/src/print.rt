@@ -1,5 +1,6 @@
 // Answers as text.
 use codec::Number;
+use codec::Setting;
 use codec::Span;
 use codec::Verdict;
 use codec::Written;
@@ -37,6 +38,31 @@ fn three(number: usize, place: usize, length: usize) {
     fault(number, place);
     space();
     self::number(length);
+}
+
+// The flags of a setting, all 0 on a refusal.
+pub fn setting(s: Setting) {
+    match s {
+        Setting::Ignores { ignored } => {
+            fault(0, 0);
+            flags(ignored.absent, ignored.pads, ignored.unused);
+        }
+        Setting::Refused { number, place } => {
+            fault(number as usize, place);
+            flags(false, false, false);
+        }
+    }
+}
+
+fn flags(absent: bool, pads: bool, unused: bool) {
+    flag(absent);
+    flag(pads);
+    flag(unused);
+}
+
+fn flag(set: bool) {
+    space();
+    number(set as usize);
 }
 
 // Where bytes lie in the message, and how many they are: after a space, and both 0 on a refusal.

@@ -11,7 +11,8 @@ use lib.Dec.{leb}
 use borrow.Author.Tests.{eq-eqb, le-leb, leb-true, eqb-true}
 use Rattle.schema.specs.Schema.{Group, width, find}
 use Rattle.message.specs.Marks.{padsZero}
-use Rattle.message.specs.Walk.{Ignored, Here, here, Reading, refused, done, word, padded, bodyR, headR, groupR, walk, messageR}
+use Rattle.settings.specs.declared.Ignored.{Ignored}
+use Rattle.message.specs.Walk.{Here, here, Reading, refused, done, word, padded, bodyR, headR, groupR, walk, messageR}
 use Rattle.message.specs.Conforms.{Value, number, presence, inlineText, text, list, group, extension, extending, valuesOf, areaOf, size, typeId, Extent, extentOf, extents, Apart, Pad, Good, Each, Allowed, GroupConforms, ConformsAt, Conforms}
 use Rattle.message.specs.Proper.{Proper}
 use Rattle.message.proofs.Tests.{or-unless, unless-or}

@@ -6,19 +6,20 @@ use native.Mathlib.Omega.{arith}
 use native.Mathlib.Nat.{zero-add, mod-eq-of-lt}
 use lib.ListN.{length}
 use Rattle.schema.specs.Schema.{Group}
-use Rattle.message.specs.Walk.{Reading, refused, done, strict, walk}
+use Rattle.settings.specs.declared.Ignored.{Ignored}
+use Rattle.message.specs.Walk.{Reading, refused, done, walk}
 use Rattle.message.specs.Count.{count, counted}
 use Rattle.message.specs.Check.{after}
 use Rattle.message.specs.Proper.{Sized}
 use Rattle.message.proofs.Eleven.{eleven}
 
-pub after-exact : (gs : List Group) → Sized gs → (b : List ℕ) → length b ≤ 65536 → after 0 (count (walk strict gs b)) ≡ count (walk strict gs b)
+pub after-exact : (y : Ignored) (gs : List Group) → Sized gs → (b : List ℕ) → length b ≤ 65536 → after 0 (count (walk y gs b)) ≡ count (walk y gs b)
 unfolding after count
-after-exact gs ok b h = go (walk strict gs b) refl
+after-exact y gs ok b h = go (walk y gs b) refl
   where
-    go : (r : Reading) → walk strict gs b ≡ r → after 0 (count r) ≡ count r
+    go : (r : Reading) → walk y gs b ≡ r → after 0 (count r) ≡ count r
     go (refused n p) e = refl
     go (done s m) e =
-        let l = eleven gs ok strict b s m e in
+        let l = eleven gs ok y b s m e in
         let q : (0 + length s) % 2 ^ 64 ≡ length s = rw zero-add (mod-eq-of-lt (omega (arith, l, h))) in
         ap (λ (k : ℕ). counted k m) q

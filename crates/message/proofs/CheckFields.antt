@@ -20,7 +20,8 @@ use Rattle.schema.proofs.Groups.{placed-fields}
 use Rattle.schema.proofs.Types.{width-one, width-optional, width-required}
 use Rattle.schema.proofs.Depth.{and-both, shallow-fields, width-fields}
 use Rattle.message.specs.Sheet.{ST, kindMark, fieldMark}
-use Rattle.message.specs.Walk.{Here, here, strict, Reader, Inner, byte, locate, indirectR, innerR, itemsR, listR, textR, kindR, markedR, optionalR, valueR, fieldR, fieldsR, staticR}
+use Rattle.settings.specs.declared.Ignored.{Ignored}
+use Rattle.message.specs.Walk.{Here, here, Reader, Inner, byte, locate, indirectR, innerR, itemsR, listR, textR, kindR, markedR, optionalR, valueR, fieldR, fieldsR, staticR}
 use Rattle.message.specs.Count.{Count, failed, counted, count, more, andThen}
 use Rattle.message.specs.Check.{countBy, after, placeBy, Lands, itemR, markedValueR, Ready}
 use Rattle.message.specs.declared.Step.{Step}
@@ -70,18 +71,18 @@ pub plain-wide : (sw : ℕ → ℕ) (f : Field) (n w : ℕ) → f ≡ plainField
 plain-wide sw f n w e = ap (fieldWidth sw) e ∙ plain-field-wide sw n w
 
 -- a required value without a test
-module _ (I : Inner) (sw : ℕ → ℕ) (S : ℕ → Reader) (es : List (List ℕ)) (t b : List ℕ) (base area n i q at k : ℕ) (m : List ℕ) where
-  plain-field-counts : (x w : ℕ) → at + w ≤ length b → count (fieldR I sw S (plainField x w) (here strict b base area) at m) ≡ counted (2 + w) m
+module _ (y : Ignored) (I : Inner) (sw : ℕ → ℕ) (S : ℕ → Reader) (es : List (List ℕ)) (t b : List ℕ) (base area n i q at k : ℕ) (m : List ℕ) where
+  plain-field-counts : (x w : ℕ) → at + w ≤ length b → count (fieldR I sw S (plainField x w) (here y b base area) at m) ≡ counted (2 + w) m
   unfolding fieldR valueR fieldMark
-  plain-field-counts x w l = plain-counts I S b base area at m w l
+  plain-field-counts x w l = plain-counts y I S b base area at m w l
 
   pub fields-plain : (x w j : ℕ) → i < n → fieldAt es (drop q t) ≡ plainField x w → at + w ≤ length b → j ≡ (k + (2 + w)) % 2 ^ 64
-      → after k (count (fieldsR I sw S (fieldsAt es (n - i) (drop q t)) (here strict b base area) at m))
-      ≡ after j (count (fieldsR I sw S (fieldsAt es (n - (i + 1)) (drop (q + 16) t)) (here strict b base area) (at + w) m))
+      → after k (count (fieldsR I sw S (fieldsAt es (n - i) (drop q t)) (here y b base area) at m))
+      ≡ after j (count (fieldsR I sw S (fieldsAt es (n - (i + 1)) (drop (q + 16) t)) (here y b base area) (at + w) m))
   unfolding andThen
   fields-plain x w j l e f g =
-      let c : count (fieldR I sw S (fieldAt es (drop q t)) (here strict b base area) at m) ≡ counted (2 + w) m = rw e (plain-field-counts x w f) in
-      rw (fields-turn I sw S es t (here strict b base area) n i q at k m l, c, plain-wide sw (fieldAt es (drop q t)) x w e) (goes-on k (2 + w) j _ _ refl g)
+      let c : count (fieldR I sw S (fieldAt es (drop q t)) (here y b base area) at m) ≡ counted (2 + w) m = rw e (plain-field-counts x w f) in
+      rw (fields-turn I sw S es t (here y b base area) n i q at k m l, c, plain-wide sw (fieldAt es (drop q t)) x w e) (goes-on k (2 + w) j _ _ refl g)
 
 -- ONE FIELD
 
@@ -167,21 +168,21 @@ module _ (w : ℕ) (R : Reader) (h : Here) (n i at k : ℕ) (m : List ℕ) where
 pub items-left : (n i w : ℕ) → i < n → (n - i) * w ≡ w + (n - (i + 1)) * w
 items-left n i w h = let e : n - i ≡ 1 + (n - (i + 1)) = omega arith in rw e (omega (arith, add-mul 1 (n - (i + 1)) w))
 
-module _ (I : Inner) (S : ℕ → Reader) (b : List ℕ) (base area : ℕ) (m : List ℕ) where
-  plain-items : (w n at : ℕ) → at + n * w ≤ length b → count (itemsR w (itemR I S (plain w any)) n (here strict b base area) at m) ≡ counted (n * (2 + w)) m
+module _ (y : Ignored) (I : Inner) (S : ℕ → Reader) (b : List ℕ) (base area : ℕ) (m : List ℕ) where
+  plain-items : (w n at : ℕ) → at + n * w ≤ length b → count (itemsR w (itemR I S (plain w any)) n (here y b base area) at m) ≡ counted (n * (2 + w)) m
   unfolding itemsR andThen more
-  plain-items w zero at l = count-none (here strict b base area) at m ∙ ap (λ (j : ℕ). counted j m) (let z : 0 ≡ 0 * (2 + w) = omega arith in z)
+  plain-items w zero at l = count-none (here y b base area) at m ∙ ap (λ (j : ℕ). counted j m) (let z : 0 ≡ 0 * (2 + w) = omega arith in z)
   plain-items w (suc n) at l =
       let x : suc n * w ≡ w + n * w = omega (arith, add-mul 1 n w) in
-      let y : 2 + w + n * (2 + w) ≡ suc n * (2 + w) = omega (arith, add-mul 1 n (2 + w)) in
-      count-items (here strict b base area) at m w (itemR I S (plain w any)) n
-      ∙ rw (plain-counts I S b base area at m w (omega (arith, x, l)), plain-items w n (at + w) (omega (arith, x, l))) (ap (λ (j : ℕ). counted j m) y)
+      let z : 2 + w + n * (2 + w) ≡ suc n * (2 + w) = omega (arith, add-mul 1 n (2 + w)) in
+      count-items (here y b base area) at m w (itemR I S (plain w any)) n
+      ∙ rw (plain-counts y I S b base area at m w (omega (arith, x, l)), plain-items w n (at + w) (omega (arith, x, l))) (ap (λ (j : ℕ). counted j m) z)
 
   -- KINDS, AS THE CODE SEES THEM
 
   module _ (es : List (List ℕ)) (kind : FieldKind) where
     pub items-plain : (sw : ℕ → ℕ) (c w n at : ℕ) → kind ≡ Plain c → w ≡ kindWidth sw (kindFrom es kind) → at + n * w ≤ length b
-        → count (itemsR w (itemR I S (kindFrom es kind)) n (here strict b base area) at m) ≡ counted (n * (2 + c)) m
+        → count (itemsR w (itemR I S (kindFrom es kind)) n (here y b base area) at m) ≡ counted (n * (2 + c)) m
     unfolding kindFrom kindWidth
     items-plain sw c w n at e iw l =
         let q : w ≡ c = iw ∙ rw e in
@@ -189,39 +190,39 @@ module _ (I : Inner) (S : ℕ → Reader) (b : List ℕ) (base area : ℕ) (m : 
         rw (q, e) (plain-items c n at l′)
 
     pub items-indirect : (sw : ℕ → ℕ) (w n at : ℕ) → w ≡ kindWidth sw (kindFrom es kind) → (u : Bool) → kind ≡ Indirect u
-        → itemsR w (itemR I S (kindFrom es kind)) n (here strict b base area) at m ≡ itemsR 4 (markedR ST (indirectR 26 1 (textR u))) n (here strict b base area) at m
+        → itemsR w (itemR I S (kindFrom es kind)) n (here y b base area) at m ≡ itemsR 4 (markedR ST (indirectR 26 1 (textR u))) n (here y b base area) at m
     unfolding kindFrom kindWidth kindMark kindR
     items-indirect sw w n at iw u e = let q : w ≡ 4 = iw ∙ rw e in rw (q, e)
 
     pub items-number : (w v n at : ℕ) → w ≡ v → (x : Tested) → kind ≡ Number x
-        → itemsR w (itemR I S (kindFrom es kind)) n (here strict b base area) at m ≡ itemsR v (itemR I S (testedKind es x)) n (here strict b base area) at m
+        → itemsR w (itemR I S (kindFrom es kind)) n (here y b base area) at m ≡ itemsR v (itemR I S (testedKind es x)) n (here y b base area) at m
     unfolding kindFrom
     items-number w v n at q x e = rw (q, e)
 
     module _ (at : ℕ) where
-      pub item-plain : (sw : ℕ → ℕ) (c : ℕ) → kind ≡ Plain c → at + kindWidth sw (kindFrom es kind) ≤ length b → count (itemR I S (kindFrom es kind) (here strict b base area) at m) ≡ counted (2 + c) m
+      pub item-plain : (sw : ℕ → ℕ) (c : ℕ) → kind ≡ Plain c → at + kindWidth sw (kindFrom es kind) ≤ length b → count (itemR I S (kindFrom es kind) (here y b base area) at m) ≡ counted (2 + c) m
       unfolding kindFrom kindWidth
-      item-plain sw c e l = let l′ = rw e at l in rw e (plain-counts I S b base area at m c l′)
+      item-plain sw c e l = let l′ = rw e at l in rw e (plain-counts y I S b base area at m c l′)
 
-      pub item-number : (x : Tested) → kind ≡ Number x → itemR I S (kindFrom es kind) (here strict b base area) at m ≡ itemR I S (testedKind es x) (here strict b base area) at m
+      pub item-number : (x : Tested) → kind ≡ Number x → itemR I S (kindFrom es kind) (here y b base area) at m ≡ itemR I S (testedKind es x) (here y b base area) at m
       unfolding kindFrom
       item-number x e = rw e
 
-      pub item-inline : (u : Bool) (c : ℕ) → kind ≡ Inline u c → itemR I S (kindFrom es kind) (here strict b base area) at m ≡ itemR I S (inline u c) (here strict b base area) at m
+      pub item-inline : (u : Bool) (c : ℕ) → kind ≡ Inline u c → itemR I S (kindFrom es kind) (here y b base area) at m ≡ itemR I S (inline u c) (here y b base area) at m
       unfolding kindFrom
       item-inline u c e = rw e
 
-      pub item-indirect : (u : Bool) → kind ≡ Indirect u → itemR I S (kindFrom es kind) (here strict b base area) at m ≡ markedR ST (indirectR 26 1 (textR u)) (here strict b base area) at m
+      pub item-indirect : (u : Bool) → kind ≡ Indirect u → itemR I S (kindFrom es kind) (here y b base area) at m ≡ markedR ST (indirectR 26 1 (textR u)) (here y b base area) at m
       unfolding kindFrom kindMark kindR
       item-indirect u e = rw e
 
-      pub item-static : (g : ℕ) → kind ≡ Static g → count (itemR I S (kindFrom es kind) (here strict b base area) at m) ≡ more 2 (count (S g (here strict b base area) at m))
+      pub item-static : (g : ℕ) → kind ≡ Static g → count (itemR I S (kindFrom es kind) (here y b base area) at m) ≡ more 2 (count (S g (here y b base area) at m))
       unfolding kindFrom kindR
-      item-static g e = rw e (count-marked (here strict b base area) at m _ (S g))
+      item-static g e = rw e (count-marked (here y b base area) at m _ (S g))
 
-      pub item-dynamic : (a : ℕ) → kind ≡ Dynamic a → count (itemR I S (kindFrom es kind) (here strict b base area) at m) ≡ more 2 (count (indirectR 26 1 (innerR I a) (here strict b base area) at m))
+      pub item-dynamic : (a : ℕ) → kind ≡ Dynamic a → count (itemR I S (kindFrom es kind) (here y b base area) at m) ≡ more 2 (count (indirectR 26 1 (innerR I a) (here y b base area) at m))
       unfolding kindFrom kindR
-      item-dynamic a e = rw e (count-marked (here strict b base area) at m _ (indirectR 26 1 (innerR I a)))
+      item-dynamic a e = rw e (count-marked (here y b base area) at m _ (indirectR 26 1 (innerR I a)))
 
 -- the widths that the kinds ask for
 module _ (sw : ℕ → ℕ) (es : List (List ℕ)) (kind : FieldKind) where

@@ -1,7 +1,7 @@
 -- Dynamic groups, the extension and the whole message: each way through them.
 use Prim.Native.Nat.{ℕ, min, zero, suc, _+_, _-_, _*_, _%_, _^_, _<_, _≤_}
 use mathlib.Core.Path.{_≡_, refl, ap, _∙_}
-use mathlib.Core.Bool.{Bool, true, false}
+use mathlib.Core.Bool.{Bool, true, false, _||_}
 use mathlib.Core.List.{List, [], _++_, append-nil}
 use native.Mathlib.Omega.{arith}
 use native.Mathlib.Nat.{mul-one}
@@ -13,13 +13,15 @@ use Rattle.schema.specs.Faults.{need}
 use Rattle.schema.specs.Schema.{Group, textOk, width, find, known, allows}
 use Rattle.message.specs.Marks.{padsZero, padsBefore, mark}
 use Rattle.message.specs.Sheet.{GB, XT, XU, GE}
-use Rattle.message.specs.Walk.{Reading, refused, done, prefixed, next, Here, here, strict, Inner, word, locate, indirectR, innerR, itemsR, listR, textR, staticR, extendingR, groupsR, extensionR, extensionIn, behindR, padded, bodyR, headR, groupR, walk}
+use Rattle.settings.specs.declared.Ignored.{Ignored}
+use Rattle.message.specs.Walk.{Reading, refused, done, prefixed, next, Here, here, Inner, word, locate, indirectR, innerR, itemsR, listR, textR, staticR, extendingR, groupsR, extensionR, extensionIn, behindR, padded, bodyR, headR, groupR, walk}
 use Rattle.message.specs.Count.{Count, failed, counted, count, more, andThen}
 use Rattle.message.specs.Check.{packed, marksOf, closing, countBy, after, placeBy}
 use Rattle.message.specs.declared.Step.{Step}
 use Rattle.message.specs.declared.Step.the-variants.{Counted}
 use Rattle.message.specs.declared.Located.{Located}
 use Rattle.message.specs.declared.Located.the-variants.{At, Nowhere}
+use Rattle.message.proofs.Tests.{or-right}
 use Rattle.message.proofs.Count.{more-zero, more-more, then-then, then-passed, count-next, count-prefixed, count-marked, count-list, count-inner, length-mark}
 use Rattle.message.proofs.CheckMarks.{packed-is, not-scattered}
 use Rattle.message.proofs.CheckAnswers.{stays, goes-on, passed, bounded}
@@ -80,57 +82,60 @@ module _ (gs : List Group) (I : Inner) (h : Here) (at : ℕ) (m : List ℕ) wher
 
 -- THE BODY
 
-close-is : (s u b m : List ℕ) (base area : ℕ) → length s ≡ 8
-    → count (padded (here strict b base area) (prefixed s (next (done u m) (λ m. done GE m)))) ≡ more 8 (andThen (counted (length u) m) (closing b base area))
+close-is : (y : Ignored) (s u b m : List ℕ) (base area : ℕ) → length s ≡ 8
+    → count (padded (here y b base area) (prefixed s (next (done u m) (λ m. done GE m)))) ≡ more 8 (andThen (counted (length u) m) (closing (here y b base area)))
 unfolding padded prefixed next andThen more closing count need
-close-is s u b m base area e = go (padsZero (drop area m) (drop area b))
+close-is y s u b m base area e = go (y .pads || padsZero (drop area m) (drop area b))
   where
     go : (c : Bool) → count (need c (refused 6 (base + area + padsBefore (drop area m) (drop area b))) (done (s ++ (u ++ GE)) []))
         ≡ more 8 (more (length u) (need c (failed 6 (base + area + padsBefore (drop area m) (drop area b))) (counted 2 [])))
     go true = rw (length-append s (u ++ GE), length-append u GE, e)
     go false = refl
 
-closes : (s b : List ℕ) (base area : ℕ) (r : Reading) → length s ≡ 8
-    → count (padded (here strict b base area) (prefixed s (next r (λ m. done GE m)))) ≡ more 8 (andThen (count r) (closing b base area))
+closes : (y : Ignored) (s b : List ℕ) (base area : ℕ) (r : Reading) → length s ≡ 8
+    → count (padded (here y b base area) (prefixed s (next r (λ m. done GE m)))) ≡ more 8 (andThen (count r) (closing (here y b base area)))
 unfolding count andThen more next prefixed padded
-closes s b base area (done u m) e = close-is s u b m base area e
-closes s b base area (refused n p) e = refl
+closes y s b base area (done u m) e = close-is y s u b m base area e
+closes y s b base area (refused n p) e = refl
 
-module _ (gs : List Group) (I : Inner) (g base : ℕ) (b : List ℕ) (a : ℕ) (ia : a ≡ 16 + width gs 5 g) where
-  pub body-narrow : length b < a → count (bodyR strict gs I g base b) ≡ failed 14 base
+module _ (y : Ignored) (gs : List Group) (I : Inner) (g base : ℕ) (b : List ℕ) (a : ℕ) (ia : a ≡ 16 + width gs 5 g) where
+  pub body-narrow : length b < a → count (bodyR y gs I g base b) ≡ failed 14 base
   unfolding bodyR need count
   body-narrow h = rw (← ia, lt-leb a (length b) h)
 
   module _ (l : a ≤ length b) (sixteen : 16 ≤ length b) where
-    pub body-loose : extensionIn (here strict b base a) 12 ≡ false → count (bodyR strict gs I g base b) ≡ failed 3 (base + 12)
+    pub body-loose : extensionIn (here y b base a) 12 ≡ false → count (bodyR y gs I g base b) ≡ failed 3 (base + 12)
     unfolding bodyR behindR need next prefixed padded count
     body-loose e = rw (← ia, le-leb a (length b) l, e)
 
-    body-is : extensionIn (here strict b base a) 12 ≡ true → count (bodyR strict gs I g base b)
-        ≡ more 8 (andThen (count (next (staticR gs I 5 g (here strict b base a) 16 (replicate (length b) 0)) (λ m. extensionR gs I (here strict b base a) 12 m))) (closing b base a))
+    body-is : extensionIn (here y b base a) 12 ≡ true → count (bodyR y gs I g base b)
+        ≡ more 8 (andThen (count (next (staticR gs I 5 g (here y b base a) 16 (replicate (length b) 0)) (λ m. extensionR gs I (here y b base a) 12 m))) (closing (here y b base a)))
     unfolding bodyR behindR need
-    body-is e = rw (← ia, le-leb a (length b) l, e) (closes (part 8 4 b) b base a _ (length-part 8 4 b (omega arith)))
+    body-is e = rw (← ia, le-leb a (length b) l, e) (closes y (part 8 4 b) b base a _ (length-part 8 4 b (omega arith)))
 
     -- the fields and what is behind them, on marks that are all 0 and behind the eight bytes of the id
-    pub body-begins : extensionIn (here strict b base a) 12 ≡ true → (k j : ℕ) → j ≡ (k + 8) % 2 ^ 64 → (o : List ℕ) → o ≡ replicate (length b) 0
-        → after k (count (bodyR strict gs I g base b))
-        ≡ after j (andThen (count (staticR gs I 5 g (here strict b base a) 16 o)) (λ m. andThen (count (extensionR gs I (here strict b base a) 12 m)) (closing b base a)))
+    pub body-begins : extensionIn (here y b base a) 12 ≡ true → (k j : ℕ) → j ≡ (k + 8) % 2 ^ 64 → (o : List ℕ) → o ≡ replicate (length b) 0
+        → after k (count (bodyR y gs I g base b))
+        ≡ after j (andThen (count (staticR gs I 5 g (here y b base a) 16 o)) (λ m. andThen (count (extensionR gs I (here y b base a) 12 m)) (closing (here y b base a))))
     body-begins e k j q o z =
-        let r : Reading = staticR gs I 5 g (here strict b base a) 16 (replicate (length b) 0) in
-        let f : List ℕ → Count = λ m. count (extensionR gs I (here strict b base a) 12 m) in
-        rw z (goes-on k 8 j _ _ (body-is e) q ∙ ap (after j) (ap (λ (c : Count). andThen c (closing b base a)) (count-next r (λ m. extensionR gs I (here strict b base a) 12 m)) ∙ then-then (count r) f (closing b base a)))
+        let r : Reading = staticR gs I 5 g (here y b base a) 16 (replicate (length b) 0) in
+        let f : List ℕ → Count = λ m. count (extensionR gs I (here y b base a) 12 m) in
+        rw z (goes-on k 8 j _ _ (body-is e) q ∙ ap (after j) (ap (λ (c : Count). andThen c (closing (here y b base a))) (count-next r (λ m. extensionR gs I (here y b base a) 12 m)) ∙ then-then (count r) f (closing (here y b base a))))
 
 -- behind the fields, where there is no extension
-pub rest-plain : (gs : List Group) (I : Inner) (b : List ℕ) (base a : ℕ) (m : List ℕ) → word 12 b ≡ 0
-    → andThen (count (extensionR gs I (here strict b base a) 12 m)) (closing b base a) ≡ closing b base a m
-rest-plain gs I b base a m e = then-passed _ 0 m (closing b base a) (extension-zero gs I (here strict b base a) 12 m e) ∙ more-zero _
+pub rest-plain : (y : Ignored) (gs : List Group) (I : Inner) (b : List ℕ) (base a : ℕ) (m : List ℕ) → word 12 b ≡ 0
+    → andThen (count (extensionR gs I (here y b base a) 12 m)) (closing (here y b base a)) ≡ closing (here y b base a) m
+rest-plain y gs I b base a m e = then-passed _ 0 m (closing (here y b base a)) (extension-zero gs I (here y b base a) 12 m e) ∙ more-zero _
 
-module _ (b : List ℕ) (base a : ℕ) (m : List ℕ) where
-  pub closing-clean : padsZero (drop a m) (drop a b) ≡ true → closing b base a m ≡ counted 2 []
+module _ (y : Ignored) (b : List ℕ) (base a : ℕ) (m : List ℕ) where
+  pub closing-clean : y .pads || padsZero (drop a m) (drop a b) ≡ true → closing (here y b base a) m ≡ counted 2 []
   unfolding closing need
   closing-clean e = rw e
 
-  pub closing-dirty : (z : ℕ) → z ≡ padsBefore (drop a m) (drop a b) → padsZero (drop a m) (drop a b) ≡ false → closing b base a m ≡ failed 6 (base + a + z)
+  pub closing-filled : padsZero (drop a m) (drop a b) ≡ true → closing (here y b base a) m ≡ counted 2 []
+  closing-filled e = closing-clean (or-right (y .pads) _ e)
+
+  pub closing-dirty : (z : ℕ) → z ≡ padsBefore (drop a m) (drop a b) → y .pads || padsZero (drop a m) (drop a b) ≡ false → closing (here y b base a) m ≡ failed 6 (base + a + z)
   unfolding closing need
   closing-dirty z iz e = rw (e, ← iz)
 
@@ -155,39 +160,39 @@ module _ (gs : List Group) (B : ℕ → ℕ → List ℕ → Reading) (al base :
       unfolding headR need known
       head-body a = rw (← is, le-leb 16 (length b) h, lt-ltb g (length gs) k, a)
 
-module _ (gs : List Group) (al base : ℕ) (b : List ℕ) where
+module _ (y : Ignored) (gs : List Group) (al base : ℕ) (b : List ℕ) where
   -- the body at a level: none where no level is left
   abbrev bodyAt : ℕ → ℕ → ℕ → List ℕ → Reading
   bodyAt zero g base b = refused 24 base
-  bodyAt (suc l) g base b = bodyR strict gs (groupR strict gs l) g base b
+  bodyAt (suc l) g base b = bodyR y gs (groupR y gs l) g base b
 
-  group-is : (l : ℕ) → groupR strict gs l al base b ≡ headR gs (bodyAt l) al base b
+  group-is : (l : ℕ) → groupR y gs l al base b ≡ headR gs (bodyAt l) al base b
   unfolding groupR
   group-is zero = refl
   group-is (suc l) = refl
 
-  pub group-short : (l : ℕ) → length b < 16 → count (groupR strict gs l al base b) ≡ failed 1 base
+  pub group-short : (l : ℕ) → length b < 16 → count (groupR y gs l al base b) ≡ failed 1 base
   unfolding count
   group-short l h = ap count (group-is l ∙ head-short gs (bodyAt l) al base b h)
 
   module _ (l : ℕ) (h : 16 ≤ length b) (g : ℕ) (is : g ≡ find gs (le (part 8 4 b))) where
-    pub group-unknown : length gs ≤ g → count (groupR strict gs l al base b) ≡ failed 2 base
+    pub group-unknown : length gs ≤ g → count (groupR y gs l al base b) ≡ failed 2 base
     unfolding count
     group-unknown k = ap count (group-is l ∙ head-unknown gs (bodyAt l) al base b h g is k)
 
     module _ (k : g < length gs) where
-      pub group-other : allows gs al g ≡ false → count (groupR strict gs l al base b) ≡ failed 25 base
+      pub group-other : allows gs al g ≡ false → count (groupR y gs l al base b) ≡ failed 25 base
       unfolding count
       group-other a = ap count (group-is l ∙ head-other gs (bodyAt l) al base b h g is k a)
 
-      pub group-deep : l ≡ 0 → allows gs al g ≡ true → count (groupR strict gs l al base b) ≡ failed 24 base
+      pub group-deep : l ≡ 0 → allows gs al g ≡ true → count (groupR y gs l al base b) ≡ failed 24 base
       unfolding count
       group-deep z a = ap count (group-is l ∙ head-body gs (bodyAt l) al base b h g is k a) ∙ rw z
 
-      pub group-body : (l ≡ 0 → ⊥) → allows gs al g ≡ true → groupR strict gs l al base b ≡ bodyR strict gs (groupR strict gs (l - 1)) g base b
+      pub group-body : (l ≡ 0 → ⊥) → allows gs al g ≡ true → groupR y gs l al base b ≡ bodyR y gs (groupR y gs (l - 1)) g base b
       group-body z a = group-is l ∙ head-body gs (bodyAt l) al base b h g is k a ∙ go l z
         where
-          go : (l : ℕ) → (l ≡ 0 → ⊥) → bodyAt l g base b ≡ bodyR strict gs (groupR strict gs (l - 1)) g base b
+          go : (l : ℕ) → (l ≡ 0 → ⊥) → bodyAt l g base b ≡ bodyR y gs (groupR y gs (l - 1)) g base b
           go zero z = absurd (z refl)
           go (suc l) z = let e : suc l - 1 ≡ l = omega arith in rw e
 
@@ -205,15 +210,15 @@ nothing-taken a m b e h =
 
 -- THE MESSAGE
 
-module _ (gs : List Group) (b : List ℕ) where
-  pub message-short : length b < 4 → count (walk strict gs b) ≡ failed 22 0
+module _ (y : Ignored) (gs : List Group) (b : List ℕ) where
+  pub message-short : length b < 4 → count (walk y gs b) ≡ failed 22 0
   unfolding walk need count
   message-short h = rw (lt-leb 4 (length b) h)
 
-  pub message-other : 4 ≤ length b → (length b ≡ 4 + word 0 b → ⊥) → count (walk strict gs b) ≡ failed 22 0
+  pub message-other : 4 ≤ length b → (length b ≡ 4 + word 0 b → ⊥) → count (walk y gs b) ≡ failed 22 0
   unfolding walk need count
   message-other h e = rw (le-leb 4 (length b) h, ne-eqb _ _ e)
 
-  pub message-group : 4 ≤ length b → length b ≡ 4 + word 0 b → count (walk strict gs b) ≡ more 2 (count (groupR strict gs 8 0 0 b))
+  pub message-group : 4 ≤ length b → length b ≡ 4 + word 0 b → count (walk y gs b) ≡ more 2 (count (groupR y gs 8 0 0 b))
   unfolding walk need
-  message-group h e = rw (le-leb 4 (length b) h, eq-eqb _ _ e) (count-prefixed _ (groupR strict gs 8 0 0 b) ∙ rw (length-mark GB))
+  message-group h e = rw (le-leb 4 (length b) h, eq-eqb _ _ e) (count-prefixed _ (groupR y gs 8 0 0 b) ∙ rw (length-mark GB))

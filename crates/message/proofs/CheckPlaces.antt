@@ -12,7 +12,8 @@ use Rattle.wire.proofs.Laws.{drop-more}
 use Rattle.schema.specs.Faults.{need}
 use Rattle.message.specs.Marks.{free, mark, padsZero, padsBefore}
 use Rattle.message.proofs.CheckMarks.{mark-twice}
-use Rattle.message.specs.Walk.{lost, found, here, strict, word, inArea, locate}
+use Rattle.settings.specs.declared.Ignored.{Ignored}
+use Rattle.message.specs.Walk.{lost, found, here, word, inArea, locate}
 use Rattle.message.specs.Check.{placeBy, Claims, Lands}
 use Rattle.message.specs.declared.Located.{Located}
 use Rattle.message.specs.declared.Located.the-variants.{At, Nowhere}
@@ -50,25 +51,25 @@ module _ (F : ℕ → List ℕ) where
 
 -- LOCATE
 
-module _ (F : ℕ → List ℕ) (past w : ℕ) (b : List ℕ) (base area at : ℕ) (m : List ℕ) (o p n k : ℕ) (io : o ≡ word at b) (ip : p ≡ at + o) where
-  pub low : p < area → placeBy F (Nowhere 5 (base + at)) ≡ locate past w (here strict b base area) at m
+module _ (y : Ignored) (F : ℕ → List ℕ) (past w : ℕ) (b : List ℕ) (base area at : ℕ) (m : List ℕ) (o p n k : ℕ) (io : o ≡ word at b) (ip : p ≡ at + o) where
+  pub low : p < area → placeBy F (Nowhere 5 (base + at)) ≡ locate past w (here y b base area) at m
   unfolding placeBy locate need inArea
   low h = rw (← io, ← ip, lt-leb area p h)
 
-  pub high : area ≤ p → length b ≤ p → placeBy F (Nowhere 5 (base + at)) ≡ locate past w (here strict b base area) at m
+  pub high : area ≤ p → length b ≤ p → placeBy F (Nowhere 5 (base + at)) ≡ locate past w (here y b base area) at m
   unfolding placeBy locate need inArea
   high h k = rw (← io, ← ip, le-leb area p h, le-ltb p (length b) k)
 
-  pub cut : area ≤ p → p < length b → length b < p + 4 → placeBy F (Nowhere 26 (base + p)) ≡ locate past w (here strict b base area) at m
+  pub cut : area ≤ p → p < length b → length b < p + 4 → placeBy F (Nowhere 26 (base + p)) ≡ locate past w (here y b base area) at m
   unfolding placeBy locate need inArea
   cut h k l = rw (← io, ← ip, le-leb area p h, lt-ltb p (length b) k, lt-leb (p + 4) (length b) l)
 
   module _ (h : area ≤ p) (g : p < length b) (l : p + 4 ≤ length b) (in′ : n ≡ word p b) (ik : k ≡ 4 + n * w) where
-    pub over : length b < p + k → placeBy F (Nowhere past (base + p)) ≡ locate past w (here strict b base area) at m
+    pub over : length b < p + k → placeBy F (Nowhere past (base + p)) ≡ locate past w (here y b base area) at m
     unfolding placeBy locate need inArea
     over q = rw (← io, ← ip, ← in′, ← ik, le-leb area p h, lt-ltb p (length b) g, le-leb (p + 4) (length b) l, lt-leb (p + k) (length b) q)
 
-    pub claims : p + k ≤ length b → need (free p k m) (lost 27 (base + p)) (found p n (mark p k m)) ≡ locate past w (here strict b base area) at m
+    pub claims : p + k ≤ length b → need (free p k m) (lost 27 (base + p)) (found p n (mark p k m)) ≡ locate past w (here y b base area) at m
     unfolding locate need inArea
     claims q = rw (← io, ← ip, ← in′, ← ik, le-leb area p h, lt-ltb p (length b) g, le-leb (p + 4) (length b) l, le-leb (p + k) (length b) q)
 

@@ -7,7 +7,7 @@ use Rattle.schema.specs.declared.Scope.{Scope}
 use Rattle.schema.specs.declared.Scope.the-variants.{Whole, Fields}
 use Rattle.message.specs.Walk.{Here}
 use Rattle.message.specs.Count.{Count, failed, count}
-use Rattle.message.specs.Check.{marksOf, countBy, after, within, innerOf, Ready}
+use Rattle.message.specs.Check.{levelsIn, ignoredIn, marksOf, countBy, after, within, innerOf, Ready}
 use Rattle.message.specs.Scopes.{groupOf, behindOf, leftOf, Lies, Inside, Begins, Opens}
 use Rattle.message.specs.declared.Frame.{Frame}
 use Rattle.message.specs.declared.Step.{Step}
@@ -25,9 +25,9 @@ weight (Whole a) d = 1
 weight (Fields g) d = 10 * d + 12
 
 module _ (o f : Frame) where
-  pub inside-falls : (t b : List ℕ) (z : Scope) (d at : ℕ) → Lies t d z b at → Inside z o f → 64 * f .levels + (10 * d + 11) < 64 * o .levels + weight z d
+  pub inside-falls : (t b : List ℕ) (z : Scope) (d at : ℕ) → Lies t d z b at → Inside z o f → 64 * levelsIn (f .rules) + (10 * d + 11) < 64 * levelsIn (o .rules) + weight z d
   inside-falls t b (Whole a) d at F i = omega (arith, F .0, i .0)
-  inside-falls t b (Fields g) d at F i = omega (arith, ap (λ (x : Frame). x .levels) i)
+  inside-falls t b (Fields g) d at F i = omega (arith, ap (λ (x : Frame). levelsIn (x .rules)) i)
 
   pub inside-long : (z : Scope) → Inside z o f → (n : ℕ) → f .area ≤ n → (a : ℕ) → z ≡ Whole a → 16 ≤ n
   inside-long (Whole x) i n l a e = omega (arith, i .1, l)
@@ -50,17 +50,17 @@ module _ (t i b m : List ℕ) (o : Frame) (d at k : ℕ) (z : Scope) where
     unfolding Opens
     opens-refused n p e = subst (Opens t i b m o d z at k c) e h
 
-  pub opens-dynamic : (a : ℕ) → z ≡ Whole a → Lies t d z b at → (s : List ℕ) (r : Opened) → Opens t i b m o 5 (Whole a) 16 k (count (innerOf t (o .levels) a (o .base) b)) r
-      → Opens t i b m o d z at k (count (groupOf t (o .levels) d z (within b o) at s)) r
+  pub opens-dynamic : (a : ℕ) → z ≡ Whole a → Lies t d z b at → (s : List ℕ) (r : Opened) → Opens t i b m o 5 (Whole a) 16 k (count (innerOf (ignoredIn (o .rules)) t (levelsIn (o .rules)) a (o .base) b)) r
+      → Opens t i b m o d z at k (count (groupOf t (levelsIn (o .rules)) d z (within b o) at s)) r
   opens-dynamic a e F s r h =
-      subst (λ z. Lies t d z b at → Opens t i b m o d z at k (count (groupOf t (o .levels) d z (within b o) at s)) r) (sym e) (λ F. rw (F .0, F .1) h) F
+      subst (λ z. Lies t d z b at → Opens t i b m o d z at k (count (groupOf t (levelsIn (o .rules)) d z (within b o) at s)) r) (sym e) (λ F. rw (F .0, F .1) h) F
 
   pub opens-static : (g : ℕ) → z ≡ Fields g → Ready t i b m o → Lies t d z b at → (s : ℕ)
-      → Opens t i b m o d z at k (count (groupOf t (o .levels) d z (within b o) at (marksOf (o .area) s m))) (Begun g o s k)
+      → Opens t i b m o d z at k (count (groupOf t (levelsIn (o .rules)) d z (within b o) at (marksOf (o .area) s m))) (Begun g o s k)
   unfolding Opens
   opens-static g e R F s =
       subst
-      (λ z. Lies t d z b at → Begins t i b m o d z at k (count (groupOf t (o .levels) d z (within b o) at (marksOf (o .area) s m))) g o s k)
+      (λ z. Lies t d z b at → Begins t i b m o d z at k (count (groupOf t (levelsIn (o .rules)) d z (within b o) at (marksOf (o .area) s m))) g o s k)
       (sym e)
       (λ F. record { ready = R; fits = F; inside = refl; counts = ap (after k) (sym (then-nothing _)) })
       F

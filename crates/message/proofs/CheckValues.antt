@@ -1,7 +1,7 @@
 -- The values that hold no other, each way through them.
 use Prim.Native.Nat.{ℕ, _+_, _-_, _*_, _<_, _≤_}
 use mathlib.Core.Path.{_≡_, refl, sym, ap, _∙_}
-use mathlib.Core.Bool.{Bool, true, false}
+use mathlib.Core.Bool.{Bool, true, false, _||_}
 use mathlib.Core.List.{List, [], _++_}
 use native.Mathlib.Omega.{arith}
 use native.Mathlib.Nat.{mul-one}
@@ -16,7 +16,8 @@ use Rattle.schema.specs.FieldKinds.{testedKind, kindFault}
 use Rattle.schema.specs.declared.Tested.{Tested}
 use Rattle.schema.specs.declared.Tested.the-variants.{Flag, Millis, Nanos, Symbol}
 use Rattle.message.specs.Sheet.{Mark, ST, kindMark}
-use Rattle.message.specs.Walk.{here, strict, Reader, Inner, word, byte, optionalR, plainR, inlineR, inArea, extensionIn, locate, indirectR, textR, kindR, markedR}
+use Rattle.settings.specs.declared.Ignored.{Ignored}
+use Rattle.message.specs.Walk.{here, Reader, Inner, word, byte, optionalR, plainR, inlineR, inArea, extensionIn, locate, indirectR, textR, kindR, markedR}
 use Rattle.message.specs.Count.{failed, counted, count, more}
 use Rattle.message.specs.Check.{placeBy, itemR}
 use Rattle.message.specs.declared.Located.{Located}
@@ -25,12 +26,12 @@ use Rattle.message.proofs.Count.{count-marked, count-lost, count-found}
 
 -- NUMBERS
 
-module _ (w : ℕ) (x : Test) (b : List ℕ) (base area at : ℕ) (m : List ℕ) where
-  plain-passes : passes x (part w at b) ≡ true → at + w ≤ length b → count (plainR w x (here strict b base area) at m) ≡ counted w m
+module _ (y : Ignored) (w : ℕ) (x : Test) (b : List ℕ) (base area at : ℕ) (m : List ℕ) where
+  plain-passes : passes x (part w at b) ≡ true → at + w ≤ length b → count (plainR w x (here y b base area) at m) ≡ counted w m
   unfolding plainR need count
   plain-passes e l = rw e (ap (λ (j : ℕ). counted j m) (length-part w at b l))
 
-  plain-fails : passes x (part w at b) ≡ false → count (plainR w x (here strict b base area) at m) ≡ failed (testFault x) (base + at)
+  plain-fails : passes x (part w at b) ≡ false → count (plainR w x (here y b base area) at m) ≡ failed (testFault x) (base + at)
   unfolding plainR need count
   plain-fails e = rw e
 
@@ -58,24 +59,24 @@ module _ (w : ℕ) (x : Test) (s : List ℕ) where
       go true e = absurd (h (rw e))
       go false e = (e, rw e)
 
-module _ (I : Inner) (S : ℕ → Reader) (b : List ℕ) (base area at : ℕ) (m : List ℕ) where
-  pub plain-counts : (w : ℕ) → at + w ≤ length b → count (itemR I S (plain w any) (here strict b base area) at m) ≡ counted (2 + w) m
+module _ (y : Ignored) (I : Inner) (S : ℕ → Reader) (b : List ℕ) (base area at : ℕ) (m : List ℕ) where
+  pub plain-counts : (w : ℕ) → at + w ≤ length b → count (itemR I S (plain w any) (here y b base area) at m) ≡ counted (2 + w) m
   unfolding kindMark kindR passes more
-  plain-counts w l = count-marked (here strict b base area) at m _ (plainR w any) ∙ ap (more 2) (plain-passes w any b base area at m refl l)
+  plain-counts w l = count-marked (here y b base area) at m _ (plainR w any) ∙ ap (more 2) (plain-passes y w any b base area at m refl l)
 
   module _ (sw : ℕ → ℕ) (es : List (List ℕ)) where
-    number-passes : (w : ℕ) (x : Test) → kindFault (plain w x) (drop at b) ≡ 0 → at + w ≤ length b → count (itemR I S (plain w x) (here strict b base area) at m) ≡ counted (2 + w) m
+    number-passes : (w : ℕ) (x : Test) → kindFault (plain w x) (drop at b) ≡ 0 → at + w ≤ length b → count (itemR I S (plain w x) (here y b base area) at m) ≡ counted (2 + w) m
     unfolding kindMark kindR more
-    number-passes w x z l = count-marked (here strict b base area) at m _ (plainR w x) ∙ ap (more 2) (plain-passes w x b base area at m (no-fault w x (drop at b) z) l)
+    number-passes w x z l = count-marked (here y b base area) at m _ (plainR w x) ∙ ap (more 2) (plain-passes y w x b base area at m (no-fault w x (drop at b) z) l)
 
-    number-fails : (w : ℕ) (x : Test) → (kindFault (plain w x) (drop at b) ≡ 0 → ⊥) → count (itemR I S (plain w x) (here strict b base area) at m) ≡ failed (kindFault (plain w x) (drop at b)) (base + at)
+    number-fails : (w : ℕ) (x : Test) → (kindFault (plain w x) (drop at b) ≡ 0 → ⊥) → count (itemR I S (plain w x) (here y b base area) at m) ≡ failed (kindFault (plain w x) (drop at b)) (base + at)
     unfolding kindMark kindR more
     number-fails w x z =
         let f = a-fault w x (drop at b) z in
-        count-marked (here strict b base area) at m _ (plainR w x) ∙ ap (more 2) (plain-fails w x b base area at m (f .0)) ∙ ap (λ (n : ℕ). failed n (base + at)) (f .1)
+        count-marked (here y b base area) at m _ (plainR w x) ∙ ap (more 2) (plain-fails y w x b base area at m (f .0)) ∙ ap (λ (n : ℕ). failed n (base + at)) (f .1)
 
     pub tested-passes : (x : Tested) → kindFault (testedKind es x) (drop at b) ≡ 0 → at + kindWidth sw (testedKind es x) ≤ length b
-        → count (itemR I S (testedKind es x) (here strict b base area) at m) ≡ counted (2 + kindWidth sw (testedKind es x)) m
+        → count (itemR I S (testedKind es x) (here y b base area) at m) ≡ counted (2 + kindWidth sw (testedKind es x)) m
     unfolding testedKind kindWidth
     tested-passes Flag z l = number-passes 1 flag z l
     tested-passes Millis z l = number-passes 4 (below 86400000) z l
@@ -83,7 +84,7 @@ module _ (I : Inner) (S : ℕ → Reader) (b : List ℕ) (base area at : ℕ) (m
     tested-passes (Symbol e) z l = number-passes 4 (symbol (getD es e [])) z l
 
     pub tested-fails : (x : Tested) → (kindFault (testedKind es x) (drop at b) ≡ 0 → ⊥)
-        → count (itemR I S (testedKind es x) (here strict b base area) at m) ≡ failed (kindFault (testedKind es x) (drop at b)) (base + at)
+        → count (itemR I S (testedKind es x) (here y b base area) at m) ≡ failed (kindFault (testedKind es x) (drop at b)) (base + at)
     unfolding testedKind
     tested-fails Flag z = number-fails 1 flag z
     tested-fails Millis z = number-fails 4 (below 86400000) z
@@ -93,77 +94,77 @@ module _ (I : Inner) (S : ℕ → Reader) (b : List ℕ) (base area at : ℕ) (m
   -- INLINE TEXT
 
   module _ (u : Bool) (c n : ℕ) (is : n ≡ byte at b) where
-    pub inline-over : c < n → count (itemR I S (inline u c) (here strict b base area) at m) ≡ failed 7 (base + at)
+    pub inline-over : c < n → count (itemR I S (inline u c) (here y b base area) at m) ≡ failed 7 (base + at)
     unfolding kindR inlineR need count more
-    inline-over l = count-marked (here strict b base area) at m _ (kindR I S (inline u c)) ∙ rw (← is, lt-leb n c l)
+    inline-over l = count-marked (here y b base area) at m _ (kindR I S (inline u c)) ∙ rw (← is, lt-leb n c l)
 
     module _ (l : n ≤ c) where
-      pub inline-dirty : (z : ℕ) → z ≡ zeros (part (c - n) (at + 1 + n) b) → allZero (part (c - n) (at + 1 + n) b) ≡ false
-          → count (itemR I S (inline u c) (here strict b base area) at m) ≡ failed 8 (base + (at + 1 + n) + z)
+      pub inline-dirty : (z : ℕ) → z ≡ zeros (part (c - n) (at + 1 + n) b) → y .unused || allZero (part (c - n) (at + 1 + n) b) ≡ false
+          → count (itemR I S (inline u c) (here y b base area) at m) ≡ failed 8 (base + (at + 1 + n) + z)
       unfolding kindR inlineR need count more
-      inline-dirty z iz e = count-marked (here strict b base area) at m _ (kindR I S (inline u c)) ∙ rw (← is, le-leb n c l, e, ← iz)
+      inline-dirty z iz e = count-marked (here y b base area) at m _ (kindR I S (inline u c)) ∙ rw (← is, le-leb n c l, e, ← iz)
 
-      module _ (e : allZero (part (c - n) (at + 1 + n) b) ≡ true) where
-        pub inline-bad : textOk u (part n (at + 1) b) ≡ false → count (itemR I S (inline u c) (here strict b base area) at m) ≡ failed 9 (base + (at + 1))
+      module _ (e : y .unused || allZero (part (c - n) (at + 1 + n) b) ≡ true) where
+        pub inline-bad : textOk u (part n (at + 1) b) ≡ false → count (itemR I S (inline u c) (here y b base area) at m) ≡ failed 9 (base + (at + 1))
         unfolding kindR inlineR need count more
-        inline-bad o = count-marked (here strict b base area) at m _ (kindR I S (inline u c)) ∙ rw (← is, le-leb n c l, e, o)
+        inline-bad o = count-marked (here y b base area) at m _ (kindR I S (inline u c)) ∙ rw (← is, le-leb n c l, e, o)
 
-        pub inline-counts : textOk u (part n (at + 1) b) ≡ true → at + 1 + n ≤ length b → count (itemR I S (inline u c) (here strict b base area) at m) ≡ counted (6 + n) m
+        pub inline-counts : textOk u (part n (at + 1) b) ≡ true → at + 1 + n ≤ length b → count (itemR I S (inline u c) (here y b base area) at m) ≡ counted (6 + n) m
         unfolding kindR inlineR need count more
         inline-counts o h =
             let q : length (bytesOf 4 n ++ part n (at + 1) b) ≡ 4 + n = length-append (bytesOf 4 n) (part n (at + 1) b) ∙ rw (length-bytes 4 n, length-part n (at + 1) b h) in
-            count-marked (here strict b base area) at m _ (kindR I S (inline u c)) ∙ rw (← is, le-leb n c l, e, o, q) (ap (λ (j : ℕ). counted j m) (let r : 2 + (4 + n) ≡ 6 + n = omega arith in r))
+            count-marked (here y b base area) at m _ (kindR I S (inline u c)) ∙ rw (← is, le-leb n c l, e, o, q) (ap (λ (j : ℕ). counted j m) (let r : 2 + (4 + n) ≡ 6 + n = omega arith in r))
 
 -- INDIRECT TEXT
 
-module _ (u : Bool) (b : List ℕ) (base area at : ℕ) (m : List ℕ) (F : ℕ → List ℕ) (f : Located) (is : placeBy F f ≡ locate 26 1 (here strict b base area) at m) where
-  pub text-lost : (n p : ℕ) → f ≡ Nowhere n p → count (markedR ST (indirectR 26 1 (textR u)) (here strict b base area) at m) ≡ failed n p
+module _ (y : Ignored) (u : Bool) (b : List ℕ) (base area at : ℕ) (m : List ℕ) (F : ℕ → List ℕ) (f : Located) (is : placeBy F f ≡ locate 26 1 (here y b base area) at m) where
+  pub text-lost : (n p : ℕ) → f ≡ Nowhere n p → count (markedR ST (indirectR 26 1 (textR u)) (here y b base area) at m) ≡ failed n p
   unfolding placeBy more
   text-lost n p e =
-      count-marked (here strict b base area) at m ST (indirectR 26 1 (textR u))
-      ∙ ap (more 2) (count-lost (here strict b base area) at m 26 1 (textR u) n p (sym is ∙ ap (placeBy F) e))
+      count-marked (here y b base area) at m ST (indirectR 26 1 (textR u))
+      ∙ ap (more 2) (count-lost (here y b base area) at m 26 1 (textR u) n p (sym is ∙ ap (placeBy F) e))
 
   module _ (n p : ℕ) (s : ℕ) (e : f ≡ At p n s) where
-    text-open : count (markedR ST (indirectR 26 1 (textR u)) (here strict b base area) at m) ≡ more 2 (count (textR u n (here strict b base area) p (F s)))
+    text-open : count (markedR ST (indirectR 26 1 (textR u)) (here y b base area) at m) ≡ more 2 (count (textR u n (here y b base area) p (F s)))
     unfolding placeBy
     text-open =
-        count-marked (here strict b base area) at m ST (indirectR 26 1 (textR u))
-        ∙ ap (more 2) (count-found (here strict b base area) at m 26 1 (textR u) p n (F s) (sym is ∙ ap (placeBy F) e))
+        count-marked (here y b base area) at m ST (indirectR 26 1 (textR u))
+        ∙ ap (more 2) (count-found (here y b base area) at m 26 1 (textR u) p n (F s) (sym is ∙ ap (placeBy F) e))
 
-    pub text-bad : textOk u (part n (p + 4) b) ≡ false → count (markedR ST (indirectR 26 1 (textR u)) (here strict b base area) at m) ≡ failed 9 (base + (p + 4))
+    pub text-bad : textOk u (part n (p + 4) b) ≡ false → count (markedR ST (indirectR 26 1 (textR u)) (here y b base area) at m) ≡ failed 9 (base + (p + 4))
     unfolding textR need count more
     text-bad o = text-open ∙ rw o
 
-    pub text-counts : textOk u (part n (p + 4) b) ≡ true → p + (4 + n * 1) ≤ length b → count (markedR ST (indirectR 26 1 (textR u)) (here strict b base area) at m) ≡ counted (6 + n) (F s)
+    pub text-counts : textOk u (part n (p + 4) b) ≡ true → p + (4 + n * 1) ≤ length b → count (markedR ST (indirectR 26 1 (textR u)) (here y b base area) at m) ≡ counted (6 + n) (F s)
     unfolding textR need count more
     text-counts o h = let k = rw mul-one at h in text-open ∙ rw (o, length-part (4 + n) p b k) (ap (λ (j : ℕ). counted j (F s)) (let r : 2 + (4 + n) ≡ 6 + n = omega arith in r))
 
 -- AN OPTIONAL FIELD THAT IS NOT THERE
 
-module _ (k : Mark) (w : ℕ) (R : Reader) (b : List ℕ) (base area at : ℕ) (m : List ℕ) (v : ℕ) (is : v ≡ byte at b) (no : v ≡ 1 → ⊥) where
-  pub flag-wrong : (v ≡ 0 → ⊥) → count (optionalR k w R (here strict b base area) at m) ≡ failed 11 (base + at)
+module _ (y : Ignored) (k : Mark) (w : ℕ) (R : Reader) (b : List ℕ) (base area at : ℕ) (m : List ℕ) (v : ℕ) (is : v ≡ byte at b) (no : v ≡ 1 → ⊥) where
+  pub flag-wrong : (v ≡ 0 → ⊥) → count (optionalR k w R (here y b base area) at m) ≡ failed 11 (base + at)
   unfolding optionalR need count
   flag-wrong z = rw (← is, ne-eqb _ _ no, ne-eqb _ _ z)
 
-  pub absent-dirty : v ≡ 0 → (x : ℕ) → x ≡ zeros (part w (at + 1) b) → allZero (part w (at + 1) b) ≡ false → count (optionalR k w R (here strict b base area) at m) ≡ failed 4 (base + (at + 1) + x)
+  pub absent-dirty : v ≡ 0 → (x : ℕ) → x ≡ zeros (part w (at + 1) b) → y .absent || allZero (part w (at + 1) b) ≡ false → count (optionalR k w R (here y b base area) at m) ≡ failed 4 (base + (at + 1) + x)
   unfolding optionalR need count
   absent-dirty z x ix a = rw (← is, ne-eqb _ _ no, eq-eqb _ _ z, a, ← ix)
 
-  pub absent-counts : v ≡ 0 → allZero (part w (at + 1) b) ≡ true → count (optionalR k w R (here strict b base area) at m) ≡ counted 2 m
+  pub absent-counts : v ≡ 0 → y .absent || allZero (part w (at + 1) b) ≡ true → count (optionalR k w R (here y b base area) at m) ≡ counted 2 m
   unfolding optionalR need count
   absent-counts z a = rw (← is, ne-eqb _ _ no, eq-eqb _ _ z, a)
 
 -- THE EXTENSION'S LOCATION
 
-module _ (b : List ℕ) (base area o : ℕ) (is : o ≡ word 12 b) where
-  pub extension-none : o ≡ 0 → true ≡ extensionIn (here strict b base area) 12
+module _ (y : Ignored) (b : List ℕ) (base area o : ℕ) (is : o ≡ word 12 b) where
+  pub extension-none : o ≡ 0 → true ≡ extensionIn (here y b base area) 12
   unfolding extensionIn
   extension-none z = rw (← is, eq-eqb _ _ z)
 
-  pub extension-low : (o ≡ 0 → ⊥) → 12 + o < area → false ≡ extensionIn (here strict b base area) 12
+  pub extension-low : (o ≡ 0 → ⊥) → 12 + o < area → false ≡ extensionIn (here y b base area) 12
   unfolding extensionIn inArea
   extension-low z l = rw (← is, ne-eqb _ _ z, lt-leb area (12 + o) l)
 
-  pub extension-at : (o ≡ 0 → ⊥) → area ≤ 12 + o → ltb (12 + o) (length b) ≡ extensionIn (here strict b base area) 12
+  pub extension-at : (o ≡ 0 → ⊥) → area ≤ 12 + o → ltb (12 + o) (length b) ≡ extensionIn (here y b base area) 12
   unfolding extensionIn inArea
   extension-at z l = rw (← is, ne-eqb _ _ z, le-leb area (12 + o) l)

@@ -1,13 +1,11 @@
 -- Laws of the walk's count, for code that reads a message and writes no sheet: each way to join readers, and one turn of each loop.
 use mathlib.Core.Path.{_≡_, refl, sym, _∙_}
-use mathlib.Core.Bool.{Bool, true, false, cond}
 use mathlib.Core.List.{List, [], _∷_, append-nil}
 use Prim.Native.Nat.{ℕ, suc, _+_, _≤_}
 use native.Mathlib.Nat.{zero-add, add-zero, add-assoc}
 use lib.ListN.{length, length-append}
 use Rattle.wire.specs.Bytes.{part}
 use Rattle.wire.proofs.Laws.{length-part}
-use Rattle.schema.specs.Faults.{need}
 use Rattle.schema.specs.Schema.{Field, fieldWidth}
 use Rattle.message.specs.Sheet.{Mark, VA, ST, SG, SQ, GB, XT, XU, markBytes}
 use Rattle.message.specs.Walk.{Reading, refused, done, prefixed, next, Here, Reader, Inner, lost, found, locate, onward, noneR, thenR, markedR, indirectR, innerR, itemsR, listR, fieldR, fieldsR}
@@ -40,10 +38,6 @@ pub then-passed : (c : Count) (k : ℕ) (m : List ℕ) (f : List ℕ → Count) 
 unfolding andThen
 then-passed c k m f e = rw e
 
-pub then-failed : (c : Count) (n p : ℕ) (f : List ℕ → Count) → c ≡ failed n p → andThen c f ≡ failed n p
-unfolding andThen
-then-failed c n p f e = rw e
-
 pub then-nothing : (c : Count) → andThen c (λ m. counted 0 m) ≡ c
 unfolding andThen more
 then-nothing (failed n p) = refl
@@ -66,15 +60,6 @@ next-nothing : (r : Reading) → next r (λ m. done [] m) ≡ r
 unfolding next prefixed
 next-nothing (refused n p) = refl
 next-nothing (done s m) = rw append-nil
-
-pub count-need : (c : Bool) (n p : ℕ) (r : Reading) → count (need c (refused n p) r) ≡ need c (failed n p) (count r)
-unfolding need count
-count-need true n p r = refl
-count-need false n p r = refl
-
-pub count-cond : (c : Bool) (r s : Reading) → count (cond c r s) ≡ cond c (count r) (count s)
-count-cond true r s = refl
-count-cond false r s = refl
 
 pub length-mark : (k : Mark) → length (markBytes k) ≡ 2
 unfolding markBytes

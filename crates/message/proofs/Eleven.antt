@@ -13,8 +13,8 @@ use Rattle.wire.specs.Bytes.{part, le, bytesOf}
 use Rattle.wire.proofs.Laws.{length-bytes}
 use Rattle.schema.specs.Schema.{Test, Kind, plain, inline, indirect, static, dynamic, Field, Group, kindWidth, valueWidth, fieldWidth, fieldsWidth, fieldsOf, width, shallowKind, shallowFields, shallow, find, known}
 use Rattle.message.specs.Sheet.{Mark, GB, XT, XU, markBytes, NO, GE}
-use Rattle.message.specs.Walk.{Ignored, Here, here, Reading, done, Reader, Inner, word, byte, noneR, thenR, markedR, optionalR, plainR, inlineR, indirectR, textR, innerR, itemsR, listR, kindR, valueR, fieldR, fieldsR, staticR, extendingR, groupsR, extensionR, behindR, bodyR, headR, groupR, walk}
-use Rattle.message.specs.Count.{count, counted}
+use Rattle.settings.specs.declared.Ignored.{Ignored}
+use Rattle.message.specs.Walk.{Here, here, done, Reader, Inner, word, byte, noneR, thenR, markedR, optionalR, plainR, inlineR, indirectR, textR, innerR, itemsR, listR, kindR, valueR, fieldR, fieldsR, staticR, extendingR, groupsR, extensionR, behindR, bodyR, headR, groupR, walk}
 use Rattle.message.specs.Proper.{SizedKind, SizedFields, Sized}
 use Rattle.message.proofs.Marking.{taken, taken-le, taken-more}
 use Rattle.message.proofs.Count.{length-mark}
@@ -319,22 +319,3 @@ module _ (gs : List Group) (ok : Sized gs) (x : Ignored) where
 
   pub eleven : (b s m : List ℕ) → walk x gs b ≡ done s m → length s ≤ 11 * length b
   eleven b s m e = sat-is (rw e at (sat-walk b))
-
--- COUNTS: the sums of a check that writes no sheet stay small
-
-record Counted (Q : List ℕ → List ℕ → Type 0) (n : ℕ) (m : List ℕ) : Type 0 where
-  sheet : List ℕ
-  long : length sheet ≡ n
-  holds : Q sheet m
-
-sat-count : {Q : List ℕ → List ℕ → Type 0} {r : Reading} (n : ℕ) (m : List ℕ) → Sat Q r → count r ≡ counted n m → Counted Q n m
-unfolding count
-sat-count n m unsaid e = let z : _≡_ {A = ℕ} 0 1 = cc in absurd (omega arith)
-sat-count n m (said {s = s} {m = m₀} q) e = let l : length s ≡ n = cc in let i : m₀ ≡ m = cc in record { sheet = s; long = l; holds = rw i at q }
-
-pub count-within : (k : ℕ) (R : Reader) → Budget k R → (h : Here) (at : ℕ) (m : List ℕ) → length m ≡ length (h .bytes)
-    → (n : ℕ) (m′ : List ℕ) → count (R h at m) ≡ counted n m′ → n + 11 * taken (h .area) m ≤ k + 11 * taken (h .area) m′
-count-within k R A h at m e n m′ c = let x = sat-count n m′ (A .keeps h at m e) c in omega (arith, x .long, x .holds .less)
-
-pub group-within : (I : Inner) → GroupBudget I → (g base : ℕ) (b : List ℕ) (n : ℕ) (m : List ℕ) → count (I g base b) ≡ counted n m → n + 2 ≤ 11 * length b
-group-within I G g base b n m c = let x = sat-count n m (G .keeps g base b) c in omega (arith, x .long, x .holds)

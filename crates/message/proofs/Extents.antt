@@ -67,7 +67,7 @@ clear-append (e ∷ es) fs m =
     let r = clear-append es fs (mark (e .from) (e .long) m) in
     (λ x. ((x .0, r .0 (x .1) .0), r .0 (x .1) .1), λ x. (x .0 .0, r .1 (x .0 .1, x .1)))
 
-each-append : (P : Value → Type 0) (vs ws : List Value) → Each P (vs ++ ws) ↔ (Each P vs × Each P ws)
+pub each-append : (P : Value → Type 0) (vs ws : List Value) → Each P (vs ++ ws) ↔ (Each P vs × Each P ws)
 each-append P [] ws = (λ x. (tt, x), λ x. x .1)
 each-append P (v ∷ vs) ws =
     let r = each-append P vs ws in

@@ -10,7 +10,9 @@ pub mod Extents
 pub mod Holders
 pub mod Agree
 pub mod Accepted
+pub mod Ignorable
 pub mod Eleven
+pub mod Rules
 pub mod CheckAnswers
 pub mod CheckPlaces
 pub mod CheckValues

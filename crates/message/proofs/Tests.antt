@@ -7,10 +7,6 @@ use native.Mathlib.Omega.{arith}
 pub true-false : (c : Bool) → c ≡ true → c ≡ false → ⊥
 true-false c e f = let z : _≡_ {A = ℕ} 0 1 = cc in omega arith
 
-pub or-left : (c d : Bool) → c ≡ true → c || d ≡ true
-or-left true d e = refl
-or-left false d e = absurd (true-false false e refl)
-
 pub or-right : (c d : Bool) → d ≡ true → c || d ≡ true
 or-right true d e = refl
 or-right false d e = e

@@ -13,9 +13,10 @@ use Rattle.schema.specs.Schema.{member, passes, testFault, textOk, kindWidth, v
 use Rattle.schema.specs.Symbols.{rank}
 use Rattle.schema.specs.Table.{groupMarked, scalarWidth, kindOf, fieldAt, fieldsAt, valuesAt, groupAt, enumsFrom, groupsFrom, placesFrom, enums, schema, places, isEnum, isGroup, isDue, dueAfter, shapeFrom, shapeVerdict, enumVerdict, symbolVerdict, groupVerdict, sizeOk, referenceOk, fieldVerdict, recordVerdict, recordsFrom, recordsVerdict, anyId, idVerdict, eachGroup, inBounds, widthsVerdict, beginsWith, inherits, supersVerdict, storesOwn, storedVerdict, tableVerdict}
 use Rattle.schema.specs.Cases.{group, field}
+use Rattle.settings.specs.Store.{strict}
 use Rattle.message.specs.Marks.{free, mark, padsZero, padsBefore}
 use Rattle.message.specs.Sheet.{markBytes, kindMark, fieldMark}
-use Rattle.message.specs.Walk.{Reading, refused, done, prefixed, next, strict, noneR, thenR, markedR, optionalR, plainR, inlineR, inArea, locate, onward, indirectR, textR, innerR, itemsR, listR, kindR, valueR, fieldR, fieldsR, staticR, extendingR, groupsR, extensionR, extensionIn, behindR, padded, bodyR, headR, groupR, walk, messageR}
+use Rattle.message.specs.Walk.{Reading, refused, done, prefixed, next, noneR, thenR, markedR, optionalR, plainR, inlineR, inArea, locate, onward, indirectR, textR, innerR, itemsR, listR, kindR, valueR, fieldR, fieldsR, staticR, extendingR, groupsR, extensionR, extensionIn, behindR, padded, bodyR, headR, groupR, walk, messageR}
 
 -- TABLES
 

@@ -1,17 +1,18 @@
 -- What the check's functions answer, and what they ask of their callers.
 use mathlib.Core.Path.{_≡_}
-use mathlib.Core.Bool.{Bool, cond}
+use mathlib.Core.Bool.{Bool, cond, _||_}
 use mathlib.Core.List.{List, []}
-use Prim.Native.Nat.{ℕ, _+_, _-_, min, _*_, _%_, _^_, _<_, _≤_}
+use Prim.Native.Nat.{ℕ, _+_, _-_, min, _*_, _/_, _%_, _^_, _<_, _≤_}
 use lib.ListN.{length, drop, replicate}
-use lib.Dec.{leb}
+use lib.Dec.{leb, eqb}
 use Rattle.schema.specs.Faults.{need}
 use Rattle.schema.specs.Schema.{Kind, Field, width}
 use Rattle.schema.specs.Table.{schema}
 use Rattle.schema.specs.Layout.{Layout}
+use Rattle.settings.specs.declared.Ignored.{Ignored}
 use Rattle.message.specs.Marks.{mark, padsZero, padsBefore}
 use Rattle.message.specs.Sheet.{kindMark, fieldMark}
-use Rattle.message.specs.Walk.{Here, here, strict, Reader, Inner, Place, lost, found, markedR, kindR, valueR, staticR, groupR}
+use Rattle.message.specs.Walk.{Here, here, Reader, Inner, Place, lost, found, markedR, kindR, valueR, staticR, groupR}
 use Rattle.message.specs.Count.{Count, failed, counted}
 use Rattle.message.specs.declared.Step.{Step}
 use Rattle.message.specs.declared.Step.the-variants.{Counted, Refused}
@@ -20,6 +21,15 @@ use Rattle.message.specs.declared.Walked.the-variants.{Counted as Whole,
 use Rattle.message.specs.declared.Located.{Located}
 use Rattle.message.specs.declared.Located.the-variants.{At, Nowhere}
 use Rattle.message.specs.declared.Frame.{Frame}
+
+-- RULES
+
+-- The code keeps in one number how many levels are left below a group and, from 16 on, which faults are ignored.
+unfoldable pub levelsIn : ℕ → ℕ
+levelsIn n = n % 16
+
+unfoldable pub ignoredIn : ℕ → Ignored
+ignoredIn n = record { absent = eqb (n / 16 % 2) 1; pads = leb 2 (n / 16 % 4); unused = leb 4 (n / 16) }
 
 -- MARKS
 -- The code keeps no mark for the values that stand one behind the other from the data area's start on, as most do: it knows where they end.
@@ -71,13 +81,16 @@ pub record Lands (F : ℕ → List ℕ) (w : ℕ) (b : List ℕ) (r : Located) :
   pub taken : (p n : ℕ) (s : ℕ) → r ≡ At p n s → mark p (4 + n * w) (F s) ≡ F s
 
 -- What comes behind a group's fields and its extension: "6", and the group's end mark.
-unfoldable pub closing : List ℕ → ℕ → ℕ → List ℕ → Count
-closing b base area m = need (padsZero (drop area m) (drop area b)) (failed 6 (base + area + padsBefore (drop area m) (drop area b))) (counted 2 [])
+unfoldable pub closing : Here → List ℕ → Count
+closing h m =
+    let x : List ℕ = drop (h .area) m in
+    let y : List ℕ = drop (h .area) (h .bytes) in
+    need (h .ignored .pads || padsZero x y) (failed 6 (h .base + h .area + padsBefore x y)) (counted 2 [])
 
 -- READERS, AS THE CODE CALLS THEM
 
 abbrev pub within : List ℕ → Frame → Here
-within b f = here strict b (f .base) (f .area)
+within b f = here (ignoredIn (f .rules)) b (f .base) (f .area)
 
 -- An item with its mark; a field's value with its mark.
 abbrev pub itemR : Inner → (ℕ → Reader) → Kind → Reader
@@ -86,15 +99,15 @@ itemR I S k = markedR (kindMark k) (kindR I S k)
 abbrev pub markedValueR : Inner → (ℕ → ℕ) → (ℕ → Reader) → Field → Reader
 markedValueR I sw S f = markedR (fieldMark f) (valueR I sw S f)
 
--- The groups of the table t with so many levels left, and static groups in them.
-abbrev pub innerOf : List ℕ → ℕ → Inner
-innerOf t levels = groupR strict (schema t) levels
+-- The groups of the table t where x is ignored, with so many levels left, and static groups in them.
+abbrev pub innerOf : Ignored → List ℕ → ℕ → Inner
+innerOf x t levels = groupR x (schema t) levels
 
 abbrev pub widthOf : List ℕ → ℕ → ℕ → ℕ
 widthOf t d = width (schema t) d
 
-abbrev pub staticOf : List ℕ → ℕ → ℕ → ℕ → Reader
-staticOf t levels d = staticR (schema t) (innerOf t levels) d
+abbrev pub staticOf : Ignored → List ℕ → ℕ → ℕ → ℕ → Reader
+staticOf x t levels d = staticR (schema t) (innerOf x t levels) d
 
 -- WHAT CALLERS SHOW
 

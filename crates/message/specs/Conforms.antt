@@ -10,7 +10,8 @@ use lib.ListN.{length, getD}
 use lib.Dec.{eqb}
 use Rattle.wire.specs.Bytes.{part, le}
 use Rattle.schema.specs.Schema.{Test, any, flag, below, symbol, Kind, plain, inline, indirect, static, dynamic, Field, Group, kindWidth, valueWidth, fieldWidth, fieldsOf, superOf, width}
-use Rattle.message.specs.Walk.{Ignored, word, byte}
+use Rattle.settings.specs.declared.Ignored.{Ignored}
+use Rattle.message.specs.Walk.{word, byte}
 use Rattle.message.specs.Text.{Utf8}
 
 -- THE VALUES OF A GROUP

@@ -7,4 +7,5 @@ pub mod Scopes
 pub mod Text
 pub mod Conforms
 pub mod Proper
+pub mod Ignorable
 pub mod Cases

@@ -11,6 +11,7 @@ use lib.Dec.{leb, ltb, eqb}
 use Rattle.wire.specs.Bytes.{part, le, bytesOf, allZero, zeros}
 use Rattle.schema.specs.Faults.{need}
 use Rattle.schema.specs.Schema.{Test, passes, testFault, textOk, Kind, plain, inline, indirect, static, dynamic, Field, Group, kindWidth, valueWidth, fieldWidth, fieldsOf, width, find, known, allows}
+use Rattle.settings.specs.declared.Ignored.{Ignored}
 use Rattle.message.specs.Marks.{free, mark, padsZero, padsBefore}
 use Rattle.message.specs.Sheet.{Mark, GB, XT, XU, markBytes, NO, GE, kindMark, fieldMark}
 
@@ -31,17 +32,8 @@ unfoldable pub next : Reading → (List ℕ → Reading) → Reading
 next (refused n p) f = refused n p
 next (done s m) f = prefixed s (f m)
 
--- Which of "absent field, pad or unused inline byte not zero" (4, 6, 8) is no fault. Such a byte reaches no sheet.
-pub record Ignored : Type 0 where
-  pub absent : Bool
-  pub pads : Bool
-  pub unused : Bool
-
--- Document 01's check ignores nothing.
-abbrev pub strict : Ignored
-strict = record { absent = false; pads = false; unused = false }
-
--- A dynamic group's bytes, its size word among them, where they start in the message, and where in them the data area starts.
+-- A dynamic group's bytes, its size word among them, where they start in the message, and where in them the data area starts; and which of "absent field,
+-- pad or unused inline byte not zero" (4, 6, 8) is no fault. Such a byte reaches no sheet.
 pub record Here : Type 0 where
   pub ignored : Ignored
   pub bytes : List ℕ
@@ -250,9 +242,12 @@ walk x gs b =
     need (leb 4 (length b) && eqb (length b) (4 + word 0 b)) (refused 22 0)
     (prefixed (markBytes GB) (groupR x gs 8 0 0 b))
 
--- "Whole message: 20, 23, 21, 22": what follows 20, where the scratch has this length.
-unfoldable pub messageR : Ignored → List Group → ℕ → List ℕ → Reading
-messageR x gs scratch b =
+-- "Whole message: 20, 23, 21, 22": the two tests behind 20, where the scratch has this length, and what follows them.
+abbrev pub fitting : ℕ → List ℕ → Reading → Reading
+fitting scratch b r =
     need (leb (length b) 65536) (refused 23 0)
     (need (leb (length b) scratch) (refused 21 0)
-    (walk x gs b))
+    r)
+
+unfoldable pub messageR : Ignored → List Group → ℕ → List ℕ → Reading
+messageR x gs scratch b = fitting scratch b (walk x gs b)

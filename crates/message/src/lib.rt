@@ -3,24 +3,26 @@
 // The check walks a message once, in the order of document 01, and keeps which bytes of a group are
 // taken by where the packed ones end and, for others, in the scratch that the caller lends. `index` is
 // that of crate `schema`. Functions count the sheet's length on from `before`, what comes before them.
+use settings::Ignored;
 ghost use mathlib.Core.Path.{_≡_};
 ghost use mathlib.Core.Bool.{true, cond, not, _&&_, _||_};
 ghost use mathlib.Core.List.{List, []};
-ghost use Prim.Native.Nat.{ℕ, min, max, _+_, _*_, _%_, _<_, _≤_, _^_};
+ghost use Prim.Native.Nat.{ℕ, min, max, _+_, _-_, _*_, _%_, _<_, _≤_, _^_};
 ghost use lib.ListN.{length, drop, replicate};
 ghost use lib.Dec.{eqb};
-ghost use Rattle.wire.specs.Bytes.{part, splice};
+ghost use Rattle.wire.specs.Bytes.{part, splice, allZero};
 ghost use Rattle.schema.specs.Faults.{need};
 ghost use Rattle.schema.specs.Schema.{inline, kindWidth, valueWidth, fieldWidth, shallowKind, shallow};
 ghost use Rattle.schema.specs.Table.{fieldAt, enums, schema};
 ghost use Rattle.schema.specs.Layout.{widthIn, Layout};
 ghost use Rattle.schema.specs.FieldKinds.{kindFrom, testedKind, Widths};
 ghost use Rattle.schema.specs.declared.Scope.the-variants.{Whole};
+ghost use Rattle.settings.specs.declared.Ignored.{Ignored};
 ghost use Rattle.message.specs.Marks.{free, mark, padsZero, padsBefore};
 ghost use Rattle.message.specs.Sheet.{Mark, ST};
-ghost use Rattle.message.specs.Walk.{lost, found, Reader, Inner, byte, here, strict, markedR, optionalR, indirectR, textR, innerR, locate, itemsR, fieldR, extendingR, extensionR, extensionIn, bodyR, walk};
+ghost use Rattle.message.specs.Walk.{lost, found, Reader, Inner, byte, here, markedR, optionalR, indirectR, textR, innerR, locate, itemsR, fieldR, extendingR, extensionR, extensionIn, bodyR, walk};
 ghost use Rattle.message.specs.Count.{count, andThen, counted};
-ghost use Rattle.message.specs.Check.{packed, scattered, marksOf, closing, countBy, countOf, after, placeBy, Claims, Lands, within, itemR, markedValueR, innerOf, widthOf, staticOf, Ready};
+ghost use Rattle.message.specs.Check.{levelsIn, ignoredIn, packed, scattered, marksOf, closing, countBy, countOf, after, placeBy, Claims, Lands, within, itemR, markedValueR, innerOf, widthOf, staticOf, Ready};
 ghost use Rattle.message.specs.declared.Frame.{Frame};
 ghost use Rattle.message.specs.Scopes.{groupOf, behindOf, leftOf, Lies, Opens};
 
@@ -55,11 +57,52 @@ enum Located {
 }
 
 // What holds in the whole of a dynamic group: where it starts in the message, where its data area
-// starts in its own bytes, and how many levels are left below it.
+// starts in its own bytes, and in one number how many levels are left below it and which faults are
+// ignored. A frame goes through every call of the walk, so it is kept small.
 struct Frame {
     base: usize,
     area: usize,
-    levels: usize,
+    rules: usize,
+}
+
+// The rules of a message where this is ignored: eight levels, and 16, 32 and 64 for 4, 6 and 8.
+fn rules_of(ignored: Ignored) -> usize
+    ensures { λ r. ⌜ (levelsIn r ≡ 8) × (ignoredIn r ≡ ignored) ⌝ }
+{
+    8 + 16 * bit(ignored.absent) + 32 * bit(ignored.pads) + 64 * bit(ignored.unused)
+}
+
+fn bit(flag: bool) -> usize
+    ensures { λ r. ⌜ (r ≡ cond flag 1 0) × (r ≤ 1) ⌝ }
+{
+    if flag {
+        return 1;
+    }
+    0
+}
+
+fn levels_left(rules: usize) -> usize
+    ensures { λ r. ⌜ r ≡ levelsIn rules ⌝ }
+{
+    rules % 16
+}
+
+fn ignores_absent(rules: usize) -> bool
+    ensures { λ r. ⌜ r ≡ ignoredIn rules .absent ⌝ }
+{
+    rules / 16 % 2 == 1
+}
+
+fn ignores_pads(rules: usize) -> bool
+    ensures { λ r. ⌜ r ≡ ignoredIn rules .pads ⌝ }
+{
+    2 <= rules / 16 % 4
+}
+
+fn ignores_unused(rules: usize) -> bool
+    ensures { λ r. ⌜ r ≡ ignoredIn rules .unused ⌝ }
+{
+    4 <= rules / 16
 }
 
 // The sheet's length, some bytes further. No sheet is as long as 64 bits can say, which is shown of
@@ -68,6 +111,17 @@ fn longer(length: usize, by: usize) -> usize
     ensures { λ r. ⌜ r ≡ (length + by) % 2 ^ 64 ⌝ }
 {
     std::num::wrapping_add_usize(length, by)
+}
+
+// Whether the n bytes from `at` on, which hold no value, are as they must be: zero, unless that is ignored.
+fn is_blank(ignored: bool, bytes: &[u8], at: usize, n: usize) -> bool
+    requires { ⌜ at + n ≤ length (now bytes) ⌝ }
+    ensures { λ r. ⌜ r ≡ ignored || allZero (part n at (now (bytes .entry))) ⌝ }
+{
+    if ignored {
+        return true;
+    }
+    wire::all_zero(bytes, at, n)
 }
 
 // THE DATA AREA
@@ -234,7 +288,17 @@ fn later(a: usize, b: usize) -> usize
     a
 }
 
-// "6", as a test of what no value took.
+// "6", as a test of what no value took, unless it is ignored.
+fn are_pads_blank(ignored: bool, marks: &[u8], bytes: &[u8], area: usize, taken: usize) -> bool
+    requires { ⌜ (length (now marks) ≡ length (now bytes)) × (area ≤ length (now bytes)) ⌝ }
+    ensures { λ r. ⌜ r ≡ ignored || padsZero (drop area (marksOf area taken (now (marks .entry)))) (drop area (now (bytes .entry))) ⌝ }
+{
+    if ignored {
+        return true;
+    }
+    are_pads_zero(marks, bytes, area, taken)
+}
+
 fn are_pads_zero(marks: &[u8], bytes: &[u8], area: usize, taken: usize) -> bool
     requires { ⌜ (length (now marks) ≡ length (now bytes)) × (area ≤ length (now bytes)) ⌝ }
     ensures { λ r. ⌜ r ≡ padsZero (drop area (marksOf area taken (now (marks .entry)))) (drop area (now (bytes .entry))) ⌝ }
@@ -289,9 +353,9 @@ fn earlier(a: usize, b: usize) -> usize
 // "6", and the group's end.
 fn check_pads(bytes: &[u8], marks: &mut [u8], frame: Frame, taken: usize, before: usize) -> Step
     requires { ⌜ (length (now marks) ≡ length (now bytes)) × (frame .base + length (now bytes) ≤ 65536) × (frame .area ≤ length (now bytes)) ⌝ }
-    ensures { λ r. ⌜ countBy (λ _. []) r ≡ after before (closing (now (bytes .entry)) (frame .base) (frame .area) (marksOf (frame .area) taken (now (marks .entry)))) ⌝ }
+    ensures { λ r. ⌜ countBy (λ _. []) r ≡ after before (closing (within (now (bytes .entry)) frame) (marksOf (frame .area) taken (now (marks .entry)))) ⌝ }
 {
-    if are_pads_zero(marks, bytes, frame.area, taken) {
+    if are_pads_blank(ignores_pads(frame.rules), marks, bytes, frame.area, taken) {
         return Step::Counted {
             length: longer(before, 2),
             taken,
@@ -317,7 +381,7 @@ fn check_number(
     before: usize,
 ) -> Step
     requires { ⌜ (Layout (now table) (now index)) × (at + kindWidth (widthIn (now index)) (testedKind (enums (now table)) tested) ≤ length (now bytes)) × (base + length (now bytes) ≤ 65536) ⌝ }
-    ensures { λ r. ⌜ ((I : Inner) (S : ℕ → Reader) (area : ℕ) (F : ℕ → List ℕ) → countBy F r ≡ after before (count (itemR I S (testedKind (enums (now (table .entry))) tested) (here strict (now (bytes .entry)) base area) at (F taken)))) ⌝ }
+    ensures { λ r. ⌜ ((x : Ignored) (I : Inner) (S : ℕ → Reader) (area : ℕ) (F : ℕ → List ℕ) → countBy F r ≡ after before (count (itemR I S (testedKind (enums (now (table .entry))) tested) (here x (now (bytes .entry)) base area) at (F taken)))) ⌝ }
 {
     let fault = schema::test_fault(table, index, tested, bytes, at);
     if fault != 0 {
@@ -345,7 +409,7 @@ fn check_numbers(
     before: usize,
 ) -> Step
     requires { ⌜ (Layout (now table) (now index)) × (at + total * kindWidth (widthIn (now index)) (testedKind (enums (now table)) tested) ≤ length (now bytes)) × (base + length (now bytes) ≤ 65536) ⌝ }
-    ensures { λ r. ⌜ ((I : Inner) (S : ℕ → Reader) (area : ℕ) (F : ℕ → List ℕ) → countBy F r ≡ after before (count (itemsR (kindWidth (widthIn (now (index .entry))) (testedKind (enums (now (table .entry))) tested)) (itemR I S (testedKind (enums (now (table .entry))) tested)) total (here strict (now (bytes .entry)) base area) at (F taken)))) ⌝ }
+    ensures { λ r. ⌜ ((x : Ignored) (I : Inner) (S : ℕ → Reader) (area : ℕ) (F : ℕ → List ℕ) → countBy F r ≡ after before (count (itemsR (kindWidth (widthIn (now (index .entry))) (testedKind (enums (now (table .entry))) tested)) (itemR I S (testedKind (enums (now (table .entry))) tested)) total (here x (now (bytes .entry)) base area) at (F taken)))) ⌝ }
 {
     let width = wire::wide(schema::tested_width(tested));
     let mut i = 0;
@@ -378,26 +442,26 @@ fn check_numbers(
 // "Inline text: 7, 8, 9."
 fn check_inline(
     bytes: &[u8],
-    base: usize,
+    frame: Frame,
     utf8: bool,
     capacity: u8,
     at: usize,
     taken: usize,
     before: usize,
 ) -> Step
-    requires { ⌜ (at + (capacity + 1) ≤ length (now bytes)) × (base + length (now bytes) ≤ 65536) ⌝ }
-    ensures { λ r. ⌜ ((I : Inner) (S : ℕ → Reader) (area : ℕ) (F : ℕ → List ℕ) → countBy F r ≡ after before (count (itemR I S (inline utf8 capacity) (here strict (now (bytes .entry)) base area) at (F taken)))) ⌝ }
+    requires { ⌜ (at + (capacity + 1) ≤ length (now bytes)) × (frame .base + length (now bytes) ≤ 65536) ⌝ }
+    ensures { λ r. ⌜ ((I : Inner) (S : ℕ → Reader) (F : ℕ → List ℕ) → countBy F r ≡ after before (count (itemR I S (inline utf8 capacity) (within (now (bytes .entry)) frame) at (F taken)))) ⌝ }
 {
     let room = wire::wide(capacity);
     let count = wire::wide(bytes[at]);
     if room < count {
         return Step::Refused {
             number: 7,
-            place: base + at,
+            place: frame.base + at,
         };
     }
     let end = at + 1 + count;
-    if wire::all_zero(bytes, end, room - count) {
+    if is_blank(ignores_unused(frame.rules), bytes, end, room - count) {
         if schema::is_text(utf8, bytes, at + 1, count) {
             return Step::Counted {
                 length: longer(before, 6 + count),
@@ -406,12 +470,12 @@ fn check_inline(
         }
         return Step::Refused {
             number: 9,
-            place: base + (at + 1),
+            place: frame.base + (at + 1),
         };
     }
     Step::Refused {
         number: 8,
-        place: base + end + wire::count_zeros(bytes, end, room - count),
+        place: frame.base + end + wire::count_zeros(bytes, end, room - count),
     }
 }
 
@@ -493,22 +557,22 @@ fn check_texts(
 // An optional field whose flag is not 1: "11 on its flag, 4", or absent.
 fn check_absent(
     bytes: &[u8],
-    base: usize,
+    frame: Frame,
     at: usize,
     width: usize,
     taken: usize,
     before: usize,
 ) -> Step
-    requires { ⌜ (byte at (now bytes) ≡ 1 → ⊥) × (at + (width + 1) ≤ length (now bytes)) × (base + length (now bytes) ≤ 65536) ⌝ }
-    ensures { λ r. ⌜ ((k : Mark) (R : Reader) (area : ℕ) (F : ℕ → List ℕ) → countBy F r ≡ after before (count (optionalR k width R (here strict (now (bytes .entry)) base area) at (F taken)))) ⌝ }
+    requires { ⌜ (byte at (now bytes) ≡ 1 → ⊥) × (at + (width + 1) ≤ length (now bytes)) × (frame .base + length (now bytes) ≤ 65536) ⌝ }
+    ensures { λ r. ⌜ ((k : Mark) (R : Reader) (F : ℕ → List ℕ) → countBy F r ≡ after before (count (optionalR k width R (within (now (bytes .entry)) frame) at (F taken)))) ⌝ }
 {
     if bytes[at] != 0 {
         return Step::Refused {
             number: 11,
-            place: base + at,
+            place: frame.base + at,
         };
     }
-    if wire::all_zero(bytes, at + 1, width) {
+    if is_blank(ignores_absent(frame.rules), bytes, at + 1, width) {
         return Step::Counted {
             length: longer(before, 2),
             taken,
@@ -516,7 +580,7 @@ fn check_absent(
     }
     Step::Refused {
         number: 4,
-        place: base + (at + 1) + wire::count_zeros(bytes, at + 1, width),
+        place: frame.base + (at + 1) + wire::count_zeros(bytes, at + 1, width),
     }
 }
 
@@ -546,7 +610,7 @@ fn flag_width(optional: bool) -> usize
 // Whether the extension's offset, which stands at 12, is zero or leads into the data area.
 fn extension_inside(bytes: &[u8], area: usize) -> bool
     requires { ⌜ 16 ≤ length (now bytes) ⌝ }
-    ensures { λ r. ⌜ ((base : ℕ) → r ≡ extensionIn (here strict (now (bytes .entry)) base area) 12) ⌝ }
+    ensures { λ r. ⌜ ((x : Ignored) (base : ℕ) → r ≡ extensionIn (here x (now (bytes .entry)) base area) 12) ⌝ }
 {
     let offset = wire::read_u32(bytes, 12);
     if offset == 0 {
@@ -590,7 +654,7 @@ fn check_group(
     before: usize,
 ) -> Step
     requires { ⌜ (Ready (now table) (now index) (now bytes) (now marks) outer) × (Lies (now table) depth scope (now bytes) at) ⌝ }
-    ensures { λ r. ⌜ countBy (λ s. leftOf scope (outer .area) s (now (marks .exit))) r ≡ after before (count (groupOf (now (table .entry)) (outer .levels) depth scope (within (now (bytes .entry)) outer) at (marksOf (outer .area) taken (now (marks .entry))))) ⌝ }
+    ensures { λ r. ⌜ countBy (λ s. leftOf scope (outer .area) s (now (marks .exit))) r ≡ after before (count (groupOf (now (table .entry)) (levelsIn (outer .rules)) depth scope (within (now (bytes .entry)) outer) at (marksOf (outer .area) taken (now (marks .entry))))) ⌝ }
 {
     let opening = open_group(table, index, bytes, outer, scope, taken, before);
     match opening {
@@ -641,15 +705,14 @@ fn open_group(
     before: usize,
 ) -> Opened
     requires { ⌜ (Layout (now table) (now index)) × (frame .base + length (now bytes) ≤ 65536) ⌝ }
-    ensures { λ r. ⌜ ((m : List ℕ) (d at : ℕ) → Ready (now (table .entry)) (now (index .entry)) (now (bytes .entry)) m frame → Lies (now (table .entry)) d scope (now (bytes .entry)) at → Opens (now (table .entry)) (now (index .entry)) (now (bytes .entry)) m frame d scope at before (count (groupOf (now (table .entry)) (frame .levels) d scope (within (now (bytes .entry)) frame) at (marksOf (frame .area) taken m))) r) ⌝ }
+    ensures { λ r. ⌜ ((m : List ℕ) (d at : ℕ) → Ready (now (table .entry)) (now (index .entry)) (now (bytes .entry)) m frame → Lies (now (table .entry)) d scope (now (bytes .entry)) at → Opens (now (table .entry)) (now (index .entry)) (now (bytes .entry)) m frame d scope at before (count (groupOf (now (table .entry)) (levelsIn (frame .rules)) d scope (within (now (bytes .entry)) frame) at (marksOf (frame .area) taken m))) r) ⌝ }
 {
     match scope {
         schema::Scope::Whole { allowed } => open_dynamic(
             table,
             index,
             bytes,
-            frame.base,
-            frame.levels,
+            frame,
             allowed,
             before,
         ),
@@ -668,18 +731,17 @@ fn open_dynamic(
     table: &[u8],
     index: &[u16],
     bytes: &[u8],
-    base: usize,
-    levels: usize,
+    frame: Frame,
     allowed: usize,
     before: usize,
 ) -> Opened
-    requires { ⌜ (Layout (now table) (now index)) × (base + length (now bytes) ≤ 65536) ⌝ }
-    ensures { λ r. ⌜ ((m : List ℕ) (o : Frame) → length m ≡ length (now (bytes .entry)) → o .levels ≡ levels → Opens (now (table .entry)) (now (index .entry)) (now (bytes .entry)) m o 5 (Whole allowed) 16 before (count (innerOf (now (table .entry)) levels allowed base (now (bytes .entry)))) r) ⌝ }
+    requires { ⌜ (Layout (now table) (now index)) × (frame .base + length (now bytes) ≤ 65536) ⌝ }
+    ensures { λ r. ⌜ ((m : List ℕ) (o : Frame) → length m ≡ length (now (bytes .entry)) → levelsIn (o .rules) ≡ levelsIn (frame .rules) → Opens (now (table .entry)) (now (index .entry)) (now (bytes .entry)) m o 5 (Whole allowed) 16 before (count (innerOf (ignoredIn (frame .rules)) (now (table .entry)) (levelsIn (frame .rules)) allowed (frame .base) (now (bytes .entry)))) r) ⌝ }
 {
     if bytes.len() < 16 {
         return Opened::Refused {
             number: 1,
-            place: base,
+            place: frame.base,
         };
     }
     let total = schema::group_total(index);
@@ -687,50 +749,45 @@ fn open_dynamic(
     if total <= group {
         return Opened::Refused {
             number: 2,
-            place: base,
+            place: frame.base,
         };
     }
     if schema::allows(table, index, allowed, group) {
-        if levels == 0 {
+        if levels_left(frame.rules) == 0 {
             return Opened::Refused {
                 number: 24,
-                place: base,
+                place: frame.base,
             };
         }
-        return open_area(index, bytes, base, levels - 1, group, before);
+        return open_area(index, bytes, frame, group, before);
     }
     Opened::Refused {
         number: 25,
-        place: base,
+        place: frame.base,
     }
 }
 
-// "14, 3", with so many levels left below the group.
-fn open_area(
-    index: &[u16],
-    bytes: &[u8],
-    base: usize,
-    levels: usize,
-    group: usize,
-    before: usize,
-) -> Opened
-    requires { ⌜ (Widths (now index)) × (16 ≤ length (now bytes)) × (base + length (now bytes) ≤ 65536) ⌝ }
-    ensures { λ r. ⌜ ((t m : List ℕ) (o : Frame) (allowed : ℕ) → Layout t (now (index .entry)) → group < length (schema t) → length m ≡ length (now (bytes .entry)) → o .levels ≡ levels + 1 → Opens t (now (index .entry)) (now (bytes .entry)) m o 5 (Whole allowed) 16 before (count (bodyR strict (schema t) (innerOf t levels) group base (now (bytes .entry)))) r) ⌝ }
+// "14, 3": a group in the frame `outer` that has a frame of its own, a level deeper.
+fn open_area(index: &[u16], bytes: &[u8], outer: Frame, group: usize, before: usize) -> Opened
+    requires { ⌜ (Widths (now index)) × (16 ≤ length (now bytes)) × (outer .base + length (now bytes) ≤ 65536) × (1 ≤ levelsIn (outer .rules)) ⌝ }
+    ensures { λ r. ⌜ ((t m : List ℕ) (o : Frame) (allowed : ℕ) → Layout t (now (index .entry)) → group < length (schema t) → length m ≡ length (now (bytes .entry)) → levelsIn (o .rules) ≡ levelsIn (outer .rules) → Opens t (now (index .entry)) (now (bytes .entry)) m o 5 (Whole allowed) 16 before (count (bodyR (ignoredIn (outer .rules)) (schema t) (innerOf (ignoredIn (outer .rules)) t (levelsIn (outer .rules) - 1)) group (outer .base) (now (bytes .entry)))) r) ⌝ }
 {
     let area = 16 + schema::group_width(index, group);
     if bytes.len() < area {
         return Opened::Refused {
             number: 14,
-            place: base,
+            place: outer.base,
         };
     }
     if !extension_inside(bytes, area) {
         return Opened::Refused {
             number: 3,
-            place: base + 12,
+            place: outer.base + 12,
         };
     }
-    let frame = Frame { base, area, levels };
+    let mut frame = outer;
+    frame.area = area;
+    frame.rules = outer.rules - 1;
     Opened::Begun {
         group,
         frame,
@@ -751,7 +808,7 @@ fn close_group(
     before: usize,
 ) -> Step
     requires { ⌜ (Ready (now table) (now index) (now bytes) (now marks) frame) × ((allowed : ℕ) → scope ≡ Whole allowed → 16 ≤ length (now bytes)) ⌝ }
-    ensures { λ r. ⌜ countBy (λ s. leftOf scope (frame .area) s (now (marks .exit))) r ≡ after before (behindOf (now (table .entry)) (frame .levels) scope (within (now (bytes .entry)) frame) (marksOf (frame .area) taken (now (marks .entry)))) ⌝ }
+    ensures { λ r. ⌜ countBy (λ s. leftOf scope (frame .area) s (now (marks .exit))) r ≡ after before (behindOf (now (table .entry)) (levelsIn (frame .rules)) scope (within (now (bytes .entry)) frame) (marksOf (frame .area) taken (now (marks .entry)))) ⌝ }
 {
     match scope {
         schema::Scope::Whole { allowed } => {
@@ -785,7 +842,7 @@ fn check_rest(
     before: usize,
 ) -> Step
     requires { ⌜ (Ready (now table) (now index) (now bytes) (now marks) frame) × (16 ≤ length (now bytes)) ⌝ }
-    ensures { λ r. ⌜ countBy (λ _. []) r ≡ after before (andThen (count (extensionR (schema (now (table .entry))) (innerOf (now (table .entry)) (frame .levels)) (within (now (bytes .entry)) frame) 12 (marksOf (frame .area) taken (now (marks .entry))))) (closing (now (bytes .entry)) (frame .base) (frame .area))) ⌝ }
+    ensures { λ r. ⌜ countBy (λ _. []) r ≡ after before (andThen (count (extensionR (schema (now (table .entry))) (innerOf (ignoredIn (frame .rules)) (now (table .entry)) (levelsIn (frame .rules))) (within (now (bytes .entry)) frame) 12 (marksOf (frame .area) taken (now (marks .entry))))) (closing (within (now (bytes .entry)) frame))) ⌝ }
 {
     let extension = check_extension(table, index, bytes, marks, frame, taken, before);
     match extension {
@@ -809,7 +866,7 @@ fn check_fields(
     before: usize,
 ) -> Step
     requires { ⌜ (Ready (now table) (now index) (now bytes) (now marks) frame) × (at + widthOf (now table) depth group ≤ length (now bytes)) × (group < length (schema (now table))) × (shallow (schema (now table)) depth group ≡ true) ⌝ }
-    ensures { λ r. ⌜ countBy (λ s. marksOf (frame .area) s (now (marks .exit))) r ≡ after before (count (staticOf (now (table .entry)) (frame .levels) depth group (within (now (bytes .entry)) frame) at (marksOf (frame .area) taken (now (marks .entry))))) ⌝ }
+    ensures { λ r. ⌜ countBy (λ s. marksOf (frame .area) s (now (marks .exit))) r ≡ after before (count (staticOf (ignoredIn (frame .rules)) (now (table .entry)) (levelsIn (frame .rules)) depth group (within (now (bytes .entry)) frame) at (marksOf (frame .area) taken (now (marks .entry))))) ⌝ }
 {
     let start = schema::group_place(index, group);
     let total = schema::field_count(table, start);
@@ -877,12 +934,12 @@ fn check_field(
     before: usize,
 ) -> Step
     requires { ⌜ (Ready (now table) (now index) (now bytes) (now marks) frame) × (field + 16 ≤ length (now table)) × (at + fieldWidth (widthOf (now table) depth) (fieldAt (enums (now table)) (drop field (now table))) ≤ length (now bytes)) × (shallowKind (shallow (schema (now table)) depth) (widthOf (now table) depth) ((fieldAt (enums (now table)) (drop field (now table))) .kind) ≡ true) ⌝ }
-    ensures { λ r. ⌜ countBy (λ s. marksOf (frame .area) s (now (marks .exit))) r ≡ after before (count (fieldR (innerOf (now (table .entry)) (frame .levels)) (widthOf (now (table .entry)) depth) (staticOf (now (table .entry)) (frame .levels) depth) (fieldAt (enums (now (table .entry))) (drop field (now (table .entry)))) (within (now (bytes .entry)) frame) at (marksOf (frame .area) taken (now (marks .entry))))) ⌝ }
+    ensures { λ r. ⌜ countBy (λ s. marksOf (frame .area) s (now (marks .exit))) r ≡ after before (count (fieldR (innerOf (ignoredIn (frame .rules)) (now (table .entry)) (levelsIn (frame .rules))) (widthOf (now (table .entry)) depth) (staticOf (ignoredIn (frame .rules)) (now (table .entry)) (levelsIn (frame .rules)) depth) (fieldAt (enums (now (table .entry))) (drop field (now (table .entry)))) (within (now (bytes .entry)) frame) at (marksOf (frame .area) taken (now (marks .entry))))) ⌝ }
 {
     let optional = schema::is_optional(table, field);
     if is_unset(optional, bytes, at) {
         let width = schema::value_width(table, index, field);
-        return check_absent(bytes, frame.base, at, width, taken, before);
+        return check_absent(bytes, frame, at, width, taken, before);
     }
     check_value(
         table,
@@ -913,7 +970,7 @@ fn check_value(
     before: usize,
 ) -> Step
     requires { ⌜ (Ready (now table) (now index) (now bytes) (now marks) frame) × (field + 16 ≤ length (now table)) × (at + valueWidth (widthOf (now table) depth) (fieldAt (enums (now table)) (drop field (now table))) ≤ length (now bytes)) × (shallowKind (shallow (schema (now table)) depth) (widthOf (now table) depth) ((fieldAt (enums (now table)) (drop field (now table))) .kind) ≡ true) ⌝ }
-    ensures { λ r. ⌜ countBy (λ s. marksOf (frame .area) s (now (marks .exit))) r ≡ after before (count (markedValueR (innerOf (now (table .entry)) (frame .levels)) (widthOf (now (table .entry)) depth) (staticOf (now (table .entry)) (frame .levels) depth) (fieldAt (enums (now (table .entry))) (drop field (now (table .entry)))) (within (now (bytes .entry)) frame) at (marksOf (frame .area) taken (now (marks .entry))))) ⌝ }
+    ensures { λ r. ⌜ countBy (λ s. marksOf (frame .area) s (now (marks .exit))) r ≡ after before (count (markedValueR (innerOf (ignoredIn (frame .rules)) (now (table .entry)) (levelsIn (frame .rules))) (widthOf (now (table .entry)) depth) (staticOf (ignoredIn (frame .rules)) (now (table .entry)) (levelsIn (frame .rules)) depth) (fieldAt (enums (now (table .entry))) (drop field (now (table .entry)))) (within (now (bytes .entry)) frame) at (marksOf (frame .area) taken (now (marks .entry))))) ⌝ }
 {
     let kind = schema::kind_at(table, field);
     let width = schema::kind_width(index, kind);
@@ -972,7 +1029,7 @@ fn check_items(
     before: usize,
 ) -> Step
     requires { ⌜ (Ready (now table) (now index) (now bytes) (now marks) frame) × (at + total * width ≤ length (now bytes)) × (total < 2 ^ 32) × (width ≤ 4096) × (width ≡ kindWidth (widthOf (now table) depth) (kindFrom (enums (now table)) kind)) × (shallowKind (shallow (schema (now table)) depth) (widthOf (now table) depth) (kindFrom (enums (now table)) kind) ≡ true) ⌝ }
-    ensures { λ r. ⌜ countBy (λ s. marksOf (frame .area) s (now (marks .exit))) r ≡ after before (count (itemsR width (itemR (innerOf (now (table .entry)) (frame .levels)) (staticOf (now (table .entry)) (frame .levels) depth) (kindFrom (enums (now (table .entry))) kind)) total (within (now (bytes .entry)) frame) at (marksOf (frame .area) taken (now (marks .entry))))) ⌝ }
+    ensures { λ r. ⌜ countBy (λ s. marksOf (frame .area) s (now (marks .exit))) r ≡ after before (count (itemsR width (itemR (innerOf (ignoredIn (frame .rules)) (now (table .entry)) (levelsIn (frame .rules))) (staticOf (ignoredIn (frame .rules)) (now (table .entry)) (levelsIn (frame .rules)) depth) (kindFrom (enums (now (table .entry))) kind)) total (within (now (bytes .entry)) frame) at (marksOf (frame .area) taken (now (marks .entry))))) ⌝ }
 {
     if let schema::FieldKind::Plain { width: plain } = kind {
         return Step::Counted {
@@ -1047,7 +1104,7 @@ fn check_item(
     before: usize,
 ) -> Step
     requires { ⌜ (Ready (now table) (now index) (now bytes) (now marks) frame) × (at + kindWidth (widthOf (now table) depth) (kindFrom (enums (now table)) kind) ≤ length (now bytes)) × (shallowKind (shallow (schema (now table)) depth) (widthOf (now table) depth) (kindFrom (enums (now table)) kind) ≡ true) ⌝ }
-    ensures { λ r. ⌜ countBy (λ s. marksOf (frame .area) s (now (marks .exit))) r ≡ after before (count (itemR (innerOf (now (table .entry)) (frame .levels)) (staticOf (now (table .entry)) (frame .levels) depth) (kindFrom (enums (now (table .entry))) kind) (within (now (bytes .entry)) frame) at (marksOf (frame .area) taken (now (marks .entry))))) ⌝ }
+    ensures { λ r. ⌜ countBy (λ s. marksOf (frame .area) s (now (marks .exit))) r ≡ after before (count (itemR (innerOf (ignoredIn (frame .rules)) (now (table .entry)) (levelsIn (frame .rules))) (staticOf (ignoredIn (frame .rules)) (now (table .entry)) (levelsIn (frame .rules)) depth) (kindFrom (enums (now (table .entry))) kind) (within (now (bytes .entry)) frame) at (marksOf (frame .area) taken (now (marks .entry))))) ⌝ }
 {
     match kind {
         schema::FieldKind::Plain { width } => Step::Counted {
@@ -1066,7 +1123,7 @@ fn check_item(
         ),
         schema::FieldKind::Inline { utf8, capacity } => check_inline(
             bytes,
-            frame.base,
+            frame,
             utf8,
             capacity,
             at,
@@ -1120,7 +1177,7 @@ fn check_dynamic(
     before: usize,
 ) -> Step
     requires { ⌜ (Ready (now table) (now index) (now bytes) (now marks) frame) × (at + 4 ≤ length (now bytes)) ⌝ }
-    ensures { λ r. ⌜ countBy (λ s. marksOf (frame .area) s (now (marks .exit))) r ≡ after before (count (indirectR 26 1 (innerR (innerOf (now (table .entry)) (frame .levels)) allowed) (within (now (bytes .entry)) frame) at (marksOf (frame .area) taken (now (marks .entry))))) ⌝ }
+    ensures { λ r. ⌜ countBy (λ s. marksOf (frame .area) s (now (marks .exit))) r ≡ after before (count (indirectR 26 1 (innerR (innerOf (ignoredIn (frame .rules)) (now (table .entry)) (levelsIn (frame .rules))) allowed) (within (now (bytes .entry)) frame) at (marksOf (frame .area) taken (now (marks .entry))))) ⌝ }
 {
     let found = locate(bytes, marks, frame, taken, at, 26, 1);
     match found {
@@ -1159,14 +1216,12 @@ fn check_nested(
     before: usize,
 ) -> Step
     requires { ⌜ (Ready (now table) (now index) (now bytes) (now marks) frame) × (start + size ≤ length (now bytes)) × (mark start size (marksOf (frame .area) taken (now marks)) ≡ marksOf (frame .area) taken (now marks)) ⌝ }
-    ensures { λ r. ⌜ countBy (λ s. marksOf (frame .area) s (now (marks .exit))) r ≡ after before (andThen (count (innerOf (now (table .entry)) (frame .levels) allowed (frame .base + start) (part size start (now (bytes .entry))))) (λ _. counted 0 (marksOf (frame .area) taken (now (marks .entry))))) ⌝ }
+    ensures { λ r. ⌜ countBy (λ s. marksOf (frame .area) s (now (marks .exit))) r ≡ after before (andThen (count (innerOf (ignoredIn (frame .rules)) (now (table .entry)) (levelsIn (frame .rules)) allowed (frame .base + start) (part size start (now (bytes .entry))))) (λ _. counted 0 (marksOf (frame .area) taken (now (marks .entry))))) ⌝ }
 {
     let end = start + size;
-    let inner = Frame {
-        base: frame.base + start,
-        area: 0,
-        levels: frame.levels,
-    };
+    let mut inner = frame;
+    inner.base = frame.base + start;
+    inner.area = 0;
     let group = check_group(
         table,
         index,
@@ -1202,7 +1257,7 @@ fn check_extension(
     before: usize,
 ) -> Step
     requires { ⌜ (Ready (now table) (now index) (now bytes) (now marks) frame) × (16 ≤ length (now bytes)) ⌝ }
-    ensures { λ r. ⌜ countBy (λ s. marksOf (frame .area) s (now (marks .exit))) r ≡ after before (count (extensionR (schema (now (table .entry))) (innerOf (now (table .entry)) (frame .levels)) (within (now (bytes .entry)) frame) 12 (marksOf (frame .area) taken (now (marks .entry))))) ⌝ }
+    ensures { λ r. ⌜ countBy (λ s. marksOf (frame .area) s (now (marks .exit))) r ≡ after before (count (extensionR (schema (now (table .entry))) (innerOf (ignoredIn (frame .rules)) (now (table .entry)) (levelsIn (frame .rules))) (within (now (bytes .entry)) frame) 12 (marksOf (frame .area) taken (now (marks .entry))))) ⌝ }
 {
     if wire::read_u32(bytes, 12) == 0 {
         return Step::Counted {
@@ -1251,7 +1306,7 @@ fn check_groups(
     before: usize,
 ) -> Step
     requires { ⌜ (Ready (now table) (now index) (now bytes) (now marks) frame) × (at + total * 4 ≤ length (now bytes)) ⌝ }
-    ensures { λ r. ⌜ countBy (λ s. marksOf (frame .area) s (now (marks .exit))) r ≡ after before (count (itemsR 4 (indirectR 26 1 (extendingR (schema (now (table .entry))) (innerOf (now (table .entry)) (frame .levels)))) total (within (now (bytes .entry)) frame) at (marksOf (frame .area) taken (now (marks .entry))))) ⌝ }
+    ensures { λ r. ⌜ countBy (λ s. marksOf (frame .area) s (now (marks .exit))) r ≡ after before (count (itemsR 4 (indirectR 26 1 (extendingR (schema (now (table .entry))) (innerOf (ignoredIn (frame .rules)) (now (table .entry)) (levelsIn (frame .rules))))) total (within (now (bytes .entry)) frame) at (marksOf (frame .area) taken (now (marks .entry))))) ⌝ }
 {
     let mut i = 0;
     let mut place = at;
@@ -1292,7 +1347,7 @@ fn check_extending(
     before: usize,
 ) -> Step
     requires { ⌜ (Ready (now table) (now index) (now bytes) (now marks) frame) × (at + 4 ≤ length (now bytes)) ⌝ }
-    ensures { λ r. ⌜ countBy (λ s. marksOf (frame .area) s (now (marks .exit))) r ≡ after before (count (indirectR 26 1 (extendingR (schema (now (table .entry))) (innerOf (now (table .entry)) (frame .levels))) (within (now (bytes .entry)) frame) at (marksOf (frame .area) taken (now (marks .entry))))) ⌝ }
+    ensures { λ r. ⌜ countBy (λ s. marksOf (frame .area) s (now (marks .exit))) r ≡ after before (count (indirectR 26 1 (extendingR (schema (now (table .entry))) (innerOf (ignoredIn (frame .rules)) (now (table .entry)) (levelsIn (frame .rules)))) (within (now (bytes .entry)) frame) at (marksOf (frame .area) taken (now (marks .entry))))) ⌝ }
 {
     let found = locate(bytes, marks, frame, taken, at, 26, 1);
     match found {
@@ -1333,20 +1388,32 @@ fn check_extending(
 // THE MESSAGE
 
 // "22, then the group". The scratch's first bytes, as many as the message has, are zero afterwards.
-pub fn check(table: &[u8], index: &[u16], message: &[u8], scratch: &mut [u8]) -> Walked
+pub fn check(
+    table: &[u8],
+    index: &[u16],
+    message: &[u8],
+    ignored: Ignored,
+    scratch: &mut [u8],
+) -> Walked
     requires { ⌜ (Layout (now table) (now index)) × (length (now message) ≤ length (now scratch)) × (length (now message) ≤ 65536) ⌝ }
-    ensures { λ r. ⌜ countOf r [] ≡ after 0 (count (walk strict (schema (now (table .entry))) (now (message .entry)))) ⌝ }
+    ensures { λ r. ⌜ countOf r [] ≡ after 0 (count (walk ignored (schema (now (table .entry))) (now (message .entry)))) ⌝ }
     ensures { λ _. ⌜ now (scratch .exit) ≡ splice (length (now (message .entry))) 0 (replicate (length (now (message .entry))) 0) (now (scratch .entry)) ⌝ }
 {
     let n = message.len();
-    let answer = check_sized(table, index, message, &mut scratch[0..n]);
+    let answer = check_sized(table, index, message, rules_of(ignored), &mut scratch[0..n]);
     wire::fill(scratch, 0, n, 0);
     answer
 }
 
-fn check_sized(table: &[u8], index: &[u16], message: &[u8], marks: &mut [u8]) -> Walked
-    requires { ⌜ (Layout (now table) (now index)) × (length (now marks) ≡ length (now message)) × (length (now message) ≤ 65536) ⌝ }
-    ensures { λ r. ⌜ countOf r [] ≡ after 0 (count (walk strict (schema (now (table .entry))) (now (message .entry)))) ⌝ }
+fn check_sized(
+    table: &[u8],
+    index: &[u16],
+    message: &[u8],
+    rules: usize,
+    marks: &mut [u8],
+) -> Walked
+    requires { ⌜ (Layout (now table) (now index)) × (length (now marks) ≡ length (now message)) × (length (now message) ≤ 65536) × (levelsIn rules ≡ 8) ⌝ }
+    ensures { λ r. ⌜ countOf r [] ≡ after 0 (count (walk (ignoredIn rules) (schema (now (table .entry))) (now (message .entry)))) ⌝ }
 {
     if message.len() < 4 {
         return Walked::Refused {
@@ -1363,7 +1430,7 @@ fn check_sized(table: &[u8], index: &[u16], message: &[u8], marks: &mut [u8]) ->
     let frame = Frame {
         base: 0,
         area: 0,
-        levels: 8,
+        rules,
     };
     let group = check_group(
         table,

@@ -4,4 +4,5 @@ pub mod lines;
 pub mod print;
 pub mod rows;
 pub mod show;
+pub mod store;
 pub mod value;

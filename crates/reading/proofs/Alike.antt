@@ -1,6 +1,6 @@
--- A group is read alike in another place and with more levels left: only the places of faults differ, and fault 24.
-use mathlib.Core.Path.{_≡_}
-use mathlib.Core.Bool.{Bool, true, false, cond, _||_}
+-- A group is read alike in another place, with more levels left and where more is ignored: only the places of faults differ, and the faults 24, 4, 6 and 8.
+use mathlib.Core.Path.{_≡_, refl}
+use mathlib.Core.Bool.{Bool, true, false, cond, _&&_, _||_}
 use mathlib.Core.List.{List, [], _∷_}
 use Prim.Native.Nat.{ℕ, zero, suc, _+_, _-_, _*_}
 use native.Mathlib.Omega.{arith}
@@ -11,7 +11,9 @@ use Rattle.schema.specs.Faults.{need}
 use Rattle.schema.specs.Schema.{Test, passes, testFault, textOk, Kind, plain, inline, indirect, static, dynamic, Field, Group, kindWidth, valueWidth, fieldWidth, fieldsOf, width, find, known, allows}
 use Rattle.message.specs.Marks.{free, padsZero, padsBefore}
 use Rattle.message.specs.Sheet.{Mark, markBytes, kindMark, fieldMark}
-use Rattle.message.specs.Walk.{Ignored, Here, here, Reading, refused, done, Reader, Inner, byte, word, prefixed, next, noneR, thenR, markedR, optionalR, plainR, inlineR, inArea, Place, lost, found, locate, onward, indirectR, textR, innerR, itemsR, listR, kindR, valueR, fieldR, fieldsR, staticR, extendingR, groupsR, extensionR, extensionIn, behindR, padded, bodyR, headR, groupR}
+use Rattle.settings.specs.declared.Ignored.{Ignored}
+use Rattle.settings.specs.Store.{lax}
+use Rattle.message.specs.Walk.{Here, here, Reading, refused, done, Reader, Inner, byte, word, prefixed, next, noneR, thenR, markedR, optionalR, plainR, inlineR, inArea, Place, lost, found, locate, onward, indirectR, textR, innerR, itemsR, listR, kindR, valueR, fieldR, fieldsR, staticR, extendingR, groupsR, extensionR, extensionIn, behindR, padded, bodyR, headR, groupR, walk}
 
 -- where the first is done, the second is done with the same sheet and marks
 pub data Alike : Reading → Reading → Type 0 where
@@ -26,6 +28,19 @@ alike-need : (c : Bool) (n p n′ p′ : ℕ) {r r′ : Reading} → Alike r r�
 unfolding need
 alike-need true n p n′ p′ x = x
 alike-need false n p n′ p′ x = fault
+
+-- y ignores all that x does
+pub record Laxer (x y : Ignored) : Type 0 where
+  pub absent : x .absent ≡ true → y .absent ≡ true
+  pub pads : x .pads ≡ true → y .pads ≡ true
+  pub unused : x .unused ≡ true → y .unused ≡ true
+
+alike-laxer : (c c′ d : Bool) → (c ≡ true → c′ ≡ true) → (n p n′ p′ : ℕ) {r r′ : Reading} → Alike r r′ → Alike (need (c || d) (refused n p) r) (need (c′ || d) (refused n′ p′) r′)
+unfolding need
+alike-laxer true c′ d f n p n′ p′ x = rw (f refl) x
+alike-laxer false true true f n p n′ p′ x = x
+alike-laxer false true false f n p n′ p′ x = fault
+alike-laxer false false d f n p n′ p′ x = alike-need d n p n′ p′ x
 
 alike-refl : (r : Reading) → Alike r r
 alike-refl (refused n p) = fault
@@ -67,12 +82,12 @@ alike-onward h h′ inside inside′ (led {p = p} {n = n} {m = m}) f = f n p m
 
 -- READERS OF THE SAME BYTES IN TWO PLACES
 
-module _ (x : Ignored) (b : List ℕ) (base base′ area : ℕ) where
+module _ (x y : Ignored) (more : Laxer x y) (b : List ℕ) (base base′ area : ℕ) where
   abbrev h : Here
   h = here x b base area
 
   abbrev h′ : Here
-  h′ = here x b base′ area
+  h′ = here y b base′ area
 
   abbrev Readers : Reader → Reader → Type 0
   Readers R R′ = (at : ℕ) (m : List ℕ) → Alike (R h at m) (R′ h′ at m)
@@ -88,10 +103,10 @@ module _ (x : Ignored) (b : List ℕ) (base base′ area : ℕ) where
   optional-alike : (k : Mark) (w : ℕ) (R R′ : Reader) → Readers R R′ → Readers (optionalR k w R) (optionalR k w R′)
   unfolding optionalR
   optional-alike k w R R′ f at m =
-      let y : List ℕ = part w (at + 1) b in
+      let z : List ℕ = part w (at + 1) b in
       alike-cond (eqb (byte at b) 1) (marked-alike k R R′ f (at + 1) m)
       (alike-need (eqb (byte at b) 0) 11 (base + at) 11 (base′ + at)
-      (alike-need (x .absent || allZero y) 4 (base + (at + 1) + zeros y) 4 (base′ + (at + 1) + zeros y) same))
+      (alike-laxer (x .absent) (y .absent) (allZero z) (more .absent) 4 (base + (at + 1) + zeros z) 4 (base′ + (at + 1) + zeros z) same))
 
   plain-alike : (w : ℕ) (t : Test) → Readers (plainR w t) (plainR w t)
   unfolding plainR
@@ -101,9 +116,9 @@ module _ (x : Ignored) (b : List ℕ) (base base′ area : ℕ) where
   unfolding inlineR
   inline-alike u c at m =
       let n : ℕ = byte at b in
-      let y : List ℕ = part (c - n) (at + 1 + n) b in
+      let z : List ℕ = part (c - n) (at + 1 + n) b in
       alike-need (leb n c) 7 (base + at) 7 (base′ + at)
-      (alike-need (x .unused || allZero y) 8 (base + (at + 1 + n) + zeros y) 8 (base′ + (at + 1 + n) + zeros y)
+      (alike-laxer (x .unused) (y .unused) (allZero z) (more .unused) 8 (base + (at + 1 + n) + zeros z) 8 (base′ + (at + 1 + n) + zeros z)
       (alike-need (textOk u (part n (at + 1) b)) 9 (base + (at + 1)) 9 (base′ + (at + 1)) same))
 
   indirect-alike : (past w : ℕ) (inside inside′ : ℕ → Reader) → ((n : ℕ) → Readers (inside n) (inside′ n)) → Readers (indirectR past w inside) (indirectR past w inside′)
@@ -198,19 +213,19 @@ module _ (x : Ignored) (b : List ℕ) (base base′ area : ℕ) where
   padded-alike (same {s = s} {m = m}) =
       let u : List ℕ = drop area m in
       let v : List ℕ = drop area b in
-      alike-need (x .pads || padsZero u v) 6 (base + area + padsBefore u v) 6 (base′ + area + padsBefore u v) same
+      alike-laxer (x .pads) (y .pads) (padsZero u v) (more .pads) 6 (base + area + padsBefore u v) 6 (base′ + area + padsBefore u v) same
 
 -- GROUPS
 
-module _ (x : Ignored) (gs : List Group) where
-  body-alike : (I I′ : Inner) → ((a q q′ : ℕ) (c : List ℕ) → Alike (I a q c) (I′ a q′ c)) → (g base base′ : ℕ) (b : List ℕ) → Alike (bodyR x gs I g base b) (bodyR x gs I′ g base′ b)
+module _ (x y : Ignored) (more : Laxer x y) (gs : List Group) where
+  body-alike : (I I′ : Inner) → ((a q q′ : ℕ) (c : List ℕ) → Alike (I a q c) (I′ a q′ c)) → (g base base′ : ℕ) (b : List ℕ) → Alike (bodyR x gs I g base b) (bodyR y gs I′ g base′ b)
   unfolding bodyR
   body-alike I I′ f g base base′ b =
       let area : ℕ = 16 + width gs 5 g in
       alike-need (leb area (length b)) 14 base 14 base′
-      (padded-alike x b base base′ area
+      (padded-alike x y more b base base′ area
       (alike-prefixed (part 8 4 b) (alike-next _ _
-      (behind-alike x b base base′ area _ _ _ _ (static-alike x b base base′ area I I′ f gs 5 g) (extension-alike x b base base′ area I I′ f gs) 12 (replicate (length b) 0)) (λ _. same))))
+      (behind-alike x y more b base base′ area _ _ _ _ (static-alike x y more b base base′ area I I′ f gs 5 g) (extension-alike x y more b base base′ area I I′ f gs) 12 (replicate (length b) 0)) (λ _. same))))
 
   head-alike : (B B′ : ℕ → ℕ → List ℕ → Reading) → ((g q q′ : ℕ) (c : List ℕ) → Alike (B g q c) (B′ g q′ c)) → (a base base′ : ℕ) (b : List ℕ) → Alike (headR gs B a base b) (headR gs B′ a base′ b)
   unfolding headR
@@ -220,11 +235,29 @@ module _ (x : Ignored) (gs : List Group) where
       (alike-need (known gs (le (part 8 4 b))) 2 base 2 base′
       (alike-need (allows gs a g) 25 base 25 base′ (f g base base′ b)))
 
+  -- where more is ignored
+  pub group-laxer : (l a base base′ : ℕ) (b : List ℕ) → Alike (groupR x gs l a base b) (groupR y gs l a base′ b)
+  unfolding groupR
+  group-laxer zero a base base′ b = head-alike _ _ (λ g q q′ c. fault) a base base′ b
+  group-laxer (suc l) a base base′ b = head-alike _ _ (body-alike (groupR x gs l) (groupR y gs l) (group-laxer l)) a base base′ b
+
+  pub walk-laxer : (b s m : List ℕ) → walk x gs b ≡ done s m → walk y gs b ≡ done s m
+  unfolding walk
+  walk-laxer b s m e = alike-done (alike-need (leb 4 (length b) && eqb (length b) (4 + word 0 b)) 22 0 22 0 (alike-prefixed _ (group-laxer 8 0 0 0 b))) e
+
+itself : (x : Ignored) → Laxer x x
+itself x = record { absent = λ e. e; pads = λ e. e; unused = λ e. e }
+
+-- all that can be is ignored
+pub laxest : (x : Ignored) → Laxer x lax
+laxest x = record { absent = λ e. refl; pads = λ e. refl; unused = λ e. refl }
+
+module _ (x : Ignored) (gs : List Group) where
   -- one level more
   pub deeper-alike : (l a base base′ : ℕ) (b : List ℕ) → Alike (groupR x gs l a base b) (groupR x gs (suc l) a base′ b)
   unfolding groupR
-  deeper-alike zero a base base′ b = head-alike _ _ (λ g q q′ c. fault) a base base′ b
-  deeper-alike (suc l) a base base′ b = head-alike _ _ (body-alike (groupR x gs l) (groupR x gs (suc l)) (deeper-alike l)) a base base′ b
+  deeper-alike zero a base base′ b = head-alike x x (itself x) gs _ _ (λ g q q′ c. fault) a base base′ b
+  deeper-alike (suc l) a base base′ b = head-alike x x (itself x) gs _ _ (body-alike x x (itself x) gs (groupR x gs l) (groupR x gs (suc l)) (deeper-alike l)) a base base′ b
 
   -- where no group is named, any is allowed
   head-any : (B : ℕ → ℕ → List ℕ → Reading) (a base : ℕ) (b : List ℕ) → Alike (headR gs B a base b) (headR gs B 0 base b)

@@ -18,6 +18,7 @@ use Rattle.schema.specs.declared.Tested.{Tested}
 use Rattle.schema.specs.declared.Tested.the-variants.{Flag, Millis, Nanos, Symbol}
 use Rattle.schema.proofs.Records.{byte-at}
 use Rattle.schema.proofs.Groups.{placed-fields, find-whole}
+use Rattle.settings.specs.declared.Ignored.{Ignored}
 use Rattle.message.specs.Walk.{byte}
 use Rattle.message.specs.Conforms.{target, countAt, typeId}
 use Rattle.message.proofs.Tests.{true-false, or-cases}
@@ -53,9 +54,9 @@ module _ (sw : ℕ → ℕ) (es : List (List ℕ)) (size ref : ℕ) where
 
 -- THE MESSAGE'S FIELDS, WHERE THE TABLE HAS THEM
 
-module _ (t k b : List ℕ) (P : Layout t k) (A : Accepted t b) where
-  abbrev own : Opened (schema t) b (A .0)
-  own = opened (schema t) b (A .0) (A .1) (A .2)
+module _ (y : Ignored) (t k b : List ℕ) (P : Layout t k) (A : Accepted y t b) where
+  abbrev own : Opened y (schema t) b (A .0)
+  own = opened y (schema t) b (A .0) (A .1) (A .2)
 
   pub message-long : 16 ≤ length b
   message-long = own .long
@@ -77,27 +78,27 @@ module _ (t k b : List ℕ) (P : Layout t k) (A : Accepted t b) where
       pub rows-in : r + 16 + 16 * c ≤ length t
       rows-in = rw (counts, at) (P .placed .inside g group-in)
 
-      fields-are : ownFields (schema t) b ≡ fieldsIn t (r + 16) c
+      fields-are : ownFields y (schema t) b ≡ fieldsIn t (r + 16) c
       fields-are = rw (← is, counts, at) (placed-fields t k (length (schema t)) (P .placed) g group-in)
 
       pub rows-laid : Laid (widthIn k) b (fieldsIn t (r + 16) c) 16
       rows-laid =
-          rw fields-are at (same-laid (widthIn k) (width (schema t) 4) (ownFields (schema t) b) b 16 (same-group t k P (find (schema t) (typeId b)))
-          (fields-laid (inner (schema t) b) (width (schema t) 4) (statics (schema t) b) (top (schema t) b) (ownFields (schema t) b) 16 (own .before) (own .is) (own .fixed)))
+          rw fields-are at (same-laid (widthIn k) (width (schema t) 4) (ownFields y (schema t) b) b 16 (same-group t k P (find (schema t) (typeId b)))
+          (fields-laid (inner y (schema t) b) (width (schema t) 4) (statics y (schema t) b) (top y (schema t) b) (ownFields y (schema t) b) 16 (own .before) (own .is) (own .fixed)))
 
       pub rows-item : (n i : ℕ) → itemFrom (widthIn k) (fieldsIn t (r + 16) c) b 16 n i ≡ itemOf (schema t) b n i
       unfolding itemOf
-      rows-item n i = rw (← fields-are) (same-item (widthIn k) (width (schema t) 4) (ownFields (schema t) b) b 16 n i (same-group t k P (find (schema t) (typeId b))))
+      rows-item n i = rw (← fields-are) (same-item (widthIn k) (width (schema t) 4) (ownFields y (schema t) b) b 16 n i (same-group t k P (find (schema t) (typeId b))))
 
 -- THE ITEM THAT WAS FOUND
 
-module _ (t b : List ℕ) (A : Accepted t b) (v : Located) (n i : ℕ) (is : itemIn t v ≡ itemOf (schema t) b n i) where
-  pub found-read : (r p : ℕ) → v ≡ At r p → KindRead (schema t) b (fieldIn t r .kind) p (A .0)
+module _ (y : Ignored) (t b : List ℕ) (A : Accepted y t b) (v : Located) (n i : ℕ) (is : itemIn t v ≡ itemOf (schema t) b n i) where
+  pub found-read : (r p : ℕ) → v ≡ At r p → KindRead y (schema t) b (fieldIn t r .kind) p (A .0)
   unfolding itemIn
-  found-read r p e = subst (λ (v : Located). OwnRead (schema t) b (itemIn t v) (A .0)) e (subst (λ (x : Item). OwnRead (schema t) b x (A .0)) (sym is) (item-read (schema t) b (A .0) (A .1) (A .2) n i))
+  found-read r p e = subst (λ (v : Located). OwnRead y (schema t) b (itemIn t v) (A .0)) e (subst (λ (x : Item). OwnRead y (schema t) b x (A .0)) (sym is) (item-read y (schema t) b (A .0) (A .1) (A .2) n i))
 
   pub found-laid : (r p : ℕ) → v ≡ At r p → ItemLaid b (fieldIn t r .kind) p
-  found-laid r p e = item-laid (inner (schema t) b) (width (schema t) 4) (statics (schema t) b) (top (schema t) b) _ p (A .0) (found-read r p e)
+  found-laid r p e = item-laid (inner y (schema t) b) (width (schema t) 4) (statics y (schema t) b) (top y (schema t) b) _ p (A .0) (found-read r p e)
 
   pub found-number : (r p x : ℕ) → v ≡ At r p → x ≡ getD t (r + 2) 0 → p + numberWidth x ≤ length b
   unfolding numberWidth fieldAt
@@ -132,15 +133,15 @@ pub row-inside : (t : List ℕ) (v : Located) (r p : ℕ) → Recorded t v → v
 row-inside t v r p h e = subst (Recorded t) e h
 
 -- the part lies in the message
-pub part-inside : (t b : List ℕ) → Accepted t b → (n i : ℕ) (v : Part) → v ≡ partAt b (itemOf (schema t) b n i) → (p m : ℕ) → v ≡ Lies p m → p + m ≤ length b
+pub part-inside : (y : Ignored) (t b : List ℕ) → Accepted y t b → (n i : ℕ) (v : Part) → v ≡ partAt b (itemOf (schema t) b n i) → (p m : ℕ) → v ≡ Lies p m → p + m ≤ length b
 unfolding partAt
-part-inside t b A n i v is p m e =
-    let r = item-read (schema t) b (A .0) (A .1) (A .2) n i in
+part-inside y t b A n i v is p m e =
+    let r = item-read y (schema t) b (A .0) (A .1) (A .2) n i in
     subst (PartLaid b) (sym is ∙ e) (go (itemOf (schema t) b n i) r)
   where
-    go : (x : Item) → OwnRead (schema t) b x (A .0) → PartLaid b (partAt b x)
+    go : (x : Item) → OwnRead y (schema t) b x (A .0) → PartLaid b (partAt b x)
     go (missing n) r = tt
-    go (item f p) r = part-laid (inner (schema t) b) (width (schema t) 4) (statics (schema t) b) (top (schema t) b) (f .type) (f .kind) p (A .0) r
+    go (item f p) r = part-laid (inner y (schema t) b) (width (schema t) 4) (statics y (schema t) b) (top y (schema t) b) (f .type) (f .kind) p (A .0) r
 
 -- what is handed out of a part, and where it starts
 module _ (b : List ℕ) (x : Part) where

@@ -12,7 +12,8 @@ use Rattle.schema.specs.Schema.{Kind, plain, inline, indirect, static, dynamic,
 use Rattle.schema.specs.Table.{schema}
 use Rattle.schema.specs.Layout.{Layout, widthIn}
 use Rattle.message.specs.Sheet.{GB, markBytes}
-use Rattle.message.specs.Walk.{strict, Inner, Here, here, done, Reader, byte, word, kindR, inlineR, indirectR, textR, innerR, fieldsR, staticR, behindR, bodyR, headR, groupR, walk}
+use Rattle.settings.specs.declared.Ignored.{Ignored}
+use Rattle.message.specs.Walk.{Inner, Here, here, done, Reader, byte, word, kindR, inlineR, indirectR, textR, innerR, fieldsR, staticR, behindR, bodyR, headR, groupR, walk}
 use Rattle.message.specs.Conforms.{typeId}
 use Rattle.reading.specs.Item.{Item, itemFrom, itemOf, valueItem, sequenceItem, fieldItem}
 use Rattle.reading.specs.Laid.{Led, Laid, ItemLaid}
@@ -24,10 +25,10 @@ use Rattle.reading.proofs.Read.{Read, ItemRead, item-in, fields-read}
 
 -- THE MESSAGE'S OWN GROUP
 
-module _ (gs : List Group) (b : List ℕ) where
+module _ (x : Ignored) (gs : List Group) (b : List ℕ) where
   -- the readers of a message's dynamic groups and of its static groups
   abbrev pub inner : Inner
-  inner = groupR strict gs 7
+  inner = groupR x gs 7
 
   abbrev pub statics : ℕ → Reader
   statics = staticR gs inner 4
@@ -36,7 +37,7 @@ module _ (gs : List Group) (b : List ℕ) where
   ownFields = fieldsOf gs (find gs (typeId b))
 
   abbrev pub top : Here
-  top = here strict b 0 (16 + width gs 5 (find gs (typeId b)))
+  top = here x b 0 (16 + width gs 5 (find gs (typeId b)))
 
   pub record Opened (s : List ℕ) : Type 0 where
     pub exact : length b ≡ 4 + word 0 b
@@ -51,9 +52,9 @@ module _ (gs : List Group) (b : List ℕ) where
     pub sheet : s ≡ (markBytes GB ++ part 8 4 b) ++ (fields ++ rest)
 
   opened-body : (s m : List ℕ) → length b ≡ 4 + word 0 b → 16 ≤ length b → find gs (typeId b) < length gs
-      → bodyR strict gs inner (find gs (typeId b)) 0 b ≡ done s m → Opened (markBytes GB ++ s)
+      → bodyR x gs inner (find gs (typeId b)) 0 b ≡ done s m → Opened (markBytes GB ++ s)
   unfolding bodyR behindR staticR width
-  opened-body s m x l k e =
+  opened-body s m q l k e =
       let q₁ = need-done _ _ _ _ e in
       let q₂ = padded-done top _ (q₁ .1) in
       let q₃ = prefixed-done (part 8 4 b) _ (q₂ .1) in
@@ -61,7 +62,7 @@ module _ (gs : List Group) (b : List ℕ) where
       let q₅ = need-done _ _ _ _ (q₄ .before) in
       let q₆ = next-done _ _ (q₅ .1) in
       record {
-        exact = x;
+        exact = q;
         long = l;
         named = k;
         fixed = leb-true _ _ (q₁ .0);
@@ -73,7 +74,7 @@ module _ (gs : List Group) (b : List ℕ) where
         sheet = ap (λ y. markBytes GB ++ y) (q₃ .whole ∙ ap (λ y. part 8 4 b ++ y) (q₄ .whole ∙ ap (λ y. y ++ q₄ .second) (q₆ .whole))) ∙ simp append-assoc;
       }
 
-  pub opened : (s m : List ℕ) → walk strict gs b ≡ done s m → Opened s
+  pub opened : (s m : List ℕ) → walk x gs b ≡ done s m → Opened s
   unfolding walk groupR headR known
   opened s m e =
       let q₁ = need-done _ _ _ _ e in
@@ -88,10 +89,10 @@ module _ (gs : List Group) (b : List ℕ) where
   KindRead k p s = Read inner (width gs 4) statics top k p s
 
   abbrev pub OwnRead : Item → List ℕ → Type 0
-  OwnRead x s = ItemRead inner (width gs 4) statics top x s
+  OwnRead y s = ItemRead inner (width gs 4) statics top y s
 
   -- every item of an accepted message was read where it lies, and its record is part of the sheet
-  pub item-read : (s m : List ℕ) → walk strict gs b ≡ done s m → (n i : ℕ) → OwnRead (itemOf gs b n i) s
+  pub item-read : (s m : List ℕ) → walk x gs b ≡ done s m → (n i : ℕ) → OwnRead (itemOf gs b n i) s
   unfolding itemOf
   item-read s m e n i =
       let o = opened s m e in

@@ -13,7 +13,8 @@ use Rattle.schema.specs.Faults.{need}
 use Rattle.schema.specs.Schema.{Test, Kind, plain, inline, indirect, static, dynamic, member, Group, width, kindWidth}
 use Rattle.schema.specs.Table.{fieldAt, fieldType, fieldSize, reference, kindOf, enums, schema}
 use Rattle.message.specs.Sheet.{VA, ST, GB, markBytes, kindMark}
-use Rattle.message.specs.Walk.{strict, Inner, Here, done, Reader, byte, word, prefixed, kindR, plainR, inlineR, textR, innerR, groupR, walk}
+use Rattle.settings.specs.declared.Ignored.{Ignored}
+use Rattle.message.specs.Walk.{Inner, Here, done, Reader, byte, word, prefixed, kindR, plainR, inlineR, textR, innerR, groupR, walk}
 use Rattle.message.specs.Conforms.{target, countAt}
 use Rattle.message.proofs.Tests.{true-false}
 use Rattle.reading.specs.Item.{Accepted, Item, itemOf, fieldIn, itemIn}
@@ -60,23 +61,23 @@ module _ (I : Inner) (sw : ℕ → ℕ) (S : ℕ → Reader) (h : Here) where
 -- A DYNAMIC GROUP
 -- "for a dynamic group with its size word, so that it is a message too": and its own sheet is what the outer message's sheet holds of it.
 
-module _ (gs : List Group) (b s : List ℕ) (a p : ℕ) (r : KindRead gs b (dynamic a) p s) where
+module _ (y : Ignored) (gs : List Group) (b s : List ℕ) (a p : ℕ) (r : KindRead y gs b (dynamic a) p s) where
   abbrev sub : List ℕ
   sub = part (4 + countAt b p) (target b p) b
 
   inside : target b p + (4 + countAt b p) ≤ length b
   unfolding kindR
-  inside = omega (arith, indirect-done 26 1 (innerR (inner gs b) a) (top gs b) p (r .before) (r .is) .whole)
+  inside = omega (arith, indirect-done 26 1 (innerR (inner y gs b) a) (top y gs b) p (r .before) (r .is) .whole)
 
-  group-done : (m : List ℕ) × (groupR strict gs 8 0 0 sub ≡ done (r .sheet) m)
+  group-done : (m : List ℕ) × (groupR y gs 8 0 0 sub ≡ done (r .sheet) m)
   unfolding kindR innerR
   group-done =
-      let q = next-done _ _ (indirect-done 26 1 (innerR (inner gs b) a) (top gs b) p (r .before) (r .is) .is) in
+      let q = next-done _ _ (indirect-done 26 1 (innerR (inner y gs b) a) (top y gs b) p (r .before) (r .is) .is) in
       let nil : q .second ≡ [] = let e = q .after in cc in
       let whole : r .sheet ≡ q .first = q .whole ∙ ap (λ y. q .first ++ y) nil ∙ append-nil (q .first) in
-      (q .between, alike-done (any-alike strict gs 8 a 0 sub) (alike-done (deeper-alike strict gs 7 a _ 0 sub) (q .before)) ∙ ap (λ y. done y (q .between)) (sym whole))
+      (q .between, alike-done (any-alike y gs 8 a 0 sub) (alike-done (deeper-alike y gs 7 a _ 0 sub) (q .before)) ∙ ap (λ y. done y (q .between)) (sym whole))
 
-  group-walk : (m : List ℕ) × (walk strict gs sub ≡ done (markBytes GB ++ r .sheet) m)
+  group-walk : (m : List ℕ) × (walk y gs sub ≡ done (markBytes GB ++ r .sheet) m)
   unfolding walk need prefixed
   group-walk =
       let l : length sub ≡ 4 + countAt b p = length-part _ _ b inside in
@@ -100,15 +101,15 @@ number-plain : (es : List (List ℕ)) (size ref t : ℕ) → member t numberType
 unfolding every kindOf isPlain
 number-plain es size ref t e = among (λ (t : ℕ). isPlain (kindOf es t size ref)) t numberTypes refl e
 
-module _ (t b : List ℕ) (A : Accepted t b) (n i r p : ℕ) (is : itemIn t (At r p) ≡ itemOf (schema t) b n i) where
+module _ (y : Ignored) (t b : List ℕ) (A : Accepted y t b) (n i r p : ℕ) (is : itemIn t (At r p) ≡ itemOf (schema t) b n i) where
   abbrev kind : Kind
   kind = fieldIn t r .kind
 
   abbrev Reads : Kind → Type 0
-  Reads k = KindRead (schema t) b k p (A .0)
+  Reads k = KindRead y (schema t) b k p (A .0)
 
   reads : Reads kind
-  reads = found-read t b A (At r p) n i is r p refl
+  reads = found-read y t b A (At r p) n i is r p refl
 
   -- "`VA` and the wire bytes": the bytes of which a number is made, and those of a fixed
   pub number-record : member (fieldIn t r .type) numberTypes ≡ true → Holds (A .0) (markBytes VA ++ part (numberWidth (fieldIn t r .type)) p b)
@@ -127,7 +128,7 @@ module _ (t b : List ℕ) (A : Accepted t b) (n i r p : ℕ) (is : itemIn t (At 
   module _ (x : List ℕ) (part-is : x ≡ bytesIn b (partAt b (itemOf (schema t) b n i))) where
     bytes-are : x ≡ bytesIn b (partOf (fieldIn t r .type) kind b p)
     unfolding itemIn partAt fieldAt
-    bytes-are = part-is ∙ ap (λ (y : Item). bytesIn b (partAt b y)) (sym is)
+    bytes-are = part-is ∙ ap (λ (z : Item). bytesIn b (partAt b z)) (sym is)
 
     pub fixed-record : fieldIn t r .type ≡ 19 → Holds (A .0) (markBytes VA ++ x)
     unfolding fieldAt kindOf partOf bytesIn
@@ -143,9 +144,9 @@ module _ (t b : List ℕ) (A : Accepted t b) (n i r p : ℕ) (is : itemIn t (At 
     text-record u e = rw (bytes-are, e) (indirect-record _ _ _ _ u p (A .0) (rw e at reads))
 
     -- "so that it is a message too": it is accepted, and its sheet stands in the message's
-    pub message-record : (a : ℕ) → kind ≡ dynamic a → (y : Accepted t x) × Holds (A .0) (y .0)
+    pub message-record : (a : ℕ) → kind ≡ dynamic a → (z : Accepted y t x) × Holds (A .0) (z .0)
     unfolding partOf bytesIn
     message-record a e =
         let d = rw e at reads in
-        let w = group-walk (schema t) b (A .0) a p d in
-        rw (bytes-are, e) ((_, w .0, w .1), group-record (schema t) b (A .0) a p d)
+        let w = group-walk y (schema t) b (A .0) a p d in
+        rw (bytes-are, e) ((_, w .0, w .1), group-record y (schema t) b (A .0) a p d)

@@ -9,14 +9,15 @@ use lib.Dec.{ltb, eqb}
 use Rattle.schema.specs.Faults.{need}
 use Rattle.schema.specs.Schema.{Field, Group, kindWidth, fieldWidth, fieldsOf, width, find}
 use Rattle.schema.specs.Table.{fieldAt, fieldsAt, enums, schema}
-use Rattle.message.specs.Walk.{byte, done, strict, walk}
+use Rattle.settings.specs.declared.Ignored.{Ignored}
+use Rattle.message.specs.Walk.{byte, done, walk}
 use Rattle.message.specs.Conforms.{target, countAt, typeId}
 use Rattle.reading.specs.declared.Located.{Located}
 use Rattle.reading.specs.declared.Located.the-variants.{Missing, At}
 
--- "A message is accepted when its check under an accepted table .. gives none": the walk of b under the table t has a sheet.
-abbrev pub Accepted : List ℕ → List ℕ → Type 0
-Accepted t b = (s : List ℕ) × (m : List ℕ) × (walk strict (schema t) b ≡ done s m)
+-- "A message is accepted when its check under an accepted table .. gives none": where x is ignored, the walk of b under the table t has a sheet.
+abbrev pub Accepted : Ignored → List ℕ → List ℕ → Type 0
+Accepted x t b = (s : List ℕ) × (m : List ℕ) × (walk x (schema t) b ≡ done s m)
 
 -- A refusal's number; or the field, and where its item's bytes start.
 pub data Item : Type 0 where

@@ -1,6 +1,7 @@
 // Reading one field of an accepted message: find where its value lies, then read it there.
 //
-// Nothing is tested again. That each value lies inside the message is what its check has shown.
+// Nothing is tested again. That each value lies inside the message is what its check has shown, under
+// whatever setting: what is accepted is accepted where all that may be is ignored (`lax`).
 use schema::FieldKind;
 use schema::Verdict;
 ghost use mathlib.Core.Path.{_≡_};
@@ -14,6 +15,7 @@ ghost use Rattle.schema.specs.Schema.{member, fieldsWidth};
 ghost use Rattle.schema.specs.Table.{schema};
 ghost use Rattle.schema.specs.Layout.{Layout, widthIn};
 ghost use Rattle.schema.specs.FieldKinds.{Widths};
+ghost use Rattle.settings.specs.Store.{lax};
 ghost use Rattle.reading.specs.Item.{Accepted, sequenceItem, valueItem, fieldItem, itemFrom, itemOf, fieldIn, fieldsIn, Finds};
 ghost use Rattle.reading.specs.Number.{numberWidth, floatOf, decimalOf, numberOf, numberAt};
 ghost use Rattle.reading.specs.Part.{partOf, partAt, bytesIn, startOf, verdictOf};
@@ -150,7 +152,7 @@ pub fn locate_from(
 
 // Item `item` of the message's field `field`.
 pub fn locate(table: &[u8], index: &[u16], message: &[u8], field: usize, item: usize) -> Located
-    requires { ⌜ (Layout (now table) (now index)) × (Accepted (now table) (now message)) ⌝ }
+    requires { ⌜ (Layout (now table) (now index)) × (Accepted lax (now table) (now message)) ⌝ }
     ensures { λ r. ⌜ Finds (now (table .entry)) r (itemOf (schema (now (table .entry))) (now (message .entry)) field item) ⌝ }
 {
     let group = schema::find(
@@ -252,7 +254,7 @@ pub fn number_at(bytes: &[u8], at: usize, number: u8) -> Number
 
 // The number that item `item` of the message's field `field` is.
 pub fn read_number(table: &[u8], index: &[u16], message: &[u8], field: usize, item: usize) -> Number
-    requires { ⌜ (Layout (now table) (now index)) × (Accepted (now table) (now message)) ⌝ }
+    requires { ⌜ (Layout (now table) (now index)) × (Accepted lax (now table) (now message)) ⌝ }
     ensures { λ r. ⌜ r ≡ numberAt (now (message .entry)) (itemOf (schema (now (table .entry))) (now (message .entry)) field item) ⌝ }
 {
     let found = locate(table, index, message, field, item);
@@ -303,7 +305,7 @@ pub fn part_at(table: &[u8], row: usize, bytes: &[u8], at: usize) -> Part
 
 // The part of item `item` of the message's field `field`.
 pub fn find_part(table: &[u8], index: &[u16], message: &[u8], field: usize, item: usize) -> Part
-    requires { ⌜ (Layout (now table) (now index)) × (Accepted (now table) (now message)) ⌝ }
+    requires { ⌜ (Layout (now table) (now index)) × (Accepted lax (now table) (now message)) ⌝ }
     ensures { λ r. ⌜ r ≡ partAt (now (message .entry)) (itemOf (schema (now (table .entry))) (now (message .entry)) field item) ⌝ }
 {
     let found = locate(table, index, message, field, item);
@@ -321,7 +323,7 @@ pub fn read_bytes<'a>(
     field: usize,
     item: usize,
 ) -> &'a [u8]
-    requires { ⌜ (Layout (now table) (now index)) × (Accepted (now table) (now message)) ⌝ }
+    requires { ⌜ (Layout (now table) (now index)) × (Accepted lax (now table) (now message)) ⌝ }
     ensures what { λ r. ⌜ now r ≡ bytesIn (now (message .entry)) (partAt (now (message .entry)) (itemOf (schema (now (table .entry))) (now (message .entry)) field item)) ⌝ }
     ensures block { λ r. ⌜ ptr r .0 ≡ ptr (message .entry) .0 ⌝ }
     ensures offset { λ r. ⌜ ptr r .1 ≡ ptr (message .entry) .1 + startOf (partAt (now (message .entry)) (itemOf (schema (now (table .entry))) (now (message .entry)) field item)) ⌝ }
@@ -341,7 +343,7 @@ pub fn read_bytes_verdict(
     field: usize,
     item: usize,
 ) -> Verdict
-    requires { ⌜ (Layout (now table) (now index)) × (Accepted (now table) (now message)) ⌝ }
+    requires { ⌜ (Layout (now table) (now index)) × (Accepted lax (now table) (now message)) ⌝ }
     ensures { λ r. ⌜ r ≡ verdictOf (partAt (now (message .entry)) (itemOf (schema (now (table .entry))) (now (message .entry)) field item)) ⌝ }
 {
     let part = find_part(table, index, message, field, item);

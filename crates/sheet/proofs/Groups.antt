@@ -12,7 +12,8 @@ use Rattle.wire.proofs.Laws.{length-bytes}
 use Rattle.schema.specs.Faults.{need}
 use Rattle.schema.specs.Schema.{Kind, plain, inline, indirect, static, dynamic, Field, Group, kindWidth, valueWidth, fieldWidth, fieldsWidth, fieldsOf, width, find, known, allows}
 use Rattle.message.specs.Sheet.{GE, markBytes, kindMark, fieldMark}
-use Rattle.message.specs.Walk.{Ignored, Here, here, done, Reader, Inner, prefixed, next, kindR, valueR, fieldR, fieldsR, staticR, extensionR, behindR, padded, bodyR, headR, groupR}
+use Rattle.settings.specs.declared.Ignored.{Ignored}
+use Rattle.message.specs.Walk.{Here, here, done, Reader, Inner, prefixed, next, kindR, valueR, fieldR, fieldsR, staticR, extensionR, behindR, padded, bodyR, headR, groupR}
 use Rattle.message.specs.Proper.{SizedKind, SizedFields, Sized}
 use Rattle.message.proofs.Marking.{taken-le}
 use Rattle.message.proofs.Sat.{Sat, unsaid, said, sat-need, sat-prefixed, sat-next, sat-map, sat-padded}

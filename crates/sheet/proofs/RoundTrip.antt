@@ -12,7 +12,9 @@ use Rattle.wire.specs.Bytes.{part, le}
 use Rattle.schema.specs.Faults.{need}
 use Rattle.schema.specs.Schema.{Group, width, find}
 use Rattle.message.specs.Sheet.{GB, markBytes}
-use Rattle.message.specs.Walk.{Ignored, strict, here, Reading, refused, done, prefixed, bodyR, headR, groupR, walk, messageR}
+use Rattle.settings.specs.declared.Ignored.{Ignored}
+use Rattle.settings.specs.Store.{strict}
+use Rattle.message.specs.Walk.{here, Reading, refused, done, prefixed, bodyR, headR, groupR, walk, messageR}
 use Rattle.message.specs.Proper.{Sized}
 use Rattle.message.proofs.Count.{length-mark}
 use Rattle.message.proofs.Sat.{Sat, sat-all, unsaid, said, sat-is, sat-need, sat-prefixed, sat-map, sat-padded}
@@ -52,7 +54,7 @@ message-walk x gs scratch b s m e = sat-is (rw e at (inside x gs scratch b))
 pub means-walk : (x : Ignored) (gs : List Group) (b s : List ℕ) → Means x gs b s → (length b ≤ 65536) × (walk x gs b ≡ done s [])
 means-walk x gs b s M = message-walk x gs (length b) b s [] (M (length b) (omega arith))
 
-walk-means : (x : Ignored) (gs : List Group) (b s : List ℕ) → length b ≤ 65536 → walk x gs b ≡ done s [] → Means x gs b s
+pub walk-means : (x : Ignored) (gs : List Group) (b s : List ℕ) → length b ≤ 65536 → walk x gs b ≡ done s [] → Means x gs b s
 unfolding messageR need
 walk-means x gs b s l e scratch h = rw (le-leb _ _ l, le-leb _ _ h) e
 

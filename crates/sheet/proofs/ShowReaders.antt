@@ -22,7 +22,8 @@ use Rattle.schema.specs.declared.Scope.the-variants.{Whole, Fields}
 use Rattle.schema.proofs.Records.{fields-more, fields-none}
 use Rattle.message.specs.Marks.{mark}
 use Rattle.message.specs.Sheet.{Mark, VA, ST, SG, SQ, GB, XT, XU, markBytes, NO, GE, kindMark, fieldMark}
-use Rattle.message.specs.Walk.{Reading, refused, done, prefixed, next, Here, here, strict, Reader, Inner, byte, word, Place, lost, locate, onward, noneR, thenR, markedR, optionalR, plainR, inlineR, indirectR, textR, innerR, itemsR, listR, kindR, valueR, fieldR, fieldsR, extendingR, groupsR, extensionR, extensionIn, behindR, padded, bodyR, headR, groupR, walk}
+use Rattle.settings.specs.Store.{lax}
+use Rattle.message.specs.Walk.{Reading, refused, done, prefixed, next, Here, here, Reader, Inner, byte, word, Place, lost, locate, onward, noneR, thenR, markedR, optionalR, plainR, inlineR, indirectR, textR, innerR, itemsR, listR, kindR, valueR, fieldR, fieldsR, extendingR, groupsR, extensionR, extensionIn, behindR, padded, bodyR, headR, groupR, walk}
 use Rattle.message.specs.Check.{itemR, markedValueR, innerOf, widthOf, staticOf}
 use Rattle.message.proofs.Count.{length-mark, items-one}
 use Rattle.message.proofs.CheckFields.{field-required, field-optional, field-there, value-one}
@@ -138,13 +139,13 @@ module _ (k : Mark) (b : List ℕ) (at : ℕ) where
   marked-then R s r = r
 
   -- a reader that gives what G gives, where it gives something
-  marked-as : (R : Reader) (G : Passage) → ((base area : ℕ) (m s m′ : List ℕ) → R (here strict b base area) at m ≡ done s m′ → G base area m ≡ done s m′) → Opens (passage (markedR k R) b at) (then (just (markBytes k)) G)
+  marked-as : (R : Reader) (G : Passage) → ((base area : ℕ) (m s m′ : List ℕ) → R (here lax b base area) at m ≡ done s m′ → G base area m ≡ done s m′) → Opens (passage (markedR k R) b at) (then (just (markBytes k)) G)
   unfolding markedR next
   marked-as R G f s r =
       let q = prefixed-done _ _ _ _ (r .is) in
       record { base = r .base; area = r .area; marks = r .marks; taken = r .taken; is = ap (prefixed (markBytes k)) (f _ _ _ _ _ (q .1) ∙ sym (q .1)) ∙ r .is }
 
-  marked-just : (R : Reader) (x : List ℕ) → ((base area : ℕ) (m s m′ : List ℕ) → R (here strict b base area) at m ≡ done s m′ → done x m ≡ done s m′) → Opens (passage (markedR k R) b at) (just (markBytes k ++ x))
+  marked-just : (R : Reader) (x : List ℕ) → ((base area : ℕ) (m s m′ : List ℕ) → R (here lax b base area) at m ≡ done s m′ → done x m ≡ done s m′) → Opens (passage (markedR k R) b at) (just (markBytes k ++ x))
   unfolding next prefixed
   marked-just R x f = marked-as R (just x) f
 
@@ -156,7 +157,7 @@ module _ (k : Mark) (b : List ℕ) (at : ℕ) where
   unfolding textR
   marked-text u n = marked-just (textR u n) (part (4 + n) at b) (λ base area m s m′ e. need-done _ _ _ _ _ _ e .1)
 
-  inline-tests : (u : Bool) (c base area : ℕ) (m s m′ : List ℕ) → inlineR u c (here strict b base area) at m ≡ done s m′ → (byte at b ≤ c) × (done (bytesOf 4 (byte at b) ++ part (byte at b) (at + 1) b) m ≡ done s m′)
+  inline-tests : (u : Bool) (c base area : ℕ) (m s m′ : List ℕ) → inlineR u c (here lax b base area) at m ≡ done s m′ → (byte at b ≤ c) × (done (bytesOf 4 (byte at b) ++ part (byte at b) (at + 1) b) m ≡ done s m′)
   unfolding inlineR
   inline-tests u c base area m s m′ e =
       let x = need-done _ _ _ _ _ _ e in
@@ -176,10 +177,10 @@ module _ (k : Mark) (b : List ℕ) (at : ℕ) where
   marked-list w R n = alike _ _ (λ base area m. prefixed-twice (markBytes k) (part 4 at b) _)
 
   -- the group there, on its own bytes
-  pub marked-inner : (t : List ℕ) (l a n : ℕ) → Opens (passage (markedR k (innerR (innerOf t l) a n)) b at) (then (just (markBytes k)) (whole t l a (part (4 + n) at b)))
+  pub marked-inner : (t : List ℕ) (l a n : ℕ) → Opens (passage (markedR k (innerR (innerOf lax t l) a n)) b at) (then (just (markBytes k)) (whole t l a (part (4 + n) at b)))
   unfolding markedR innerR next prefixed
   marked-inner t l a n s r =
-      let q = inner-done (markBytes k) (innerOf t l a (r .base + at) (part (4 + n) at b)) (r .marks) s (r .taken) (r .is) in
+      let q = inner-done (markBytes k) (innerOf lax t l a (r .base + at) (part (4 + n) at b)) (r .marks) s (r .taken) (r .is) in
       record { base = r .base + at; area = r .area; marks = r .marks; taken = q .0; is = q .1 }
 
 pub inline-length : (n at : ℕ) (b : List ℕ) → at + 1 + n ≤ length b → length (markBytes ST ++ (bytesOf 4 n ++ part n (at + 1) b)) ≡ 6 + n
@@ -255,21 +256,21 @@ module _ (I : Inner) (sw : ℕ → ℕ) (S : ℕ → Reader) (f : Field) (b : Li
   pub field-absent : f .optional ≡ true → (byte at b ≡ 1 → ⊥) → Opens (passage (fieldR I sw S f) b at) (just NO)
   unfolding optionalR
   field-absent o d s r =
-      let e = sym (field-optional I sw S f (here strict b (r .base) (r .area)) at (r .marks) o) ∙ r .is in
+      let e = sym (field-optional I sw S f (here lax b (r .base) (r .area)) at (r .marks) o) ∙ r .is in
       let x = rw (ne-eqb _ _ d) at e in
       let y = need-done _ _ _ _ _ _ x in
       let z = need-done _ _ _ _ _ _ (y .1) in
       record { base = r .base; area = r .area; marks = r .marks; taken = r .taken; is = z .1 }
 
   pub field-present : f .optional ≡ true → byte at b ≡ 1 → Opens (passage (fieldR I sw S f) b at) (passage (markedValueR I sw S f) b (at + 1))
-  field-present o y = alike _ _ (λ base area m. field-there I sw S f (here strict b base area) at m o y)
+  field-present o y = alike _ _ (λ base area m. field-there I sw S f (here lax b base area) at m o y)
 
   pub field-always : f .optional ≡ false → Opens (passage (fieldR I sw S f) b at) (passage (markedValueR I sw S f) b at)
-  field-always o = alike _ _ (λ base area m. field-required I sw S f (here strict b base area) at m o)
+  field-always o = alike _ _ (λ base area m. field-required I sw S f (here lax b base area) at m o)
 
   module _ (x : Kind) (ix : x ≡ f .kind) where
     pub value-item : f .sequence ≡ false → (w : ℕ) → Opens (passage (markedValueR I sw S f) b at) (passage (itemsR w (itemR I S x) 1) b at)
-    value-item e w = alike _ _ (λ base area m. let h = here strict b base area in value-one I sw S f h at m x ix e ∙ sym (items-one h at m w (itemR I S x)))
+    value-item e w = alike _ _ (λ base area m. let h = here lax b base area in value-one I sw S f h at m x ix e ∙ sym (items-one h at m w (itemR I S x)))
 
     module _ (e : f .sequence ≡ true) (w : ℕ) (iw : w ≡ kindWidth sw x) where
       value-list : Opens (passage (markedValueR I sw S f) b at) (passage (markedR SQ (indirectR 13 w (listR w (itemR I S x)))) b at)
@@ -394,7 +395,7 @@ padded-done h (done t i) s m e = let q = need-done _ _ _ _ _ _ e .1 in (i, cc)
 
 -- b, as the group g with so many levels left below it
 abbrev bodyOf : List ℕ → ℕ → ℕ → List ℕ → Passage
-bodyOf t l g b base area m = bodyR strict (schema t) (innerOf t l) g base b
+bodyOf t l g b base area m = bodyR lax (schema t) (innerOf lax t l) g base b
 
 -- a group's bytes, once it is known which group it is: its width, and its parts
 module _ (t : List ℕ) (l g : ℕ) (b s : List ℕ) (r : Reads (bodyOf t l g b) s) where
@@ -402,19 +403,19 @@ module _ (t : List ℕ) (l g : ℕ) (b s : List ℕ) (r : Reads (bodyOf t l g b)
   unfolding bodyR
   body-wide = leb-true _ _ (need-done _ _ _ _ _ _ (r .is) .0)
 
-  body-opens : Reads (then (just (part 8 4 b)) (then (passage (staticOf t l 5 g) b 16) (then (passage (extensionOf t l) b 12) (just GE)))) s
+  body-opens : Reads (then (just (part 8 4 b)) (then (passage (staticOf lax t l 5 g) b 16) (then (passage (extensionOf t l) b 12) (just GE)))) s
   unfolding bodyR behindR next
   body-opens =
-      let h : Here = here strict b (r .base) (16 + width (schema t) 5 g) in
+      let h : Here = here lax b (r .base) (16 + width (schema t) 5 g) in
       let o : List ℕ = replicate (length b) 0 in
       let E : List ℕ → Reading = λ m. extensionOf t l h 12 m in
-      let K : Reading = next (staticOf t l 5 g h 16 o) E in
-      let B : Reading = behindR (staticOf t l 5 g) (extensionOf t l) h 12 o in
+      let K : Reading = next (staticOf lax t l 5 g h 16 o) E in
+      let B : Reading = behindR (staticOf lax t l 5 g) (extensionOf t l) h 12 o in
       let u = padded-done h (prefixed (part 8 4 b) (next B (λ m. done GE m))) s (r .taken) (need-done _ _ _ _ _ _ (r .is) .1) in
       let v = prefixed-done (part 8 4 b) (next B (λ m. done GE m)) s (u .0) (u .1) in
       let w = next-done B (λ m. done GE m) (v .0) (u .0) (v .1) in
       let q : B ≡ K = w .reads ∙ sym (need-done (extensionIn h 12) 3 (r .base + 12) K (w .first) (w .marks) (w .reads) .1) in
-      let a = sym (next-next (staticOf t l 5 g h 16 o) E (λ m. done GE m)) ∙ ap (λ (x : Reading). next x (λ m. done GE m)) (sym q) in
+      let a = sym (next-next (staticOf lax t l 5 g h 16 o) E (λ m. done GE m)) ∙ ap (λ (x : Reading). next x (λ m. done GE m)) (sym q) in
       record { base = r .base; area = h .area; marks = o; taken = u .0; is = ap (prefixed (part 8 4 b)) a ∙ u .1 }
 
 -- what a dynamic group's reading tells before its body
@@ -478,7 +479,7 @@ pub record Readable (t : List ℕ) (l d : ℕ) (b : List ℕ) (at : ℕ) (scope 
 
 module _ (t : List ℕ) (l d : ℕ) (b : List ℕ) (at : ℕ) where
   pub group-parts : (scope : Scope) → Lies t d scope b at → (g n : ℕ) → g ≡ numberOf t scope b → n ≡ l - takes scope
-      → Opens (groupOf t l d scope b at) (then (just (idOf scope b)) (then (passage (staticOf t n d g) b at) (endOf t n scope b)))
+      → Opens (groupOf t l d scope b at) (then (just (idOf scope b)) (then (passage (staticOf lax t n d g) b at) (endOf t n scope b)))
   unfolding groupOf takes numberOf idOf endOf next
   group-parts (Whole a) h g n ig in′ s r = rw (ig, in′, h .0, h .1) (body-opens t (l - 1) _ b s (head t l a b s r .body))
   group-parts (Fields g′) h g n ig in′ s r = let q = in′ ∙ sub-zero l in rw (ig, q) (record { base = r .base; area = r .area; marks = r .marks; taken = r .taken; is = next-alone _ ∙ r .is })
@@ -493,11 +494,11 @@ module _ (t : List ℕ) (l d : ℕ) (b : List ℕ) (at : ℕ) where
 
 -- THE MESSAGE
 
-pub walk-done : (t b s m : List ℕ) → walk strict (schema t) b ≡ done s m → Reads (then (just (markBytes GB)) (whole t 8 0 b)) s
+pub walk-done : (t b s m : List ℕ) → walk lax (schema t) b ≡ done s m → Reads (then (just (markBytes GB)) (whole t 8 0 b)) s
 unfolding walk next
 walk-done t b s m e = record { base = 0; area = 0; marks = []; taken = m; is = need-done _ _ _ _ _ _ e .1 }
 
-pub walk-fits : (t b s m out : List ℕ) → walk strict (schema t) b ≡ done s m → length s ≤ length out → Fits (then (just (markBytes GB)) (whole t 8 0 b)) 0 out
+pub walk-fits : (t b s m out : List ℕ) → walk lax (schema t) b ≡ done s m → length s ≤ length out → Fits (then (just (markBytes GB)) (whole t 8 0 b)) 0 out
 walk-fits t b s m out e l = record { sheet = s; reads = walk-done t b s m e; room = omega (arith, l) }
 
 pub one-sheet : (r : Reading) (s m s′ m′ : List ℕ) → r ≡ done s m → r ≡ done s′ m′ → s ≡ s′

@@ -4,7 +4,9 @@ use mathlib.Core.List.{List, []}
 use Prim.Native.Nat.{ℕ, _≤_}
 use lib.ListN.{length}
 use Rattle.schema.specs.Schema.{Group}
-use Rattle.message.specs.Walk.{done, Ignored, strict, messageR}
+use Rattle.settings.specs.declared.Ignored.{Ignored}
+use Rattle.settings.specs.Store.{strict}
+use Rattle.message.specs.Walk.{done, messageR}
 use Rattle.sheet.specs.Written.{wrote, sheetW}
 use Rattle.sheet.specs.Rewritten.{Rooms, Enough, rewritten}
 

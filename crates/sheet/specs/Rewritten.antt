@@ -5,7 +5,8 @@ use lib.ListN.{length}
 use lib.Dec.{leb}
 use Rattle.schema.specs.Faults.{need}
 use Rattle.schema.specs.Schema.{Group}
-use Rattle.message.specs.Walk.{Reading, refused, done, Ignored, messageR}
+use Rattle.settings.specs.declared.Ignored.{Ignored}
+use Rattle.message.specs.Walk.{Reading, refused, done, messageR}
 use Rattle.sheet.specs.Written.{Writing, stopped, wrote, written}
 
 -- How long the scratch, the sheet room and the output are.

@@ -1,19 +1,19 @@
 -- What the code that writes a sheet asks of its callers and what it leaves. It walks a message that the check accepted, so it tests nothing and keeps no marks:
 -- it speaks of what a reader gives for some marks, wherever its group starts in the message.
 use mathlib.Core.Path.{_≡_}
-use mathlib.Core.Bool.{true}
 use mathlib.Core.List.{List, []}
-use Prim.Native.Nat.{ℕ, _+_, _<_, _≤_}
+use Prim.Native.Nat.{ℕ, _+_, _≤_}
 use lib.ListN.{length, drop}
 use Rattle.wire.specs.Bytes.{part, splice, le}
-use Rattle.schema.specs.Schema.{any, find, shallow}
+use Rattle.schema.specs.Schema.{any, find}
 use Rattle.schema.specs.Table.{fieldAt, enums, schema}
 use Rattle.schema.specs.FieldKinds.{kindFrom}
 use Rattle.schema.specs.declared.FieldKind.{FieldKind}
 use Rattle.schema.specs.declared.Scope.{Scope}
 use Rattle.schema.specs.declared.Scope.the-variants.{Whole, Fields}
 use Rattle.message.specs.Sheet.{VA, GB, GE}
-use Rattle.message.specs.Walk.{Reading, done, next, here, strict, Reader, markedR, plainR, indirectR, innerR, fieldR, extendingR, extensionR, groupR}
+use Rattle.settings.specs.Store.{lax}
+use Rattle.message.specs.Walk.{Reading, done, next, here, Reader, markedR, plainR, indirectR, innerR, fieldR, extendingR, extensionR, groupR}
 use Rattle.message.specs.Check.{itemR, markedValueR, innerOf, widthOf, staticOf}
 
 -- What is read at one place of a message, by the start of its group, the group's data area and its marks.
@@ -22,10 +22,10 @@ Passage = ℕ → ℕ → List ℕ → Reading
 
 -- What R reads at `at` of a group's bytes b; and the whole group b, with so many levels left for it.
 abbrev pub passage : Reader → List ℕ → ℕ → Passage
-passage R b at base area m = R (here strict b base area) at m
+passage R b at base area m = R (here lax b base area) at m
 
 abbrev pub whole : List ℕ → ℕ → ℕ → List ℕ → Passage
-whole t levels allowed b base area m = groupR strict (schema t) levels allowed base b
+whole t levels allowed b base area m = groupR lax (schema t) levels allowed base b
 
 -- Fixed bytes; one passage and then another.
 abbrev pub just : List ℕ → Passage
@@ -41,30 +41,30 @@ abbrev pub plainOf : ℕ → Reader
 plainOf w = markedR VA (plainR w any)
 
 abbrev pub itemOf : List ℕ → ℕ → ℕ → FieldKind → Reader
-itemOf t levels depth kind = itemR (innerOf t levels) (staticOf t levels depth) (kindFrom (enums t) kind)
+itemOf t levels depth kind = itemR (innerOf lax t levels) (staticOf lax t levels depth) (kindFrom (enums t) kind)
 
 abbrev pub valueOf : List ℕ → ℕ → ℕ → ℕ → Reader
-valueOf t levels depth field = markedValueR (innerOf t levels) (widthOf t depth) (staticOf t levels depth) (fieldAt (enums t) (drop field t))
+valueOf t levels depth field = markedValueR (innerOf lax t levels) (widthOf t depth) (staticOf lax t levels depth) (fieldAt (enums t) (drop field t))
 
 abbrev pub fieldOf : List ℕ → ℕ → ℕ → ℕ → Reader
-fieldOf t levels depth field = fieldR (innerOf t levels) (widthOf t depth) (staticOf t levels depth) (fieldAt (enums t) (drop field t))
+fieldOf t levels depth field = fieldR (innerOf lax t levels) (widthOf t depth) (staticOf lax t levels depth) (fieldAt (enums t) (drop field t))
 
 -- a dynamic group of 4 + n bytes; an extension, and one of its groups
 abbrev pub nestedOf : List ℕ → ℕ → ℕ → ℕ → Reader
-nestedOf t levels allowed n = markedR GB (innerR (innerOf t levels) allowed n)
+nestedOf t levels allowed n = markedR GB (innerR (innerOf lax t levels) allowed n)
 
 abbrev pub extensionOf : List ℕ → ℕ → Reader
-extensionOf t levels = extensionR (schema t) (innerOf t levels)
+extensionOf t levels = extensionR (schema t) (innerOf lax t levels)
 
 abbrev pub extendingOf : List ℕ → ℕ → Reader
-extendingOf t levels = indirectR 26 1 (extendingR (schema t) (innerOf t levels))
+extendingOf t levels = indirectR 26 1 (extendingR (schema t) (innerOf lax t levels))
 
 -- A GROUP, BY ITS SCOPE
 
 -- What of it is shown: all of b, or a static group's fields at `at`.
 unfoldable pub groupOf : List ℕ → ℕ → ℕ → Scope → List ℕ → ℕ → Passage
 groupOf t levels depth (Whole allowed) b at = whole t levels allowed b
-groupOf t levels depth (Fields group) b at = passage (staticOf t levels depth group) b at
+groupOf t levels depth (Fields group) b at = passage (staticOf lax t levels depth group) b at
 
 -- How many levels it takes, and how many bytes it has before its fields.
 unfoldable pub takes : Scope → ℕ

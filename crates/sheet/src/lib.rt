@@ -1,7 +1,9 @@
 // Sheets: a message's meaning, written out, and the message that a sheet makes.
 //
 // A sheet is written from a message that the check accepted, so nothing is tested here: every bound
-// comes from the reading that the caller has. `pos` is where the next record begins in `out`.
+// comes from the reading that the caller has. No byte that may be ignored is looked at, so it is said
+// where all of them are (`lax`): what any setting accepts reads the same there. `pos` is where the next
+// record begins in `out`.
 ghost use mathlib.Core.Path.{_≡_};
 ghost use mathlib.Core.Bool.{true};
 ghost use mathlib.Core.List.{List, _++_};
@@ -13,7 +15,8 @@ ghost use Rattle.schema.specs.Table.{fieldAt, enums, schema};
 ghost use Rattle.schema.specs.Layout.{Layout};
 ghost use Rattle.schema.specs.FieldKinds.{kindFrom};
 ghost use Rattle.message.specs.Sheet.{ST, markBytes};
-ghost use Rattle.message.specs.Walk.{done, byte, word, strict, itemsR, walk};
+ghost use Rattle.settings.specs.Store.{lax};
+ghost use Rattle.message.specs.Walk.{done, byte, word, itemsR, walk};
 ghost use Rattle.message.specs.Check.{widthOf, staticOf};
 ghost use Rattle.message.specs.Scopes.{Lies};
 ghost use Rattle.sheet.specs.Show.{passage, takes, headOf, idOf, numberOf, endOf, groupOf, plainOf, itemOf, valueOf, fieldOf, nestedOf, extensionOf, extendingOf, Fits, Shown};
@@ -196,8 +199,8 @@ fn show_fields(
     out: &mut [u8],
     pos: usize,
 ) -> usize
-    requires { ⌜ (Layout (now table) (now index)) × (length (now bytes) ≤ 65536) × (at + widthOf (now table) depth group ≤ length (now bytes)) × (group < length (schema (now table))) × (shallow (schema (now table)) depth group ≡ true) × (Fits (passage (staticOf (now table) levels depth group) (now bytes) at) pos (now out)) ⌝ }
-    ensures { λ r. ⌜ Shown (passage (staticOf (now (table .entry)) levels depth group) (now (bytes .entry)) at) pos (now (out .entry)) (now (out .exit)) r ⌝ }
+    requires { ⌜ (Layout (now table) (now index)) × (length (now bytes) ≤ 65536) × (at + widthOf (now table) depth group ≤ length (now bytes)) × (group < length (schema (now table))) × (shallow (schema (now table)) depth group ≡ true) × (Fits (passage (staticOf lax (now table) levels depth group) (now bytes) at) pos (now out)) ⌝ }
+    ensures { λ r. ⌜ Shown (passage (staticOf lax (now (table .entry)) levels depth group) (now (bytes .entry)) at) pos (now (out .entry)) (now (out .exit)) r ⌝ }
 {
     let start = schema::group_place(index, group);
     let total = schema::field_count(table, start);
@@ -478,8 +481,8 @@ fn show_extending(
 // The sheet of an accepted message, at the start of `sheet`: its length. What lies behind it is what
 // stood there.
 pub fn write_sheet(table: &[u8], index: &[u16], message: &[u8], sheet: &mut [u8]) -> usize
-    requires { ⌜ (Layout (now table) (now index)) × (length (now message) ≤ 65536) × ((s : List ℕ) × (m : List ℕ) × (walk strict (schema (now table)) (now message) ≡ done s m) × (length s ≤ length (now sheet))) ⌝ }
-    ensures { λ r. ⌜ ((s m : List ℕ) → walk strict (schema (now (table .entry))) (now (message .entry)) ≡ done s m → (now (sheet .exit) ≡ splice (length s) 0 s (now (sheet .entry))) × (r ≡ length s)) ⌝ }
+    requires { ⌜ (Layout (now table) (now index)) × (length (now message) ≤ 65536) × ((s : List ℕ) × (m : List ℕ) × (walk lax (schema (now table)) (now message) ≡ done s m) × (length s ≤ length (now sheet))) ⌝ }
+    ensures { λ r. ⌜ ((s m : List ℕ) → walk lax (schema (now (table .entry))) (now (message .entry)) ≡ done s m → (now (sheet .exit) ≡ splice (length s) 0 s (now (sheet .entry))) × (r ≡ length s)) ⌝ }
 {
     let next = show_mark(GB, sheet, 0);
     show_group(

@@ -4,12 +4,15 @@
 //!
 //! ```text
 //! table T
-//! check T M SCRATCH
-//! sheet T M SCRATCH ROOM
+//! check T M SCRATCH STORE CUSTOMER
+//! sheet T M SCRATCH STORE CUSTOMER ROOM
 //! write T S OUTPUT
-//! rewrite T M SCRATCH ROOM OUTPUT
-//! num T M SCRATCH FIELD ITEM
-//! bytes T M SCRATCH FIELD ITEM
+//! rewrite T M SCRATCH STORE CUSTOMER ROOM OUTPUT
+//! num T M SCRATCH STORE CUSTOMER FIELD ITEM
+//! bytes T M SCRATCH STORE CUSTOMER FIELD ITEM
+//! store STORE
+//! storeadd STORE CUSTOMER VERSION ABSENT PADS UNUSED
+//! storeget STORE CUSTOMER VERSION
 //! ```
 //!
 //! The answer is one line: fault number and place, `0 0` and the answer if
@@ -19,7 +22,7 @@ use std::io::{self, BufRead, BufReader, BufWriter, Write};
 use std::process::ExitCode;
 
 use blink_reference::question::{ask, Answer, Kind, Question, Reply};
-use blink_reference::Number;
+use blink_reference::{Ignored, Number, Settings};
 
 /// The longest room that is lent; a longer one is a mistake in the line.
 const MAX_ROOM: usize = 1 << 26;
@@ -52,15 +55,24 @@ fn main() -> io::Result<ExitCode> {
 
 /// The answer to a line, or what is wrong with the line.
 fn answer(line: &str) -> Result<String, String> {
-    let (table, question) = parse(line)?;
-    let reply = ask(&table, &question);
+    let Line { table, store, customer, question } = parse(line)?;
+    let reply = ask(&table, Settings::of(&store, customer), &question);
     Ok(match &reply.answer {
         Ok(answer) => format!("0 0{}", answer_words(answer, &question, &reply)),
         Err(fault) => format!("{} {}", fault.number as u8, fault.place),
     })
 }
 
-fn parse(line: &str) -> Result<(Vec<u8>, Question), String> {
+/// A question, and the table, store and customer it is asked under, where
+/// there are any.
+struct Line {
+    table: Vec<u8>,
+    store: Vec<u8>,
+    customer: u16,
+    question: Question,
+}
+
+fn parse(line: &str) -> Result<Line, String> {
     let words: Vec<&str> = line.split(' ').collect();
     let kind = match words[0] {
         "table" => Kind::CheckTable,
@@ -70,41 +82,57 @@ fn parse(line: &str) -> Result<(Vec<u8>, Question), String> {
         "rewrite" => Kind::Rewrite,
         "num" => Kind::ReadNumber,
         "bytes" => Kind::ReadBytes,
+        "store" => Kind::CheckStore,
+        "storeadd" => Kind::AddSettings,
+        "storeget" => Kind::ReadSettings,
         "" => return Err("no question".to_string()),
         other => return Err(format!("unknown question `{other}`")),
     };
     let due = match kind {
-        Kind::CheckTable => 1,
-        Kind::CheckMessage | Kind::SheetToMessage => 3,
-        Kind::MessageToSheet => 4,
-        Kind::Rewrite | Kind::ReadNumber | Kind::ReadBytes => 5,
+        Kind::CheckTable | Kind::CheckStore => 1,
+        Kind::SheetToMessage | Kind::ReadSettings => 3,
+        Kind::CheckMessage => 5,
+        Kind::MessageToSheet | Kind::AddSettings => 6,
+        Kind::Rewrite | Kind::ReadNumber | Kind::ReadBytes => 7,
     };
     if words.len() - 1 != due {
         let given = words.len() - 1;
         return Err(format!("`{}` takes {due} words, not {given}", words[0]));
     }
-    let table = bytes(words[1])?;
-    if kind == Kind::CheckTable {
-        return Ok((Vec::new(), Question::new(kind, table)));
+    let first = bytes(words[1])?;
+    let whole = |question| Line { table: Vec::new(), store: Vec::new(), customer: 0, question };
+    match kind {
+        Kind::CheckTable | Kind::CheckStore => return Ok(whole(Question::new(kind, first))),
+        Kind::ReadSettings => {
+            let (customer, version) = (short(words[2])?, short(words[3])?);
+            return Ok(whole(Question::read_settings(first, customer, version)));
+        }
+        Kind::AddSettings => {
+            let (customer, version) = (short(words[2])?, short(words[3])?);
+            let flags = [byte(words[4])?, byte(words[5])?, byte(words[6])?];
+            return Ok(whole(Question::add_settings(first, customer, version, flags)));
+        }
+        _ => {}
     }
     let mut question = Question::new(kind, bytes(words[2])?);
-    match kind {
-        Kind::SheetToMessage => question.output = room(words[3])?,
-        _ => question.scratch = room(words[3])?,
+    if kind == Kind::SheetToMessage {
+        question.output = room(words[3])?;
+        return Ok(Line { table: first, ..whole(question) });
     }
+    question.scratch = room(words[3])?;
     match kind {
-        Kind::MessageToSheet => question.sheet = room(words[4])?,
+        Kind::MessageToSheet => question.sheet = room(words[6])?,
         Kind::Rewrite => {
-            question.sheet = room(words[4])?;
-            question.output = room(words[5])?;
+            question.sheet = room(words[6])?;
+            question.output = room(words[7])?;
         }
         Kind::ReadNumber | Kind::ReadBytes => {
-            question.field = number(words[4])?;
-            question.item = number(words[5])?;
+            question.field = number(words[6])?;
+            question.item = number(words[7])?;
         }
-        Kind::CheckTable | Kind::CheckMessage | Kind::SheetToMessage => {}
+        _ => {}
     }
-    Ok((table, question))
+    Ok(Line { table: first, store: bytes(words[4])?, customer: short(words[5])?, question })
 }
 
 fn bytes(word: &str) -> Result<Vec<u8>, String> {
@@ -143,6 +171,15 @@ fn number(word: &str) -> Result<u64, String> {
     }
 }
 
+/// A customer or a version.
+fn short(word: &str) -> Result<u16, String> {
+    number(word)?.try_into().map_err(|_| format!("{word} is over 65535"))
+}
+
+fn byte(word: &str) -> Result<u8, String> {
+    number(word)?.try_into().map_err(|_| format!("{word} is over 255"))
+}
+
 /// As much of a word as a message needs to show.
 fn start(word: &str) -> String {
     match word.char_indices().nth(24) {
@@ -153,7 +190,11 @@ fn start(word: &str) -> String {
 
 fn answer_words(answer: &Answer, question: &Question, reply: &Reply) -> String {
     match answer {
+        Answer::Accepted if question.kind == Kind::AddSettings => format!(" {}", hex(&reply.store)),
         Answer::Accepted => String::new(),
+        Answer::Settings(Ignored { absent, pads, unused }) => {
+            format!(" {} {} {}", u8::from(*absent), u8::from(*pads), u8::from(*unused))
+        }
         Answer::Written(length) if question.kind == Kind::MessageToSheet => {
             format!(" {}", hex(&reply.sheet[..*length]))
         }

@@ -1,8 +1,8 @@
 //! Asks the stored questions again and compares with the stored answers.
 //!
-//! `replay DIRECTORY`, with the directory that holds data/ and expected/
-//! (crates/conformance). Exit code 1 and the first difference if there is
-//! one.
+//! `replay DIRECTORY [NAME..]`, with the directory that holds data/ and
+//! expected/ (crates/conformance), of all files or of these. Exit code 1 and
+//! the first difference if there is one.
 
 use std::path::Path;
 use std::process::ExitCode;
@@ -10,11 +10,16 @@ use std::process::ExitCode;
 use blink_reference::vectors::{answer_lines, decode, FILES};
 
 fn main() -> ExitCode {
-    let Some(directory) = std::env::args_os().nth(1) else {
-        eprintln!("usage: replay DIRECTORY");
+    let mut arguments = std::env::args_os().skip(1);
+    let Some(directory) = arguments.next() else {
+        eprintln!("usage: replay DIRECTORY [NAME..]");
         return ExitCode::from(2);
     };
+    let chosen: Vec<_> = arguments.collect();
     for (name, _) in FILES {
+        if !chosen.is_empty() && !chosen.iter().any(|chosen| chosen == name) {
+            continue;
+        }
         if let Err(why) = replay(Path::new(&directory), name) {
             println!("{name}: {why}");
             return ExitCode::from(1);

@@ -37,7 +37,7 @@ pub fn batch(seed: u64) -> Batch {
 }
 
 /// At times the message as the innermost of some seven to ten levels.
-fn deepen(random: &mut Random, plan: &TablePlan, message: GroupValue) -> GroupValue {
+pub(super) fn deepen(random: &mut Random, plan: &TablePlan, message: GroupValue) -> GroupValue {
     if !random.one_in(8) {
         return message;
     }
@@ -76,7 +76,7 @@ fn ask_about(random: &mut Random, plan: &TablePlan, message: &GroupValue, questi
 }
 
 /// All questions about one message.
-fn ask_message(
+pub(super) fn ask_message(
     random: &mut Random,
     input: Vec<u8>,
     sheet: &[u8],
@@ -84,7 +84,7 @@ fn ask_message(
     questions: &mut Vec<Question>,
 ) {
     let fields = 1 + random.below(6) as u64;
-    for kind in [Kind::CheckMessage, Kind::MessageToSheet, Kind::Rewrite, Kind::ReadNumber, Kind::ReadBytes] {
+    for kind in Kind::OF_MESSAGES {
         let mut question = Question::new(kind, input.clone());
         question.scratch = match random.below(12) {
             0 => room(random, input.len()),

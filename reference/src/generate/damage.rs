@@ -113,7 +113,7 @@ fn damage_spot(random: &mut Random, plan: &TablePlan, layout: &Layout, bytes: &m
             let near = bytes[at].wrapping_add(random.pick(&[1, 255]));
             vec![random.pick(&[capacity.wrapping_add(1), 255, near])]
         }
-        Spot::UnusedInline | Spot::AbsentByte => vec![1 + random.below(255) as u8],
+        Spot::UnusedInline(_) | Spot::AbsentByte(_) => vec![1 + random.below(255) as u8],
         Spot::Pad(length) => {
             let mut pad = vec![0; length];
             pad[random.below(length)] = 1 + random.below(255) as u8;
@@ -122,6 +122,28 @@ fn damage_spot(random: &mut Random, plan: &TablePlan, layout: &Layout, bytes: &m
         Spot::Text(length) => random_broken_text(random, length),
     };
     set(bytes, at, &new);
+}
+
+/// The message with rubbish in bytes that mean nothing: of absent fields,
+/// unused inline bytes and pads, as the flags say.
+pub fn litter(random: &mut Random, layout: &Layout, flags: [bool; 3]) -> Layout {
+    let mut bytes = layout.bytes.clone();
+    let [absent, pads, unused] = flags;
+    for &(spot, at) in &layout.spots {
+        let (from, to, wanted) = match spot {
+            Spot::AbsentByte(width) => (at + 1 - width, at + 1, absent),
+            Spot::Pad(length) => (at, at + length, pads),
+            Spot::UnusedInline(length) => (at + 1 - length, at + 1, unused),
+            _ => continue,
+        };
+        if wanted && !random.one_in(4) {
+            if random.one_in(3) {
+                bytes[from..to].copy_from_slice(&random.bytes(to - from));
+            }
+            bytes[from + random.below(to - from)] = 1 + random.below(255) as u8;
+        }
+    }
+    Layout { bytes, spots: layout.spots.clone() }
 }
 
 /// The kind of a spot as a number, whatever its length or capacity.
@@ -139,8 +161,8 @@ fn kind(spot: Spot) -> u8 {
         Spot::NanoOfDay => 9,
         Spot::Symbol => 10,
         Spot::InlineCount(_) => 11,
-        Spot::UnusedInline => 12,
-        Spot::AbsentByte => 13,
+        Spot::UnusedInline(_) => 12,
+        Spot::AbsentByte(_) => 13,
         Spot::Pad(_) => 14,
         Spot::Text(_) => 15,
     }

@@ -52,8 +52,10 @@ pub enum Spot {
     Symbol,
     /// Of this capacity.
     InlineCount(u8),
-    UnusedInline,
-    AbsentByte,
+    /// The last of this many bytes.
+    UnusedInline(usize),
+    /// The last of this many bytes.
+    AbsentByte(usize),
     /// This many bytes.
     Pad(usize),
     /// Text of this length that must be UTF-8.
@@ -384,7 +386,7 @@ impl<'a, 'r> Chunks<'a, 'r> {
 
     fn value(&mut self, field: FieldPlan, value: &Value, chunk: usize, at: usize, width: usize) {
         match value {
-            Value::Absent => self.spot_at(chunk, Spot::AbsentByte, at + width - 1),
+            Value::Absent => self.spot_at(chunk, Spot::AbsentByte(width), at + width - 1),
             Value::Plain(bytes) => {
                 let spot = match field.ty {
                     Type::Bool => Some(Spot::Bool),
@@ -402,8 +404,9 @@ impl<'a, 'r> Chunks<'a, 'r> {
                 self.spot_at(chunk, Spot::InlineCount(field.size), at);
                 self.put_at(chunk, at, &[text.len() as u8]);
                 self.text_spot(field, text, chunk, at + 1);
-                if text.len() < field.size.into() {
-                    self.spot_at(chunk, Spot::UnusedInline, at + width - 1);
+                let unused = usize::from(field.size) - text.len();
+                if unused > 0 {
+                    self.spot_at(chunk, Spot::UnusedInline(unused), at + width - 1);
                 }
                 self.put_at(chunk, at + 1, text);
             }

@@ -3,18 +3,22 @@
 
 use std::collections::BTreeMap;
 
-use super::{batch, edges};
+use super::{batch, edges, settings_batch};
 use crate::question::{ask, Kind, Question};
 use crate::vectors::{answer_lines, encode, stored_length, Entry, FILES};
-use crate::FaultNumber;
+use crate::{FaultNumber, Settings};
 
 /// How many random batches are looked at.
 const BATCHES: u64 = 3_500;
+/// How many of them under settings.
+const SETTINGS_BATCHES: u64 = 2_500;
 /// Longer random inputs are left out, but for zeros at their end.
 const LONGEST: usize = 320;
 /// Questions under a longer random table too: long lists of symbols are
 /// among the edges.
 const LONGEST_TABLE: usize = 800;
+/// Under a longer random store too, and those about one.
+const LONGEST_STORE: usize = 600;
 
 /// One stored file: its questions and the answers due.
 pub struct File {
@@ -27,20 +31,33 @@ pub struct File {
 
 /// All stored files, in the order of [`FILES`].
 pub fn stored_files() -> Vec<File> {
-    let mut shelves: Vec<Shelf> = FILES.iter().map(|&(_, kind)| Shelf::new(kind)).collect();
+    let mut shelves: Vec<Shelf> = FILES.iter().map(|_| Shelf::new()).collect();
+    let (governed, plain) = shelves.split_last_mut().expect("there are files");
     for edge in edges() {
-        if edge.question.kind == Kind::CheckMessage && edge.fault.0 == 0 {
-            for question in rewritings(&edge.question) {
-                shelf_of(&mut shelves, question.kind).put(&edge.table, question);
-            }
+        let settings = edge.settings();
+        let mut put = |question: Question| match edge.settings {
+            Some(_) => governed.put(&edge.table, settings, question),
+            None => shelf_of(plain, question.kind).put(&edge.table, settings, question),
+        };
+        if edge.question.kind == Kind::CheckMessage && edge.fault.0 == 0 && edge.settings.is_none() {
+            rewritings(&edge.question).into_iter().for_each(&mut put);
         }
-        shelf_of(&mut shelves, edge.question.kind).put(&edge.table, edge.question);
+        put(edge.question.clone());
     }
     for seed in 0..BATCHES {
         let batch = batch(seed);
         for question in batch.questions {
-            let shelf = shelf_of(&mut shelves, question.kind);
-            shelf.put_if_wanted(&batch.table, question);
+            shelf_of(plain, question.kind).put_if_wanted(&batch.table, Settings::NONE, question);
+        }
+    }
+    for seed in 0..SETTINGS_BATCHES {
+        let batch = settings_batch(seed);
+        for asked in batch.asked {
+            let shelf = match asked.question.kind.is_of_message() {
+                true => &mut *governed,
+                false => shelf_of(plain, asked.question.kind),
+            };
+            shelf.put_if_wanted(&batch.table, asked.settings(), asked.question.clone());
         }
     }
     shelves.into_iter().zip(FILES).map(|(shelf, (name, _))| shelf.file(name)).collect()
@@ -55,44 +72,62 @@ fn rewritings(check: &Question) -> [Question; 2] {
 }
 
 fn shelf_of(shelves: &mut [Shelf], kind: Kind) -> &mut Shelf {
-    shelves.iter_mut().find(|shelf| shelf.kind == kind).expect("there is a file for each kind")
+    let at = FILES.iter().position(|(_, kinds)| kinds.contains(&kind));
+    &mut shelves[at.expect("there is a file for each kind")]
 }
 
 /// The entries of one file.
 struct Shelf {
-    kind: Kind,
     entries: Vec<Entry>,
     /// The table in force.
     table: Vec<u8>,
-    /// How many random questions were put, by fault number.
-    counts: BTreeMap<u8, usize>,
+    /// The store and the customer in force.
+    settings: (Vec<u8>, u16),
+    /// How many random questions were put, by kind and by the fault numbers
+    /// under their settings and under none.
+    counts: BTreeMap<(Kind, u8, u8), usize>,
 }
 
 impl Shelf {
-    fn new(kind: Kind) -> Shelf {
-        Shelf { kind, entries: Vec::new(), table: Vec::new(), counts: BTreeMap::new() }
+    fn new() -> Shelf {
+        Shelf { entries: Vec::new(), table: Vec::new(), settings: (Vec::new(), 0), counts: BTreeMap::new() }
     }
 
-    fn put(&mut self, table: &[u8], question: Question) {
-        if self.kind != Kind::CheckTable && (self.table != table || self.entries.is_empty()) {
+    fn put(&mut self, table: &[u8], settings: Settings, question: Question) {
+        let under_table = question.kind.is_of_message() || question.kind == Kind::SheetToMessage;
+        if under_table && (self.table != table || self.entries.is_empty()) {
             self.table = table.to_vec();
             self.entries.push(Entry::Table(table.to_vec()));
+        }
+        if settings != Settings::of(&self.settings.0, self.settings.1) {
+            self.settings = (settings.store.to_vec(), settings.customer);
+            self.entries.push(Entry::Settings(settings.store.to_vec(), settings.customer));
         }
         self.entries.push(Entry::Ask(question));
     }
 
-    fn put_if_wanted(&mut self, table: &[u8], question: Question) {
-        if stored_length(&question.input) > LONGEST || stored_length(table) > LONGEST_TABLE {
+    fn put_if_wanted(&mut self, table: &[u8], settings: Settings, question: Question) {
+        let longest = if question.kind.is_of_store() { LONGEST_STORE } else { LONGEST };
+        if stored_length(&question.input) > longest
+            || stored_length(table) > LONGEST_TABLE
+            || stored_length(settings.store) > LONGEST_STORE
+        {
             return;
         }
-        let number = match ask(table, &question).answer {
+        let number = |settings| match ask(table, settings, &question).answer {
             Ok(_) => 0,
             Err(fault) => fault.number as u8,
         };
-        let count = self.counts.entry(number).or_default();
-        if *count < quota(self.kind, number) {
+        let governed = number(settings);
+        let strict = if settings == Settings::NONE { governed } else { number(Settings::NONE) };
+        let count = self.counts.entry((question.kind, governed, strict)).or_default();
+        let quota = match settings == Settings::NONE {
+            true => quota(question.kind, governed),
+            false => quota_under(governed, strict),
+        };
+        if *count < quota {
             *count += 1;
-            self.put(table, question);
+            self.put(table, settings, question);
         }
     }
 
@@ -114,10 +149,27 @@ fn quota(kind: Kind, number: u8) -> usize {
         _ if number == FaultNumber::MessageTooLong as u8 => 3,
         _ if number == FaultNumber::SheetTooLong as u8 => 12,
         Kind::CheckTable | Kind::CheckMessage | Kind::SheetToMessage if number > 0 => 24,
+        Kind::CheckStore | Kind::ReadSettings | Kind::AddSettings if number > 0 => 60,
         Kind::CheckTable => 40,
         _ if number > 0 => 10,
         Kind::CheckMessage => 100,
         Kind::MessageToSheet | Kind::SheetToMessage | Kind::Rewrite => 120,
         Kind::ReadNumber | Kind::ReadBytes => 160,
+        Kind::CheckStore | Kind::ReadSettings | Kind::AddSettings => 120,
+    }
+}
+
+/// How many random questions of each kind are stored with these answers under
+/// their settings and under none.
+fn quota_under(governed: u8, strict: u8) -> usize {
+    match (governed, strict) {
+        _ if strict == FaultNumber::MessageTooLong as u8 => 1,
+        (0, 0) => 12,
+        // Rubbish that is let through.
+        (0, _) => 24,
+        (50, _) => 2,
+        _ if governed != strict => 6,
+        (4 | 6 | 8, _) => 8,
+        _ => 2,
     }
 }

@@ -1,5 +1,6 @@
 use mathlib.Core.Path.{sym, _∙_}
 use lib.ListN.{length}
+use Rattle.codec.specs.Answers.{under}
 use Rattle.codec.proofs.Laws.{opens-nothing, reading-20, scratch-20}
 use borrow.Author.Needs.{needs}
 use Rattle.codec.proofs.open_message.Statement.{statement}
@@ -9,7 +10,7 @@ open-under-requires : tie.Need-open-under-requires
 open-under-requires c κs = rw (c .before .before .enum-told .given .1) at (c .before .before .before .before .before .before .index-table .ensures)
 
 returns-2 : tie.Need-returns-2
-returns-2 c = let e = sym (c .before .before .v .given .1) ∙ c .before .before .before .before .before .before .index-table .ensures .verdict in (opens-nothing _ _ _ _ _ 20 0 (c .refused .ensures) (reading-20 (c .before .before .before .before .before .before .before .before .before .before .before .before .args .table .now) (c .before .before .before .before .before .before .before .before .before .before .before .before .args .message .now) (c .before .before .before .before .before .before .before .before .before .before .before .before .args .scratch .now) _ _ e (length (c .before .before .before .before .before .before .before .before .before .before .before .before .args .scratch .now))), sym (scratch-20 (c .before .before .before .before .before .before .before .before .before .before .before .before .args .table .now) (c .before .before .before .before .before .before .before .before .before .before .before .before .args .message .now) (c .before .before .before .before .before .before .before .before .before .before .before .before .args .scratch .now) _ _ e))
+returns-2 c = let e = sym (c .before .before .v .given .1) ∙ c .before .before .before .before .before .before .index-table .ensures .verdict in (opens-nothing _ _ _ _ _ 20 0 (c .refused .ensures) (reading-20 (c .before .before .before .before .before .before .before .before .before .before .before .before .before .args .table .now) (c .before .before .before .before .before .before .before .before .before .before .before .before .before .args .store .now) (c .before .before .before .before .before .before .before .before .before .before .before .before .before .args .message .now) (c .before .before .before .before .before .before .before .before .before .before .before .before .before .args .scratch .now) _ _ e (under (c .before .before .before .before .before .before .before .before .before .before .before .before .before .args .store .now) (c .before .before .before .before .before .before .before .before .before .before .before .before .before .args .customer) (length (c .before .before .before .before .before .before .before .before .before .before .before .before .before .args .scratch .now)))), sym (scratch-20 (c .before .before .before .before .before .before .before .before .before .before .before .before .before .args .table .now) (c .before .before .before .before .before .before .before .before .before .before .before .before .before .args .store .now) (c .before .before .before .before .before .before .before .before .before .before .before .before .before .args .message .now) (c .before .before .before .before .before .before .before .before .before .before .before .before .before .args .scratch .now) _ _ e))
 
 pub open-message-spec : {M : Type 1} → statement M
 open-message-spec =

@@ -1,4 +1,4 @@
-use Rattle.codec.specs.Answers.{rewriting}
+use Rattle.codec.specs.Answers.{under, rewriting}
 use lib.ListN.{length}
 use Rattle.codec.proofs.Laws.{writes-nothing, sheet-refused, onward-refused}
 use borrow.Author.Needs.{needs}
@@ -6,15 +6,15 @@ use Rattle.codec.proofs.rewrite.Statement.{statement}
 use Rattle.codec.proofs.rewrite.Tie as tie
 
 rewrite-under-requires : tie.Need-rewrite-under-requires
-rewrite-under-requires c κs = (length (c .before .before .before .before .before .before .before .before .before .before .before .before .before .before .before .before .before .args .scratch .now), c .before .before .before .before .before .before .before .before .before .open-message .ensures .0 .opens _ (c .before .before .before .before .walked .given .1))
+rewrite-under-requires c κs = (under (c .before .before .before .before .before .before .before .before .before .before .before .before .before .before .before .before .before .before .args .store .now) (c .before .before .before .before .before .before .before .before .before .before .before .before .before .before .before .before .before .before .args .customer) (length (c .before .before .before .before .before .before .before .before .before .before .before .before .before .before .before .before .before .before .args .scratch .now)), c .before .before .before .before .before .before .before .before .before .open-message .ensures .0 .opens _ (c .before .before .before .before .walked .given .1))
 
 returns : tie.Need-returns
 unfolding rewriting
-returns c = let x = c .before .before .before .before .rewrite-under .ensures (length (c .before .before .before .before .before .before .before .before .before .before .before .before .before .before .before .before .before .before .before .before .before .before .args .scratch .now)) (c .before .before .before .before .before .before .before .before .before .before .before .before .before .before .open-message .ensures .0 .opens _ (c .before .before .before .before .before .before .before .before .before .walked .given .1)) in (x .0 .0, (c .before .before .before .before .before .before .before .before .before .before .before .before .before .before .open-message .ensures .1, (x .1, x .0 .1)))
+returns c = let x = c .before .before .before .before .rewrite-under .ensures (under (c .before .before .before .before .before .before .before .before .before .before .before .before .before .before .before .before .before .before .before .before .before .before .before .args .store .now) (c .before .before .before .before .before .before .before .before .before .before .before .before .before .before .before .before .before .before .before .before .before .before .before .args .customer) (length (c .before .before .before .before .before .before .before .before .before .before .before .before .before .before .before .before .before .before .before .before .before .before .before .args .scratch .now))) (c .before .before .before .before .before .before .before .before .before .before .before .before .before .before .open-message .ensures .0 .opens _ (c .before .before .before .before .before .before .before .before .before .walked .given .1)) in (x .0 .0, (c .before .before .before .before .before .before .before .before .before .before .before .before .before .before .open-message .ensures .1, (x .1, x .0 .1)))
 
 returns-2 : tie.Need-returns-2
 unfolding rewriting
-returns-2 c = let e = sheet-refused (c .before .before .before .before .before .before .before .before .before .before .before .before .before .before .args .table .now) (c .before .before .before .before .before .before .before .before .before .before .before .before .before .before .args .message .now) (length (c .before .before .before .before .before .before .before .before .before .before .before .before .before .before .args .scratch .now)) (length (c .before .before .before .before .before .before .before .before .before .before .before .before .before .before .args .sheet .now)) _ _ (c .before .before .before .before .before .before .open-message .ensures .0 .refuses _ _ (c .before .walked2 .given .1)) in let x = writes-nothing _ _ _ (c .before .before .before .before .before .before .before .before .before .before .before .before .before .before .args .output .now) (onward-refused (c .before .before .before .before .before .before .before .before .before .before .before .before .before .before .args .table .now) (c .before .before .before .before .before .before .before .before .before .before .before .before .before .before .args .message .now) (length (c .before .before .before .before .before .before .before .before .before .before .before .before .before .before .args .scratch .now)) (length (c .before .before .before .before .before .before .before .before .before .before .before .before .before .before .args .sheet .now)) (length (c .before .before .before .before .before .before .before .before .before .before .before .before .before .before .args .output .now)) _ _ e) in let y = writes-nothing _ _ _ (c .before .before .before .before .before .before .before .before .before .before .before .before .before .before .args .sheet .now) e in (x .0, (c .before .before .before .before .before .before .open-message .ensures .1, (y .1, x .1)))
+returns-2 c = let e = sheet-refused (c .before .before .before .before .before .before .before .before .before .before .before .before .before .before .before .args .table .now) (c .before .before .before .before .before .before .before .before .before .before .before .before .before .before .before .args .message .now) (under (c .before .before .before .before .before .before .before .before .before .before .before .before .before .before .before .args .store .now) (c .before .before .before .before .before .before .before .before .before .before .before .before .before .before .before .args .customer) (length (c .before .before .before .before .before .before .before .before .before .before .before .before .before .before .before .args .scratch .now))) (length (c .before .before .before .before .before .before .before .before .before .before .before .before .before .before .before .args .sheet .now)) _ _ (c .before .before .before .before .before .before .open-message .ensures .0 .refuses _ _ (c .before .walked2 .given .1)) in let x = writes-nothing _ _ _ (c .before .before .before .before .before .before .before .before .before .before .before .before .before .before .before .args .output .now) (onward-refused (c .before .before .before .before .before .before .before .before .before .before .before .before .before .before .before .args .table .now) (c .before .before .before .before .before .before .before .before .before .before .before .before .before .before .before .args .message .now) (under (c .before .before .before .before .before .before .before .before .before .before .before .before .before .before .before .args .store .now) (c .before .before .before .before .before .before .before .before .before .before .before .before .before .before .before .args .customer) (length (c .before .before .before .before .before .before .before .before .before .before .before .before .before .before .before .args .scratch .now))) (length (c .before .before .before .before .before .before .before .before .before .before .before .before .before .before .before .args .sheet .now)) (length (c .before .before .before .before .before .before .before .before .before .before .before .before .before .before .before .args .output .now)) _ _ e) in let y = writes-nothing _ _ _ (c .before .before .before .before .before .before .before .before .before .before .before .before .before .before .before .args .sheet .now) e in (x .0, (c .before .before .before .before .before .before .open-message .ensures .1, (y .1, x .1)))
 
 pub rewrite-spec : {M : Type 1} → statement M
 rewrite-spec =

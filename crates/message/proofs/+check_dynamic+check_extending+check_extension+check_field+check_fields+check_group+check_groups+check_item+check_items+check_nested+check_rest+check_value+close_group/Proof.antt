@@ -19,12 +19,12 @@ use Rattle.schema.proofs.Groups.{static-inside, placed-inside}
 use Rattle.schema.proofs.Depth.{and-both, shallow-some, width-cons, shallow-cons, wide-kind, wide-value, wide-field}
 use Rattle.message.specs.Walk.{byte, indirectR, innerR, itemsR, fieldsR, extendingR, valueR}
 use Rattle.message.specs.Count.{count, counted}
-use Rattle.message.specs.Check.{marksOf, closing, after, within, itemR, markedValueR, innerOf, widthOf, staticOf}
+use Rattle.message.specs.Check.{levelsIn, ignoredIn, marksOf, closing, after, within, itemR, markedValueR, innerOf, widthOf, staticOf}
 use Rattle.message.proofs.Count.{count-inner}
 use Rattle.message.proofs.CheckAnswers.{refuses, counts, stays, goes-on, passed, stopped, bounded}
 use Rattle.message.proofs.CheckMarks.{retaken, pads-none}
 use Rattle.message.proofs.CheckFields.{leads-nowhere, leads-to, fields-passed, fields-stopped, fields-end, plain-wide, fields-plain, flag-wide, flag-unset, field-optional, field-set, ItemsAt, one-item, sequence-nowhere, sequence-items, items-passed, items-stopped, items-end, items-left, items-plain, items-indirect, items-number, item-plain, item-number, item-inline, item-indirect, item-static, item-dynamic, wide-number, wide-inline, wide-indirect, wide-static, wide-dynamic, kind-static, start-inside, start-static, start-width, start-shallow, ready}
-use Rattle.message.proofs.CheckGroups.{nested-passed, extension-zero, extension-nowhere, extension-empty, extension-some, extending-short, extending-known, extending-kept, rest-plain, closing-clean}
+use Rattle.message.proofs.CheckGroups.{nested-passed, extension-zero, extension-nowhere, extension-empty, extension-some, extending-short, extending-known, extending-kept, rest-plain, closing-filled}
 use Rattle.message.proofs.CheckScopes.{weight, inside-falls, inside-long, inside-left, opens-begun, opens-refused, closes-dynamic, closes-static}
 use borrow.Fn.Kinds.{In}
 use borrow.Fn.PlainCycle.{Measures, is, falls, and}
@@ -101,43 +101,43 @@ use Rattle.message.proofs.+check_dynamic+check_extending+check_extensio
 }
 
 abbrev μ-check-dynamic : Measures 4 check-dynamic-kinds.ps ℕ
-μ-check-dynamic κs a = 64 * a .1 .1 .1 .1 .0 .levels + 4
+μ-check-dynamic κs a = 64 * levelsIn (a .1 .1 .1 .1 .0 .rules) + 4
 
 abbrev μ-check-extending : Measures 4 check-extending-kinds.ps ℕ
-μ-check-extending κs a = 64 * a .1 .1 .1 .1 .0 .levels + 6
+μ-check-extending κs a = 64 * levelsIn (a .1 .1 .1 .1 .0 .rules) + 6
 
 abbrev μ-check-extension : Measures 4 check-extension-kinds.ps ℕ
-μ-check-extension κs a = 64 * a .1 .1 .1 .1 .0 .levels + 8
+μ-check-extension κs a = 64 * levelsIn (a .1 .1 .1 .1 .0 .rules) + 8
 
 abbrev μ-check-field : Measures 4 check-field-kinds.ps ℕ
-μ-check-field κs a = 64 * a .1 .1 .1 .1 .0 .levels + 10 * a .1 .1 .1 .1 .1 .0 + 20
+μ-check-field κs a = 64 * levelsIn (a .1 .1 .1 .1 .0 .rules) + 10 * a .1 .1 .1 .1 .1 .0 + 20
 
 abbrev μ-check-fields : Measures 4 check-fields-kinds.ps ℕ
-μ-check-fields κs a = 64 * a .1 .1 .1 .1 .0 .levels + 10 * a .1 .1 .1 .1 .1 .0 + 11
+μ-check-fields κs a = 64 * levelsIn (a .1 .1 .1 .1 .0 .rules) + 10 * a .1 .1 .1 .1 .1 .0 + 11
 
 abbrev μ-check-group : Measures 4 check-group-kinds.ps ℕ
-μ-check-group κs a = 64 * a .1 .1 .1 .1 .0 .levels + weight (a .1 .1 .1 .1 .1 .1 .0) (a .1 .1 .1 .1 .1 .0)
+μ-check-group κs a = 64 * levelsIn (a .1 .1 .1 .1 .0 .rules) + weight (a .1 .1 .1 .1 .1 .1 .0) (a .1 .1 .1 .1 .1 .0)
 
 abbrev μ-check-groups : Measures 4 check-groups-kinds.ps ℕ
-μ-check-groups κs a = 64 * a .1 .1 .1 .1 .0 .levels + 7
+μ-check-groups κs a = 64 * levelsIn (a .1 .1 .1 .1 .0 .rules) + 7
 
 abbrev μ-check-item : Measures 4 check-item-kinds.ps ℕ
-μ-check-item κs a = 64 * a .1 .1 .1 .1 .0 .levels + 10 * a .1 .1 .1 .1 .1 .0 + 17
+μ-check-item κs a = 64 * levelsIn (a .1 .1 .1 .1 .0 .rules) + 10 * a .1 .1 .1 .1 .1 .0 + 17
 
 abbrev μ-check-items : Measures 4 check-items-kinds.ps ℕ
-μ-check-items κs a = 64 * a .1 .1 .1 .1 .0 .levels + 10 * a .1 .1 .1 .1 .1 .0 + 18
+μ-check-items κs a = 64 * levelsIn (a .1 .1 .1 .1 .0 .rules) + 10 * a .1 .1 .1 .1 .1 .0 + 18
 
 abbrev μ-check-nested : Measures 4 check-nested-kinds.ps ℕ
-μ-check-nested κs a = 64 * a .1 .1 .1 .1 .0 .levels + 3
+μ-check-nested κs a = 64 * levelsIn (a .1 .1 .1 .1 .0 .rules) + 3
 
 abbrev μ-check-rest : Measures 4 check-rest-kinds.ps ℕ
-μ-check-rest κs a = 64 * a .1 .1 .1 .1 .0 .levels + 9
+μ-check-rest κs a = 64 * levelsIn (a .1 .1 .1 .1 .0 .rules) + 9
 
 abbrev μ-check-value : Measures 4 check-value-kinds.ps ℕ
-μ-check-value κs a = 64 * a .1 .1 .1 .1 .0 .levels + 10 * a .1 .1 .1 .1 .1 .0 + 19
+μ-check-value κs a = 64 * levelsIn (a .1 .1 .1 .1 .0 .rules) + 10 * a .1 .1 .1 .1 .1 .0 + 19
 
 abbrev μ-close-group : Measures 4 close-group-kinds.ps ℕ
-μ-close-group κs a = 64 * a .1 .1 .1 .1 .0 .levels + 10
+μ-close-group κs a = 64 * levelsIn (a .1 .1 .1 .1 .0 .rules) + 10
 
 abbrev check-dynamic-at : ℕ → In 4 check-dynamic-kinds.ps
 check-dynamic-at t =
@@ -286,11 +286,11 @@ check-dynamic-check-nested-requires t c κs = let a = c .before .before .before 
     (search needs, (ready _ _ _ _ _ _ (c .before .before .before .before .before .before .before .before .before .before .before .before .pre .1 .0) (search needs), rw mul-one at (L .inside _ _ _ g), rw mul-one at (L .taken _ _ _ g)))
 
 check-dynamic-returns : (t : ℕ) → check-dynamic-lts.Need-returns (check-dynamic-claims t) (check-dynamic-at t) check-dynamic.Post
-check-dynamic-returns t c = let a = c .before .before .before .before .before .before .before .before .before .before .before .before .before .before .before .args in let t = a .table .now in let I = innerOf t (a .frame .levels) in
+check-dynamic-returns t c = let a = c .before .before .before .before .before .before .before .before .before .before .before .before .before .before .before .args in let t = a .table .now in let I = innerOf (ignoredIn (a .frame .rules)) t (levelsIn (a .frame .rules)) in
     c .before .before .check-nested .ensures ∙ sym (ap (after (a .before)) (leads-to 26 1 (innerR I (a .allowed)) (within (a .bytes .now) (a .frame)) (a .at) (marksOf (a .frame .area) (a .taken) (a .marks .now)) _ _ (c .before .before .before .before .before .before .before .before .before .locate .ensures .0) _ _ _ (c .before .before .before .before .before .found .given .1) ∙ count-inner (within (a .bytes .now) (a .frame)) _ _ I (a .allowed) _))
 
 check-dynamic-returns-2 : (t : ℕ) → check-dynamic-lts.Need-returns-2 (check-dynamic-claims t) (check-dynamic-at t) check-dynamic.Post
-check-dynamic-returns-2 t c = let a = c .before .before .before .before .before .before .before .before .before .before .before .args in refuses _ _ _ _ _ (leads-nowhere 26 1 (innerR (innerOf (a .table .now) (a .frame .levels)) (a .allowed)) (within (a .bytes .now) (a .frame)) (a .at) (marksOf (a .frame .area) (a .taken) (a .marks .now)) _ _ (c .before .before .before .before .before .locate .ensures .0) _ _ (c .before .found2 .given .1))
+check-dynamic-returns-2 t c = let a = c .before .before .before .before .before .before .before .before .before .before .before .args in refuses _ _ _ _ _ (leads-nowhere 26 1 (innerR (innerOf (ignoredIn (a .frame .rules)) (a .table .now) (levelsIn (a .frame .rules))) (a .allowed)) (within (a .bytes .now) (a .frame)) (a .at) (marksOf (a .frame .area) (a .taken) (a .marks .now)) _ _ (c .before .before .before .before .before .locate .ensures .0) _ _ (c .before .found2 .given .1))
 
 abbrev check-extending-claims : ℕ → check-extending-lts.Claims
 check-extending-claims t = (locate-reads.Asked, locate-reads.Learnt, read-u64-reads.Asked, read-u64-reads.Learnt, is-known-reads.Asked, is-known-reads.Learnt, longer-reads.Asked, longer-reads.Learnt, check-nested-below t, check-nested.Post)
@@ -299,7 +299,7 @@ check-extending-add-t19 : (t : ℕ) → check-extending-lts.Need-add-t19 (check-
 check-extending-add-t19 t c = omega (arith, c .before .before .before .before .before .before .before .locate .ensures .1 .inside _ _ _ (c .before .before .before .found .given .1), c .before .before .before .before .before .before .before .before .before .before .before .before .before .pre .1 .0 .small)
 
 check-extending-returns : (t : ℕ) → check-extending-lts.Need-returns (check-extending-claims t) (check-extending-at t) check-extending.Post
-check-extending-returns t c = let a = c .before .before .before .before .before .before .before .before .before .before .before .before .before .args in refuses _ _ _ _ _ (extending-short (schema (a .table .now)) (innerOf (a .table .now) (a .frame .levels)) (within (a .bytes .now) (a .frame)) (a .at) (marksOf (a .frame .area) (a .taken) (a .marks .now)) _ _ (c .before .before .before .before .before .before .before .locate .ensures .0) _ _ _ (c .before .before .before .found .given .1) (c .before .if1 .taken))
+check-extending-returns t c = let a = c .before .before .before .before .before .before .before .before .before .before .before .before .before .args in refuses _ _ _ _ _ (extending-short (schema (a .table .now)) (innerOf (ignoredIn (a .frame .rules)) (a .table .now) (levelsIn (a .frame .rules))) (within (a .bytes .now) (a .frame)) (a .at) (marksOf (a .frame .area) (a .taken) (a .marks .now)) _ _ (c .before .before .before .before .before .before .before .locate .ensures .0) _ _ _ (c .before .before .before .found .given .1) (c .before .if1 .taken))
 
 check-extending-add-read-u64 : (t : ℕ) → check-extending-lts.Need-add-read-u64 (check-extending-claims t) (check-extending-at t) check-extending.Post
 check-extending-add-read-u64 t c = omega (arith, c .before .before .before .before .before .before .locate .ensures .1 .inside _ _ _ (c .before .before .found .given .1))
@@ -316,26 +316,26 @@ check-extending-check-nested-requires t c κs = let a = c .before .before .befor
 
 check-extending-returns-2 : (t : ℕ) → check-extending-lts.Need-returns-2 (check-extending-claims t) (check-extending-at t) check-extending.Post
 check-extending-returns-2 t c = let a = c .before .before .before .before .before .before .before .before .before .before .before .before .before .before .before .before .before .before .before .before .args in
-    c .before .before .check-nested .ensures ∙ sym (goes-on (a .before) 2 _ _ _ (extending-known (schema (a .table .now)) (innerOf (a .table .now) (a .frame .levels)) (within (a .bytes .now) (a .frame)) (a .at) (marksOf (a .frame .area) (a .taken) (a .marks .now)) _ _ (c .before .before .before .before .before .before .before .before .before .before .before .before .before .before .locate .ensures .0) _ _ _ (c .before .before .before .before .before .before .before .before .before .before .found .given .1) (c .before .before .before .before .before .before .before .before .if1 .left) (rw (c .before .before .before .before .before .before .before .read-u64 .ensures) at (sym (c .before .before .before .before .before .before .is-known .ensures)) ∙ c .before .before .before .before .before .if2 .taken)) (c .before .before .before .longer .ensures))
+    c .before .before .check-nested .ensures ∙ sym (goes-on (a .before) 2 _ _ _ (extending-known (schema (a .table .now)) (innerOf (ignoredIn (a .frame .rules)) (a .table .now) (levelsIn (a .frame .rules))) (within (a .bytes .now) (a .frame)) (a .at) (marksOf (a .frame .area) (a .taken) (a .marks .now)) _ _ (c .before .before .before .before .before .before .before .before .before .before .before .before .before .before .locate .ensures .0) _ _ _ (c .before .before .before .before .before .before .before .before .before .before .found .given .1) (c .before .before .before .before .before .before .before .before .if1 .left) (rw (c .before .before .before .before .before .before .before .read-u64 .ensures) at (sym (c .before .before .before .before .before .before .is-known .ensures)) ∙ c .before .before .before .before .before .if2 .taken)) (c .before .before .before .longer .ensures))
 
 check-extending-add-longer : (t : ℕ) → check-extending-lts.Need-add-longer (check-extending-claims t) (check-extending-at t) check-extending.Post
 check-extending-add-longer t c = omega (arith, rw mul-one at (c .before .before .before .before .before .before .before .before .before .locate .ensures .1 .inside _ _ _ (c .before .before .before .before .before .found .given .1)))
 
 check-extending-returns-3 : (t : ℕ) → check-extending-lts.Need-returns-3 (check-extending-claims t) (check-extending-at t) check-extending.Post
 check-extending-returns-3 t c = let a = c .before .before .before .before .before .before .before .before .before .before .before .before .before .before .before .before .args in
-    counts _ _ _ _ _ _ (extending-kept (schema (a .table .now)) (innerOf (a .table .now) (a .frame .levels)) (within (a .bytes .now) (a .frame)) (a .at) (marksOf (a .frame .area) (a .taken) (a .marks .now)) _ _ (c .before .before .before .before .before .before .before .before .before .before .locate .ensures .0) _ _ _ (c .before .before .before .before .before .before .found .given .1) (c .before .before .before .before .if1 .left) (rw (c .before .before .before .read-u64 .ensures) at (sym (c .before .before .is-known .ensures)) ∙ c .before .if2 .left) (c .before .before .before .before .before .before .before .before .before .before .locate .ensures .1 .inside _ _ _ (c .before .before .before .before .before .before .found .given .1))) (c .longer2 .ensures)
+    counts _ _ _ _ _ _ (extending-kept (schema (a .table .now)) (innerOf (ignoredIn (a .frame .rules)) (a .table .now) (levelsIn (a .frame .rules))) (within (a .bytes .now) (a .frame)) (a .at) (marksOf (a .frame .area) (a .taken) (a .marks .now)) _ _ (c .before .before .before .before .before .before .before .before .before .before .locate .ensures .0) _ _ _ (c .before .before .before .before .before .before .found .given .1) (c .before .before .before .before .if1 .left) (rw (c .before .before .before .read-u64 .ensures) at (sym (c .before .before .is-known .ensures)) ∙ c .before .if2 .left) (c .before .before .before .before .before .before .before .before .before .before .locate .ensures .1 .inside _ _ _ (c .before .before .before .before .before .before .found .given .1))) (c .longer2 .ensures)
 
 check-extending-returns-4 : (t : ℕ) → check-extending-lts.Need-returns-4 (check-extending-claims t) (check-extending-at t) check-extending.Post
-check-extending-returns-4 t c = let a = c .before .before .before .before .before .before .before .before .before .before .before .args in refuses _ _ _ _ _ (leads-nowhere 26 1 (extendingR (schema (a .table .now)) (innerOf (a .table .now) (a .frame .levels))) (within (a .bytes .now) (a .frame)) (a .at) (marksOf (a .frame .area) (a .taken) (a .marks .now)) _ _ (c .before .before .before .before .before .locate .ensures .0) _ _ (c .before .found2 .given .1))
+check-extending-returns-4 t c = let a = c .before .before .before .before .before .before .before .before .before .before .before .args in refuses _ _ _ _ _ (leads-nowhere 26 1 (extendingR (schema (a .table .now)) (innerOf (ignoredIn (a .frame .rules)) (a .table .now) (levelsIn (a .frame .rules)))) (within (a .bytes .now) (a .frame)) (a .at) (marksOf (a .frame .area) (a .taken) (a .marks .now)) _ _ (c .before .before .before .before .before .locate .ensures .0) _ _ (c .before .found2 .given .1))
 
 abbrev check-extension-claims : ℕ → check-extension-lts.Claims
 check-extension-claims t = (read-u32-reads.Asked, read-u32-reads.Learnt, locate-reads.Asked, locate-reads.Learnt, longer-reads.Asked, longer-reads.Learnt, check-groups-below t, check-groups.Post)
 
 check-extension-returns : (t : ℕ) → check-extension-lts.Need-returns (check-extension-claims t) (check-extension-at t) check-extension.Post
-check-extension-returns t c = let a = c .before .before .before .before .before .before .args in stays _ (a .before) _ _ (extension-zero (schema (a .table .now)) (innerOf (a .table .now) (a .frame .levels)) (within (a .bytes .now) (a .frame)) 12 (marksOf (a .frame .area) (a .taken) (a .marks .now)) (sym (c .before .read-u32 .ensures .0) ∙ c .if1 .taken)) (search needs)
+check-extension-returns t c = let a = c .before .before .before .before .before .before .args in stays _ (a .before) _ _ (extension-zero (schema (a .table .now)) (innerOf (ignoredIn (a .frame .rules)) (a .table .now) (levelsIn (a .frame .rules))) (within (a .bytes .now) (a .frame)) 12 (marksOf (a .frame .area) (a .taken) (a .marks .now)) (sym (c .before .read-u32 .ensures .0) ∙ c .if1 .taken)) (search needs)
 
 check-extension-returns-2 : (t : ℕ) → check-extension-lts.Need-returns-2 (check-extension-claims t) (check-extension-at t) check-extension.Post
-check-extension-returns-2 t c = let a = c .before .before .before .before .before .before .before .before .before .before .before .before .before .before .args in stays _ (a .before) _ _ (extension-empty (schema (a .table .now)) (innerOf (a .table .now) (a .frame .levels)) (within (a .bytes .now) (a .frame)) 12 (marksOf (a .frame .area) (a .taken) (a .marks .now)) (λ z. c .before .before .before .before .before .before .before .before .if1 .left (c .before .before .before .before .before .before .before .before .before .read-u32 .ensures .0 ∙ z)) _ _ (c .before .before .before .before .before .before .locate .ensures .0) _ _ _ (c .before .before .found .given .1) (c .if2 .taken)) (search needs)
+check-extension-returns-2 t c = let a = c .before .before .before .before .before .before .before .before .before .before .before .before .before .before .args in stays _ (a .before) _ _ (extension-empty (schema (a .table .now)) (innerOf (ignoredIn (a .frame .rules)) (a .table .now) (levelsIn (a .frame .rules))) (within (a .bytes .now) (a .frame)) 12 (marksOf (a .frame .area) (a .taken) (a .marks .now)) (λ z. c .before .before .before .before .before .before .before .before .if1 .left (c .before .before .before .before .before .before .before .before .before .read-u32 .ensures .0 ∙ z)) _ _ (c .before .before .before .before .before .before .locate .ensures .0) _ _ _ (c .before .before .found .given .1) (c .if2 .taken)) (search needs)
 
 check-extension-add-check-groups : (t : ℕ) → check-extension-lts.Need-add-check-groups (check-extension-claims t) (check-extension-at t) check-extension.Post
 check-extension-add-check-groups t c = omega (arith, c .before .before .before .before .before .before .before .locate .ensures .1 .inside _ _ _ (c .before .before .before .found .given .1))
@@ -346,10 +346,10 @@ check-extension-check-groups-requires t c κs = let a = c .before .before .befor
 
 check-extension-returns-3 : (t : ℕ) → check-extension-lts.Need-returns-3 (check-extension-claims t) (check-extension-at t) check-extension.Post
 check-extension-returns-3 t c = let a = c .before .before .before .before .before .before .before .before .before .before .before .before .before .before .before .before .before .before .before .args in
-    c .before .before .check-groups .ensures ∙ sym (goes-on (a .before) 6 _ _ _ (extension-some (schema (a .table .now)) (innerOf (a .table .now) (a .frame .levels)) (within (a .bytes .now) (a .frame)) 12 (marksOf (a .frame .area) (a .taken) (a .marks .now)) (λ z. c .before .before .before .before .before .before .before .before .before .before .before .before .before .if1 .left (c .before .before .before .before .before .before .before .before .before .before .before .before .before .before .read-u32 .ensures .0 ∙ z)) _ _ (c .before .before .before .before .before .before .before .before .before .before .before .locate .ensures .0) _ _ _ (c .before .before .before .before .before .before .before .found .given .1) (c .before .before .before .before .before .if2 .left) (omega (arith, c .before .before .before .before .before .before .before .before .before .before .before .locate .ensures .1 .inside _ _ _ (c .before .before .before .before .before .before .before .found .given .1)))) (c .before .before .before .longer .ensures))
+    c .before .before .check-groups .ensures ∙ sym (goes-on (a .before) 6 _ _ _ (extension-some (schema (a .table .now)) (innerOf (ignoredIn (a .frame .rules)) (a .table .now) (levelsIn (a .frame .rules))) (within (a .bytes .now) (a .frame)) 12 (marksOf (a .frame .area) (a .taken) (a .marks .now)) (λ z. c .before .before .before .before .before .before .before .before .before .before .before .before .before .if1 .left (c .before .before .before .before .before .before .before .before .before .before .before .before .before .before .read-u32 .ensures .0 ∙ z)) _ _ (c .before .before .before .before .before .before .before .before .before .before .before .locate .ensures .0) _ _ _ (c .before .before .before .before .before .before .before .found .given .1) (c .before .before .before .before .before .if2 .left) (omega (arith, c .before .before .before .before .before .before .before .before .before .before .before .locate .ensures .1 .inside _ _ _ (c .before .before .before .before .before .before .before .found .given .1)))) (c .before .before .before .longer .ensures))
 
 check-extension-returns-4 : (t : ℕ) → check-extension-lts.Need-returns-4 (check-extension-claims t) (check-extension-at t) check-extension.Post
-check-extension-returns-4 t c = let a = c .before .before .before .before .before .before .before .before .before .before .before .before .before .args in refuses _ _ _ _ _ (extension-nowhere (schema (a .table .now)) (innerOf (a .table .now) (a .frame .levels)) (within (a .bytes .now) (a .frame)) 12 (marksOf (a .frame .area) (a .taken) (a .marks .now)) (λ z. c .before .before .before .before .before .before .before .if1 .left (c .before .before .before .before .before .before .before .before .read-u32 .ensures .0 ∙ z)) _ _ (c .before .before .before .before .before .locate .ensures .0) _ _ (c .before .found2 .given .1))
+check-extension-returns-4 t c = let a = c .before .before .before .before .before .before .before .before .before .before .before .before .before .args in refuses _ _ _ _ _ (extension-nowhere (schema (a .table .now)) (innerOf (ignoredIn (a .frame .rules)) (a .table .now) (levelsIn (a .frame .rules))) (within (a .bytes .now) (a .frame)) 12 (marksOf (a .frame .area) (a .taken) (a .marks .now)) (λ z. c .before .before .before .before .before .before .before .if1 .left (c .before .before .before .before .before .before .before .before .read-u32 .ensures .0 ∙ z)) _ _ (c .before .before .before .before .before .locate .ensures .0) _ _ (c .before .found2 .given .1))
 
 abbrev check-field-claims : ℕ → check-field-lts.Claims
 check-field-claims t = (is-optional-reads.Asked, is-optional-reads.Learnt, is-unset-reads.Asked, is-unset-reads.Learnt, value-width-reads.Asked, value-width-reads.Learnt, check-absent-reads.Asked, check-absent-reads.Learnt, flag-width-reads.Asked, flag-width-reads.Learnt, check-value-below t, check-value.Post)
@@ -366,9 +366,9 @@ check-field-check-absent-requires t c κs = let a = c .before .before .before .b
 
 check-field-returns : (t : ℕ) → check-field-lts.Need-returns (check-field-claims t) (check-field-at t) check-field.Post
 check-field-returns t c = let a = c .before .before .before .before .before .before .before .before .before .args in let t = a .table .now in let u = flag-unset (c .before .before .before .before .is-optional .result) (byte (a .at) (a .bytes .now)) (sym (c .before .before .before .is-unset .ensures) ∙ c .before .before .if1 .taken) in
-    let f = fieldAt (enums t) (drop (a .field) t) in let I = innerOf t (a .frame .levels) in let S = staticOf t (a .frame .levels) (a .depth) in let sw = widthOf t (a .depth) in
+    let f = fieldAt (enums t) (drop (a .field) t) in let I = innerOf (ignoredIn (a .frame .rules)) t (levelsIn (a .frame .rules)) in let S = staticOf (ignoredIn (a .frame .rules)) t (levelsIn (a .frame .rules)) (a .depth) in let sw = widthOf t (a .depth) in
     let v = c .before .value-width .ensures .0 (enums t) ∙ wide-value t (a .index .now) (c .before .before .before .before .before .before .before .before .before .pre .1 .0 .layout) (a .depth) _ (c .before .before .before .before .before .before .before .before .before .pre .1 .3) in
-    rw v at (c .check-absent .ensures (fieldMark f) (valueR I sw S f) (a .frame .area) (λ s. marksOf (a .frame .area) s (a .marks .now))) ∙ ap (λ x. after (a .before) (count x)) (sym (field-optional I sw S f (within (a .bytes .now) (a .frame)) (a .at) (marksOf (a .frame .area) (a .taken) (a .marks .now)) (sym (c .before .before .before .before .is-optional .ensures (enums t)) ∙ u .0)))
+    rw v at (c .check-absent .ensures (fieldMark f) (valueR I sw S f) (λ s. marksOf (a .frame .area) s (a .marks .now))) ∙ ap (λ x. after (a .before) (count x)) (sym (field-optional I sw S f (within (a .bytes .now) (a .frame)) (a .at) (marksOf (a .frame .area) (a .taken) (a .marks .now)) (sym (c .before .before .before .before .is-optional .ensures (enums t)) ∙ u .0)))
 
 check-field-add-check-value : (t : ℕ) → check-field-lts.Need-add-check-value (check-field-claims t) (check-field-at t) check-field.Post
 check-field-add-check-value t c = let a = c .before .before .before .before .before .before .before .before .before .args in let t = a .table .now in
@@ -381,7 +381,7 @@ check-field-check-value-requires t c κs = let a = c .before .before .before .be
 
 check-field-returns-2 : (t : ℕ) → check-field-lts.Need-returns-2 (check-field-claims t) (check-field-at t) check-field.Post
 check-field-returns-2 t c = let a = c .before .before .before .before .before .before .before .before .before .before .before .before .args in let t = a .table .now in
-    let f = fieldAt (enums t) (drop (a .field) t) in let I = innerOf t (a .frame .levels) in let S = staticOf t (a .frame .levels) (a .depth) in let sw = widthOf t (a .depth) in
+    let f = fieldAt (enums t) (drop (a .field) t) in let I = innerOf (ignoredIn (a .frame .rules)) t (levelsIn (a .frame .rules)) in let S = staticOf (ignoredIn (a .frame .rules)) t (levelsIn (a .frame .rules)) (a .depth) in let sw = widthOf t (a .depth) in
     c .before .before .check-value .ensures ∙ ap (λ x. after (a .before) (count x)) (sym (field-set I sw S f (within (a .bytes .now) (a .frame)) (a .at) (marksOf (a .frame .area) (a .taken) (a .marks .now)) (c .before .before .before .before .before .before .before .is-optional .result) (c .before .before .before .before .before .before .before .is-optional .ensures (enums t)) (sym (c .before .before .before .before .before .before .is-unset .ensures) ∙ c .before .before .before .before .before .if1 .left) _ (c .before .before .before .flag-width .ensures)))
 
 abbrev check-fields-Inv-loop : check-fields-lts.InvT-loop
@@ -389,8 +389,8 @@ check-fields-Inv-loop table index bytes marks₀ frame depth group at taken befo
     (i ≤ total) × (length marks ≡ length marks₀) × (field + 16 * (total - i) ≤ length table)
     × (place + fieldsWidth (widthOf table deeper) (fieldsAt (enums table) (total - i) (drop field table)) ≤ length bytes)
     × (shallowFields (shallow (schema table) deeper) (widthOf table deeper) (fieldsAt (enums table) (total - i) (drop field table)) ≡ true) × (sum < 2 ^ 64)
-    × (after before (count (staticOf table (frame .levels) depth group (within bytes frame) at (marksOf (frame .area) holds₀ marks₀)))
-    ≡ after sum (count (fieldsR (innerOf table (frame .levels)) (widthOf table deeper) (staticOf table (frame .levels) deeper) (fieldsAt (enums table) (total - i) (drop field table)) (within bytes frame) place (marksOf (frame .area) holds marks))))
+    × (after before (count (staticOf (ignoredIn (frame .rules)) table (levelsIn (frame .rules)) depth group (within bytes frame) at (marksOf (frame .area) holds₀ marks₀)))
+    ≡ after sum (count (fieldsR (innerOf (ignoredIn (frame .rules)) table (levelsIn (frame .rules))) (widthOf table deeper) (staticOf (ignoredIn (frame .rules)) table (levelsIn (frame .rules)) deeper) (fieldsAt (enums table) (total - i) (drop field table)) (within bytes frame) place (marksOf (frame .area) holds marks))))
 
 abbrev check-fields-μ-loop : check-fields-lts.MeasureT-loop
 check-fields-μ-loop table index bytes marks₀ frame depth group at taken before start total deeper i₀ field₀ place₀ sum₀ holds₀ marks i field place sum holds =
@@ -416,7 +416,7 @@ check-fields-loop-holds t c = let a = c .before .before .before .before .before 
       omega (arith, w, r .1),
       start-shallow (a .table .now) (a .index .now) P (a .group) (r .2) _ _ s n (a .depth) d (r .3),
       search needs,
-      ap (λ x. after (a .before) (count x)) (start-static (a .table .now) (a .index .now) P (a .group) (r .2) _ _ s n (a .depth) d (innerOf (a .table .now) (a .frame .levels)) (within (a .bytes .now) (a .frame)) (a .at) (marksOf (a .frame .area) (a .taken) (a .marks .now))),
+      ap (λ x. after (a .before) (count x)) (start-static (a .table .now) (a .index .now) P (a .group) (r .2) _ _ s n (a .depth) d (innerOf (ignoredIn (a .frame .rules)) (a .table .now) (levelsIn (a .frame .rules))) (within (a .bytes .now) (a .frame)) (a .at) (marksOf (a .frame .area) (a .taken) (a .marks .now))),
     )
 
 check-fields-loop-again : (t : ℕ) → check-fields-lts.Need-loop-again (check-fields-claims t) (check-fields-at t) check-fields.Post check-fields-Inv-loop check-fields-μ-loop
@@ -431,7 +431,7 @@ check-fields-loop-again t c = let a = c .before .before .before .before .before 
       omega (arith, i .3, w, p),
       shallow-cons _ _ _ _ _ f (i .4) .1,
       search needs,
-      i .6 ∙ fields-plain (innerOf t (a .frame .levels)) sw (staticOf t (a .frame .levels) (a .depth - 1)) (enums t) t (a .bytes .now) (a .frame .base) (a .frame .area) (c .before .before .before .before .before .field-count .result) (c .before .before .before .before .loop .i) (c .before .before .before .before .loop .field) (c .before .before .before .before .loop .place) (c .before .before .before .before .loop .length) (marksOf (a .frame .area) (c .before .before .before .before .loop .holds) (c .before .before .before .before .loop .marks)) _ _ _ (c .before .before .before .loop-test .taken) e (omega (arith, i .3, w, p)) (c .longer .ensures),
+      i .6 ∙ fields-plain _ (innerOf (ignoredIn (a .frame .rules)) t (levelsIn (a .frame .rules))) sw (staticOf (ignoredIn (a .frame .rules)) t (levelsIn (a .frame .rules)) (a .depth - 1)) (enums t) t (a .bytes .now) (a .frame .base) (a .frame .area) (c .before .before .before .before .before .field-count .result) (c .before .before .before .before .loop .i) (c .before .before .before .before .loop .field) (c .before .before .before .before .loop .place) (c .before .before .before .before .loop .length) (marksOf (a .frame .area) (c .before .before .before .before .loop .holds) (c .before .before .before .before .loop .marks)) _ _ _ (c .before .before .before .loop-test .taken) e (omega (arith, i .3, w, p)) (c .longer .ensures),
     )
 
 check-fields-check-field-requires : (t : ℕ) → check-fields-lts.Need-check-field-requires (check-fields-claims t) (check-fields-at t) check-fields.Post check-fields-Inv-loop check-fields-μ-loop
@@ -442,7 +442,7 @@ check-fields-check-field-requires t c κs = let a = c .before .before .before .b
 
 check-fields-returns : (t : ℕ) → check-fields-lts.Need-returns (check-fields-claims t) (check-fields-at t) check-fields.Post check-fields-Inv-loop check-fields-μ-loop
 check-fields-returns t c = let a = c .before .before .before .before .before .before .before .before .before .before .before .before .before .before .before .before .before .before .args in let t = a .table .now in
-    fields-stopped (innerOf t (a .frame .levels)) (widthOf t (a .depth - 1)) (staticOf t (a .frame .levels) (a .depth - 1)) (enums t) t (within (a .bytes .now) (a .frame)) (c .before .before .before .before .before .before .before .before .before .before .before .before .field-count .result) (c .before .before .before .before .before .before .before .before .before .before .before .loop .i) (c .before .before .before .before .before .before .before .before .before .before .before .loop .field) (c .before .before .before .before .before .before .before .before .before .before .before .loop .place) (c .before .before .before .before .before .before .before .before .before .before .before .loop .length) (marksOf (a .frame .area) (c .before .before .before .before .before .before .before .before .before .before .before .loop .holds) (c .before .before .before .before .before .before .before .before .before .before .before .loop .marks)) _ _ (c .before .before .before .before .before .check-field .ensures) (c .before .before .before .before .before .before .before .before .before .before .loop-test .taken) _ _ _ (c .before .answer2 .given .1) ∙ sym (c .before .before .before .before .before .before .before .before .before .before .before .loop .inv .6)
+    fields-stopped (innerOf (ignoredIn (a .frame .rules)) t (levelsIn (a .frame .rules))) (widthOf t (a .depth - 1)) (staticOf (ignoredIn (a .frame .rules)) t (levelsIn (a .frame .rules)) (a .depth - 1)) (enums t) t (within (a .bytes .now) (a .frame)) (c .before .before .before .before .before .before .before .before .before .before .before .before .field-count .result) (c .before .before .before .before .before .before .before .before .before .before .before .loop .i) (c .before .before .before .before .before .before .before .before .before .before .before .loop .field) (c .before .before .before .before .before .before .before .before .before .before .before .loop .place) (c .before .before .before .before .before .before .before .before .before .before .before .loop .length) (marksOf (a .frame .area) (c .before .before .before .before .before .before .before .before .before .before .before .loop .holds) (c .before .before .before .before .before .before .before .before .before .before .before .loop .marks)) _ _ (c .before .before .before .before .before .check-field .ensures) (c .before .before .before .before .before .before .before .before .before .before .loop-test .taken) _ _ _ (c .before .answer2 .given .1) ∙ sym (c .before .before .before .before .before .before .before .before .before .before .before .loop .inv .6)
 
 check-fields-add-place-2 : (t : ℕ) → check-fields-lts.Need-add-place-2 (check-fields-claims t) (check-fields-at t) check-fields.Post check-fields-Inv-loop check-fields-μ-loop
 check-fields-add-place-2 t c = let a = c .before .before .before .before .before .before .before .before .before .before .before .before .before .before .before .before .before .before .args in let t = a .table .now in omega (arith, c .before .before .before .before .before .before .before .before .before .before .before .loop .inv .3, c .before .before .before .before .before .before .before .field-width .ensures .1, c .before .before .before .before .before .before .before .before .before .before .before .before .before .before .before .before .before .before .pre .1 .0 .small)
@@ -460,12 +460,12 @@ check-fields-loop-again-2 t c = let a = c .before .before .before .before .befor
       omega (arith, i .3, w, v),
       q .1,
       bounded _ _ _ _ (c .before .before .before .before .before .check-field .ensures) _ _ (c .before .answer .given .1),
-      i .6 ∙ fields-passed (innerOf t (a .frame .levels)) sw (staticOf t (a .frame .levels) (a .depth - 1)) (enums t) t (within (a .bytes .now) (a .frame)) (c .before .before .before .before .before .before .before .before .before .before .before .before .field-count .result) (c .before .before .before .before .before .before .before .before .before .before .before .loop .i) (c .before .before .before .before .before .before .before .before .before .before .before .loop .field) (c .before .before .before .before .before .before .before .before .before .before .before .loop .place) (c .before .before .before .before .before .before .before .before .before .before .before .loop .length) (marksOf (a .frame .area) (c .before .before .before .before .before .before .before .before .before .before .before .loop .holds) (c .before .before .before .before .before .before .before .before .before .before .before .loop .marks)) _ _ (c .before .before .before .before .before .check-field .ensures) l _ _ _ (c .before .answer .given .1) v,
+      i .6 ∙ fields-passed (innerOf (ignoredIn (a .frame .rules)) t (levelsIn (a .frame .rules))) sw (staticOf (ignoredIn (a .frame .rules)) t (levelsIn (a .frame .rules)) (a .depth - 1)) (enums t) t (within (a .bytes .now) (a .frame)) (c .before .before .before .before .before .before .before .before .before .before .before .before .field-count .result) (c .before .before .before .before .before .before .before .before .before .before .before .loop .i) (c .before .before .before .before .before .before .before .before .before .before .before .loop .field) (c .before .before .before .before .before .before .before .before .before .before .before .loop .place) (c .before .before .before .before .before .before .before .before .before .before .before .loop .length) (marksOf (a .frame .area) (c .before .before .before .before .before .before .before .before .before .before .before .loop .holds) (c .before .before .before .before .before .before .before .before .before .before .before .loop .marks)) _ _ (c .before .before .before .before .before .check-field .ensures) l _ _ _ (c .before .answer .given .1) v,
     )
 
 check-fields-returns-2 : (t : ℕ) → check-fields-lts.Need-returns-2 (check-fields-claims t) (check-fields-at t) check-fields.Post check-fields-Inv-loop check-fields-μ-loop
 check-fields-returns-2 t c = let a = c .before .before .before .before .before .before .before .before .args in let t = a .table .now in
-    fields-end (innerOf t (a .frame .levels)) (widthOf t (a .depth - 1)) (staticOf t (a .frame .levels) (a .depth - 1)) (enums t) t (within (a .bytes .now) (a .frame)) (c .before .before .field-count .result) (c .before .loop .i) (c .before .loop .field) (c .before .loop .place) (c .before .loop .length) (marksOf (a .frame .area) (c .before .loop .holds) (c .before .loop .marks)) _ _ refl (c .loop-test .left) (c .before .loop .inv .5) ∙ sym (c .before .loop .inv .6)
+    fields-end (innerOf (ignoredIn (a .frame .rules)) t (levelsIn (a .frame .rules))) (widthOf t (a .depth - 1)) (staticOf (ignoredIn (a .frame .rules)) t (levelsIn (a .frame .rules)) (a .depth - 1)) (enums t) t (within (a .bytes .now) (a .frame)) (c .before .before .field-count .result) (c .before .loop .i) (c .before .loop .field) (c .before .loop .place) (c .before .loop .length) (marksOf (a .frame .area) (c .before .loop .holds) (c .before .loop .marks)) _ _ refl (c .loop-test .left) (c .before .loop .inv .5) ∙ sym (c .before .loop .inv .6)
 
 abbrev check-group-claims : ℕ → check-group-lts.Claims
 check-group-claims t = (open-group-reads.Asked, open-group-reads.Learnt, check-fields-below t, check-fields.Post, close-group-below t, close-group.Post)
@@ -495,7 +495,7 @@ check-group-returns-3 t c = let a = c .before .before .before .before .before .b
 abbrev check-groups-Inv-loop : check-groups-lts.InvT-loop
 check-groups-Inv-loop table index bytes marks₀ frame total at taken before i₀ place₀ sum₀ holds₀ marks i place sum holds =
     (i ≤ total) × (length marks ≡ length marks₀) × (place + (total - i) * 4 ≤ length bytes) × (sum < 2 ^ 64)
-    × (after before (count (itemsR 4 (indirectR 26 1 (extendingR (schema table) (innerOf table (frame .levels)))) total (within bytes frame) at (marksOf (frame .area) holds₀ marks₀))) ≡ after sum (count (itemsR 4 (indirectR 26 1 (extendingR (schema table) (innerOf table (frame .levels)))) (total - i) (within bytes frame) place (marksOf (frame .area) holds marks))))
+    × (after before (count (itemsR 4 (indirectR 26 1 (extendingR (schema table) (innerOf (ignoredIn (frame .rules)) table (levelsIn (frame .rules))))) total (within bytes frame) at (marksOf (frame .area) holds₀ marks₀))) ≡ after sum (count (itemsR 4 (indirectR 26 1 (extendingR (schema table) (innerOf (ignoredIn (frame .rules)) table (levelsIn (frame .rules))))) (total - i) (within bytes frame) place (marksOf (frame .area) holds marks))))
 
 abbrev check-groups-μ-loop : check-groups-lts.MeasureT-loop
 check-groups-μ-loop table index bytes marks₀ frame total at taken before i₀ place₀ sum₀ holds₀ marks i place sum holds =
@@ -556,33 +556,33 @@ check-item-check-dynamic-requires t c κs = let a = c .before .before .before .b
     let w = wide-dynamic (widthOf t (a .depth)) (enums t) (a .kind) _ (c .before .before .before .kind6 .given .1) in (search needs, (c .before .before .before .before .before .before .before .before .before .pre .1 .0, omega (arith, w, c .before .before .before .before .before .before .before .before .before .pre .1 .1)))
 
 check-item-returns : (t : ℕ) → check-item-lts.Need-returns (check-item-claims t) (check-item-at t) check-item.Post
-check-item-returns t c = let a = c .before .before .before .before .before .before .before .before .before .args in let t = a .table .now in let I = innerOf t (a .frame .levels) in let S = staticOf t (a .frame .levels) (a .depth) in
-    counts _ _ _ _ _ _ (item-plain I S (a .bytes .now) (a .frame .base) (a .frame .area) (marksOf (a .frame .area) (a .taken) (a .marks .now)) (enums t) (a .kind) (a .at) (widthOf t (a .depth)) _ (c .before .before .before .kind .given .1) (c .before .before .before .before .before .before .before .before .before .pre .1 .1)) (c .longer .ensures ∙ rw (c .before .wide .ensures .0))
+check-item-returns t c = let a = c .before .before .before .before .before .before .before .before .before .args in let t = a .table .now in let I = innerOf (ignoredIn (a .frame .rules)) t (levelsIn (a .frame .rules)) in let S = staticOf (ignoredIn (a .frame .rules)) t (levelsIn (a .frame .rules)) (a .depth) in
+    counts _ _ _ _ _ _ (item-plain _ I S (a .bytes .now) (a .frame .base) (a .frame .area) (marksOf (a .frame .area) (a .taken) (a .marks .now)) (enums t) (a .kind) (a .at) (widthOf t (a .depth)) _ (c .before .before .before .kind .given .1) (c .before .before .before .before .before .before .before .before .before .pre .1 .1)) (c .longer .ensures ∙ rw (c .before .wide .ensures .0))
 
 check-item-returns-2 : (t : ℕ) → check-item-lts.Need-returns-2 (check-item-claims t) (check-item-at t) check-item.Post
-check-item-returns-2 t c = let a = c .before .before .before .before .before .before .before .before .args in let t = a .table .now in let I = innerOf t (a .frame .levels) in let S = staticOf t (a .frame .levels) (a .depth) in
-    c .check-number .ensures I S (a .frame .area) (λ s. marksOf (a .frame .area) s (a .marks .now)) ∙ ap (λ x. after (a .before) (count x)) (sym (item-number I S (a .bytes .now) (a .frame .base) (a .frame .area) (marksOf (a .frame .area) (a .taken) (a .marks .now)) (enums t) (a .kind) (a .at) _ (c .before .before .kind2 .given .1)))
+check-item-returns-2 t c = let a = c .before .before .before .before .before .before .before .before .args in let t = a .table .now in let I = innerOf (ignoredIn (a .frame .rules)) t (levelsIn (a .frame .rules)) in let S = staticOf (ignoredIn (a .frame .rules)) t (levelsIn (a .frame .rules)) (a .depth) in
+    c .check-number .ensures (ignoredIn (a .frame .rules)) I S (a .frame .area) (λ s. marksOf (a .frame .area) s (a .marks .now)) ∙ ap (λ x. after (a .before) (count x)) (sym (item-number _ I S (a .bytes .now) (a .frame .base) (a .frame .area) (marksOf (a .frame .area) (a .taken) (a .marks .now)) (enums t) (a .kind) (a .at) _ (c .before .before .kind2 .given .1)))
 
 check-item-returns-3 : (t : ℕ) → check-item-lts.Need-returns-3 (check-item-claims t) (check-item-at t) check-item.Post
-check-item-returns-3 t c = let a = c .before .before .before .before .before .before .before .before .args in let t = a .table .now in let I = innerOf t (a .frame .levels) in let S = staticOf t (a .frame .levels) (a .depth) in
-    c .check-inline .ensures I S (a .frame .area) (λ s. marksOf (a .frame .area) s (a .marks .now)) ∙ ap (λ x. after (a .before) (count x)) (sym (item-inline I S (a .bytes .now) (a .frame .base) (a .frame .area) (marksOf (a .frame .area) (a .taken) (a .marks .now)) (enums t) (a .kind) (a .at) _ _ (c .before .before .kind3 .given .1)))
+check-item-returns-3 t c = let a = c .before .before .before .before .before .before .before .before .args in let t = a .table .now in let I = innerOf (ignoredIn (a .frame .rules)) t (levelsIn (a .frame .rules)) in let S = staticOf (ignoredIn (a .frame .rules)) t (levelsIn (a .frame .rules)) (a .depth) in
+    c .check-inline .ensures I S (λ s. marksOf (a .frame .area) s (a .marks .now)) ∙ ap (λ x. after (a .before) (count x)) (sym (item-inline _ I S (a .bytes .now) (a .frame .base) (a .frame .area) (marksOf (a .frame .area) (a .taken) (a .marks .now)) (enums t) (a .kind) (a .at) _ _ (c .before .before .kind3 .given .1)))
 
 check-item-returns-4 : (t : ℕ) → check-item-lts.Need-returns-4 (check-item-claims t) (check-item-at t) check-item.Post
-check-item-returns-4 t c = let a = c .before .before .before .before .before .before .before .before .before .before .before .args in let t = a .table .now in let I = innerOf t (a .frame .levels) in let S = staticOf t (a .frame .levels) (a .depth) in
-    c .before .before .check-text .ensures ∙ ap (λ x. after (a .before) (count x)) (sym (item-indirect I S (a .bytes .now) (a .frame .base) (a .frame .area) (marksOf (a .frame .area) (a .taken) (a .marks .now)) (enums t) (a .kind) (a .at) _ (c .before .before .before .before .before .kind4 .given .1)))
+check-item-returns-4 t c = let a = c .before .before .before .before .before .before .before .before .before .before .before .args in let t = a .table .now in let I = innerOf (ignoredIn (a .frame .rules)) t (levelsIn (a .frame .rules)) in let S = staticOf (ignoredIn (a .frame .rules)) t (levelsIn (a .frame .rules)) (a .depth) in
+    c .before .before .check-text .ensures ∙ ap (λ x. after (a .before) (count x)) (sym (item-indirect _ I S (a .bytes .now) (a .frame .base) (a .frame .area) (marksOf (a .frame .area) (a .taken) (a .marks .now)) (enums t) (a .kind) (a .at) _ (c .before .before .before .before .before .kind4 .given .1)))
 
 check-item-returns-5 : (t : ℕ) → check-item-lts.Need-returns-5 (check-item-claims t) (check-item-at t) check-item.Post
-check-item-returns-5 t c = let a = c .before .before .before .before .before .before .before .before .before .before .before .before .args in let t = a .table .now in let I = innerOf t (a .frame .levels) in let S = staticOf t (a .frame .levels) (a .depth) in
-    c .before .before .check-group .ensures ∙ sym (goes-on (a .before) 2 _ _ _ (item-static I S (a .bytes .now) (a .frame .base) (a .frame .area) (marksOf (a .frame .area) (a .taken) (a .marks .now)) (enums t) (a .kind) (a .at) _ (c .before .before .before .before .before .before .kind5 .given .1)) (c .before .before .before .longer2 .ensures))
+check-item-returns-5 t c = let a = c .before .before .before .before .before .before .before .before .before .before .before .before .args in let t = a .table .now in let I = innerOf (ignoredIn (a .frame .rules)) t (levelsIn (a .frame .rules)) in let S = staticOf (ignoredIn (a .frame .rules)) t (levelsIn (a .frame .rules)) (a .depth) in
+    c .before .before .check-group .ensures ∙ sym (goes-on (a .before) 2 _ _ _ (item-static _ I S (a .bytes .now) (a .frame .base) (a .frame .area) (marksOf (a .frame .area) (a .taken) (a .marks .now)) (enums t) (a .kind) (a .at) _ (c .before .before .before .before .before .before .kind5 .given .1)) (c .before .before .before .longer2 .ensures))
 
 check-item-returns-6 : (t : ℕ) → check-item-lts.Need-returns-6 (check-item-claims t) (check-item-at t) check-item.Post
-check-item-returns-6 t c = let a = c .before .before .before .before .before .before .before .before .before .before .before .before .args in let t = a .table .now in let I = innerOf t (a .frame .levels) in let S = staticOf t (a .frame .levels) (a .depth) in
-    c .before .before .check-dynamic .ensures ∙ sym (goes-on (a .before) 2 _ _ _ (item-dynamic I S (a .bytes .now) (a .frame .base) (a .frame .area) (marksOf (a .frame .area) (a .taken) (a .marks .now)) (enums t) (a .kind) (a .at) _ (c .before .before .before .before .before .before .kind6 .given .1)) (c .before .before .before .longer3 .ensures))
+check-item-returns-6 t c = let a = c .before .before .before .before .before .before .before .before .before .before .before .before .args in let t = a .table .now in let I = innerOf (ignoredIn (a .frame .rules)) t (levelsIn (a .frame .rules)) in let S = staticOf (ignoredIn (a .frame .rules)) t (levelsIn (a .frame .rules)) (a .depth) in
+    c .before .before .check-dynamic .ensures ∙ sym (goes-on (a .before) 2 _ _ _ (item-dynamic _ I S (a .bytes .now) (a .frame .base) (a .frame .area) (marksOf (a .frame .area) (a .taken) (a .marks .now)) (enums t) (a .kind) (a .at) _ (c .before .before .before .before .before .before .kind6 .given .1)) (c .before .before .before .longer3 .ensures))
 
 abbrev check-items-Inv-loop : check-items-lts.InvT-loop
 check-items-Inv-loop table index bytes marks₀ frame depth kind width total at taken before i₀ place₀ sum₀ holds₀ marks i place sum holds =
     (i ≤ total) × (length marks ≡ length marks₀) × (place + (total - i) * width ≤ length bytes) × (sum < 2 ^ 64)
-    × (after before (count (itemsR width (itemR (innerOf table (frame .levels)) (staticOf table (frame .levels) depth) (kindFrom (enums table) kind)) total (within bytes frame) at (marksOf (frame .area) holds₀ marks₀))) ≡ after sum (count (itemsR width (itemR (innerOf table (frame .levels)) (staticOf table (frame .levels) depth) (kindFrom (enums table) kind)) (total - i) (within bytes frame) place (marksOf (frame .area) holds marks))))
+    × (after before (count (itemsR width (itemR (innerOf (ignoredIn (frame .rules)) table (levelsIn (frame .rules))) (staticOf (ignoredIn (frame .rules)) table (levelsIn (frame .rules)) depth) (kindFrom (enums table) kind)) total (within bytes frame) at (marksOf (frame .area) holds₀ marks₀))) ≡ after sum (count (itemsR width (itemR (innerOf (ignoredIn (frame .rules)) table (levelsIn (frame .rules))) (staticOf (ignoredIn (frame .rules)) table (levelsIn (frame .rules)) depth) (kindFrom (enums table) kind)) (total - i) (within bytes frame) place (marksOf (frame .area) holds marks))))
 
 abbrev check-items-μ-loop : check-items-lts.MeasureT-loop
 check-items-μ-loop table index bytes marks₀ frame depth kind width total at taken before i₀ place₀ sum₀ holds₀ marks i place sum holds =
@@ -595,7 +595,7 @@ check-items-mul-longer : (t : ℕ) → check-items-lts.Need-mul-longer (check-it
 check-items-mul-longer t c = omega (arith, mul-le-mul-right {m = c .before .before .before .before .before .before .before .before .args .total} {n = 4294967296} (2 + c .wide .result) (omega (arith, c .before .before .before .before .before .before .before .before .pre .1 .2)), c .wide .ensures .1)
 
 check-items-returns : (t : ℕ) → check-items-lts.Need-returns (check-items-claims t) (check-items-at t) check-items.Post check-items-Inv-loop check-items-μ-loop
-check-items-returns t c = let a = c .before .before .before .before .before .before .before .before .before .args in let t = a .table .now in counts _ _ _ _ _ _ (items-plain (innerOf t (a .frame .levels)) (staticOf t (a .frame .levels) (a .depth)) (a .bytes .now) (a .frame .base) (a .frame .area) (marksOf (a .frame .area) (a .taken) (a .marks .now)) (enums t) (a .kind) (widthOf t (a .depth)) _ (a .width) (a .total) (a .at) (c .before .before .before .kind .given .1) (c .before .before .before .before .before .before .before .before .before .pre .1 .4) (c .before .before .before .before .before .before .before .before .before .pre .1 .1)) (c .longer .ensures ∙ rw (c .before .wide .ensures .0))
+check-items-returns t c = let a = c .before .before .before .before .before .before .before .before .before .args in let t = a .table .now in counts _ _ _ _ _ _ (items-plain _ (innerOf (ignoredIn (a .frame .rules)) t (levelsIn (a .frame .rules))) (staticOf (ignoredIn (a .frame .rules)) t (levelsIn (a .frame .rules)) (a .depth)) (a .bytes .now) (a .frame .base) (a .frame .area) (marksOf (a .frame .area) (a .taken) (a .marks .now)) (enums t) (a .kind) (widthOf t (a .depth)) _ (a .width) (a .total) (a .at) (c .before .before .before .kind .given .1) (c .before .before .before .before .before .before .before .before .before .pre .1 .4) (c .before .before .before .before .before .before .before .before .before .pre .1 .1)) (c .longer .ensures ∙ rw (c .before .wide .ensures .0))
 
 check-items-check-texts-requires : (t : ℕ) → check-items-lts.Need-check-texts-requires (check-items-claims t) (check-items-at t) check-items.Post check-items-Inv-loop check-items-μ-loop
 check-items-check-texts-requires t c κs = let a = c .before .before .before .before .before .before .before .before .before .args in let t = a .table .now in let q : a .width ≡ 4 = c .before .before .before .before .before .before .before .before .before .pre .1 .4 ∙ wide-indirect (widthOf t (a .depth)) (enums t) (a .kind) _ (c .before .before .kind2 .given .1) in
@@ -603,7 +603,7 @@ check-items-check-texts-requires t c κs = let a = c .before .before .before .be
 
 check-items-returns-2 : (t : ℕ) → check-items-lts.Need-returns-2 (check-items-claims t) (check-items-at t) check-items.Post check-items-Inv-loop check-items-μ-loop
 check-items-returns-2 t c = let a = c .before .before .before .before .before .before .before .before .before .before .before .before .args in let t = a .table .now in
-    c .before .before .check-texts .ensures ∙ ap (λ x. after (a .before) (count x)) (sym (items-indirect (innerOf t (a .frame .levels)) (staticOf t (a .frame .levels) (a .depth)) (a .bytes .now) (a .frame .base) (a .frame .area) (marksOf (a .frame .area) (a .taken) (a .marks .now)) (enums t) (a .kind) (widthOf t (a .depth)) (a .width) (a .total) (a .at) (c .before .before .before .before .before .before .before .before .before .before .before .before .pre .1 .4) _ (c .before .before .before .before .before .kind2 .given .1)))
+    c .before .before .check-texts .ensures ∙ ap (λ x. after (a .before) (count x)) (sym (items-indirect _ (innerOf (ignoredIn (a .frame .rules)) t (levelsIn (a .frame .rules))) (staticOf (ignoredIn (a .frame .rules)) t (levelsIn (a .frame .rules)) (a .depth)) (a .bytes .now) (a .frame .base) (a .frame .area) (marksOf (a .frame .area) (a .taken) (a .marks .now)) (enums t) (a .kind) (widthOf t (a .depth)) (a .width) (a .total) (a .at) (c .before .before .before .before .before .before .before .before .before .before .before .before .pre .1 .4) _ (c .before .before .before .before .before .kind2 .given .1)))
 
 check-items-check-numbers-requires : (t : ℕ) → check-items-lts.Need-check-numbers-requires (check-items-claims t) (check-items-at t) check-items.Post check-items-Inv-loop check-items-μ-loop
 check-items-check-numbers-requires t c κs = let a = c .before .before .before .before .before .before .before .before .before .args in let p = c .before .before .before .before .before .before .before .before .before .pre .1 in let t = a .table .now in
@@ -615,8 +615,8 @@ check-items-returns-3 : (t : ℕ) → check-items-lts.Need-returns-3 (check-item
 check-items-returns-3 t c = let a = c .before .before .before .before .before .before .before .before .before .before .args in let p = c .before .before .before .before .before .before .before .before .before .before .pre .1 in let t = a .table .now in
     let w = wide-number (widthIn (a .index .now)) (enums t) (a .kind) _ (c .before .before .kind3 .given .1) in
     let v = wide-kind t (a .index .now) (p .0 .layout) (a .depth) (kindFrom (enums t) (a .kind)) (p .5) in
-    let I = innerOf t (a .frame .levels) in let S = staticOf t (a .frame .levels) (a .depth) in
-    c .check-numbers .ensures I S (a .frame .area) (λ s. marksOf (a .frame .area) s (a .marks .now)) ∙ ap (λ x. after (a .before) (count x)) (sym (items-number I S (a .bytes .now) (a .frame .base) (a .frame .area) (marksOf (a .frame .area) (a .taken) (a .marks .now)) (enums t) (a .kind) (a .width) _ (a .total) (a .at) (p .4 ∙ sym v ∙ w) _ (c .before .before .kind3 .given .1)))
+    let x = ignoredIn (a .frame .rules) in let I = innerOf x t (levelsIn (a .frame .rules)) in let S = staticOf x t (levelsIn (a .frame .rules)) (a .depth) in
+    c .check-numbers .ensures x I S (a .frame .area) (λ s. marksOf (a .frame .area) s (a .marks .now)) ∙ ap (λ x. after (a .before) (count x)) (sym (items-number _ I S (a .bytes .now) (a .frame .base) (a .frame .area) (marksOf (a .frame .area) (a .taken) (a .marks .now)) (enums t) (a .kind) (a .width) _ (a .total) (a .at) (p .4 ∙ sym v ∙ w) _ (c .before .before .kind3 .given .1)))
 
 check-items-loop-holds : (t : ℕ) → check-items-lts.Need-loop-holds (check-items-claims t) (check-items-at t) check-items.Post check-items-Inv-loop check-items-μ-loop
 check-items-loop-holds t c = let a = c .before .before .before .before .before .before .before .args in (search needs, search needs, rw sub-zero (c .before .before .before .before .before .before .before .pre .1 .1), search needs, rw sub-zero refl)
@@ -664,10 +664,10 @@ check-rest-check-pads-requires : (t : ℕ) → check-rest-lts.Need-check-pads-re
 check-rest-check-pads-requires t c κs = (omega (arith, c .before .before .before .before .before .before .check-extension .kept, c .before .before .before .before .before .before .before .before .before .before .before .before .pre .1 .0 .same), c .before .before .before .before .before .before .before .before .before .before .before .before .pre .1 .0 .small, c .before .before .before .before .before .before .before .before .before .before .before .before .pre .1 .0 .room)
 
 check-rest-returns : (t : ℕ) → check-rest-lts.Need-returns (check-rest-claims t) (check-rest-at t) check-rest.Post
-check-rest-returns t c = let a = c .before .before .before .before .before .before .before .before .before .before .before .before .before .before .before .args in c .before .before .check-pads .ensures ∙ sym (passed _ (a .before) _ _ (c .before .before .before .before .before .before .before .before .before .check-extension .ensures) _ _ (closing (a .bytes .now) (a .frame .base) (a .frame .area)) (c .before .before .before .before .before .extension .given .1))
+check-rest-returns t c = let a = c .before .before .before .before .before .before .before .before .before .before .before .before .before .before .before .args in c .before .before .check-pads .ensures ∙ sym (passed _ (a .before) _ _ (c .before .before .before .before .before .before .before .before .before .check-extension .ensures) _ _ (closing (within (a .bytes .now) (a .frame))) (c .before .before .before .before .before .extension .given .1))
 
 check-rest-returns-2 : (t : ℕ) → check-rest-lts.Need-returns-2 (check-rest-claims t) (check-rest-at t) check-rest.Post
-check-rest-returns-2 t c = let a = c .before .before .before .before .before .before .before .before .before .before .before .args in stopped _ (a .before) _ _ (c .before .before .before .before .before .check-extension .ensures) _ _ _ (closing (a .bytes .now) (a .frame .base) (a .frame .area)) (c .before .extension2 .given .1)
+check-rest-returns-2 t c = let a = c .before .before .before .before .before .before .before .before .before .before .before .args in stopped _ (a .before) _ _ (c .before .before .before .before .before .check-extension .ensures) _ _ _ (closing (within (a .bytes .now) (a .frame))) (c .before .extension2 .given .1)
 
 abbrev check-value-claims : ℕ → check-value-lts.Claims
 check-value-claims t = (kind-at-reads.Asked, kind-at-reads.Learnt, kind-width-reads.Asked, kind-width-reads.Learnt, is-sequence-reads.Asked, is-sequence-reads.Learnt, locate-reads.Asked, locate-reads.Learnt, longer-reads.Asked, longer-reads.Learnt, check-items-below t, check-items.Post)
@@ -690,8 +690,8 @@ check-value-returns t c = let s = c .before .before .before .before .before .bef
 check-value-joined : (t : ℕ) (c : check-value-lts.Joined1 (check-value-claims t) (check-value-at t) check-value.Post)
     → let s = c .before .before .before .before .before .before .before .before in let a = s .args in let t = a .table .now in let j = c .if1 in
     (length (j .marks) ≡ length (a .bytes .now))
-    × ItemsAt (c .before .before .kind-width .result) (itemR (innerOf t (a .frame .levels)) (staticOf t (a .frame .levels) (a .depth)) (kindFrom (enums t) (c .before .before .before .kind-at .result))) (within (a .bytes .now) (a .frame))
-    (after (a .before) (count (markedValueR (innerOf t (a .frame .levels)) (widthOf t (a .depth)) (staticOf t (a .frame .levels) (a .depth)) (fieldAt (enums t) (drop (a .field) t)) (within (a .bytes .now) (a .frame)) (a .at) (marksOf (a .frame .area) (a .taken) (a .marks .now)))))
+    × ItemsAt (c .before .before .kind-width .result) (itemR (innerOf (ignoredIn (a .frame .rules)) t (levelsIn (a .frame .rules))) (staticOf (ignoredIn (a .frame .rules)) t (levelsIn (a .frame .rules)) (a .depth)) (kindFrom (enums t) (c .before .before .before .kind-at .result))) (within (a .bytes .now) (a .frame))
+    (after (a .before) (count (markedValueR (innerOf (ignoredIn (a .frame .rules)) t (levelsIn (a .frame .rules))) (widthOf t (a .depth)) (staticOf (ignoredIn (a .frame .rules)) t (levelsIn (a .frame .rules)) (a .depth)) (fieldAt (enums t) (drop (a .field) t)) (within (a .bytes .now) (a .frame)) (a .at) (marksOf (a .frame .area) (a .taken) (a .marks .now)))))
     (j .total) (j .start) (j .length) (marksOf (a .frame .area) (j .holds) (j .marks))
 check-value-joined t c = let s = c .before .before .before .before .before .before .before .before in let a = s .args in let t = a .table .now in
     let k = c .before .before .before .kind-at .ensures (enums t) in
@@ -724,23 +724,23 @@ close-group-read-u32-requires t c κs = let l = c .before .before .before .befor
 
 close-group-returns : (t : ℕ) → close-group-lts.Need-returns (close-group-claims t) (close-group-at t) close-group.Post
 close-group-returns t c = let a = c .before .before .before .before .before .before .before .before .before .before .before .args in let t = a .table .now in let R = c .before .before .before .before .before .before .before .before .before .before .before .pre .1 .0 in
-    closes-dynamic t (a .frame .levels) (within (a .bytes .now) (a .frame)) _ (a .frame .area) _ (a .before) (a .scope) _ (c .before .before .before .before .before .scope .given .1) _ (counts _ _ _ _ _ _ (rest-plain (schema t) (innerOf t (a .frame .levels)) (a .bytes .now) (a .frame .base) (a .frame .area) _ (sym (c .before .before .before .read-u32 .ensures .0) ∙ c .before .before .if1 .taken) ∙ closing-clean (a .bytes .now) (a .frame .base) (a .frame .area) _ (pads-none (a .frame .area) _ (a .marks .now) (a .bytes .now) (R .same) (R .room) (c .before .if2 .taken) (omega (arith, c .before .if2 .taken, R .small)))) (c .longer .ensures))
+    closes-dynamic t (levelsIn (a .frame .rules)) (within (a .bytes .now) (a .frame)) _ (a .frame .area) _ (a .before) (a .scope) _ (c .before .before .before .before .before .scope .given .1) _ (counts _ _ _ _ _ _ (rest-plain _ (schema t) (innerOf (ignoredIn (a .frame .rules)) t (levelsIn (a .frame .rules))) (a .bytes .now) (a .frame .base) (a .frame .area) _ (sym (c .before .before .before .read-u32 .ensures .0) ∙ c .before .before .if1 .taken) ∙ closing-filled _ (a .bytes .now) (a .frame .base) (a .frame .area) _ (pads-none (a .frame .area) _ (a .marks .now) (a .bytes .now) (R .same) (R .room) (c .before .if2 .taken) (omega (arith, c .before .if2 .taken, R .small)))) (c .longer .ensures))
 
 close-group-check-pads-requires : (t : ℕ) → close-group-lts.Need-check-pads-requires (close-group-claims t) (close-group-at t) close-group.Post
 close-group-check-pads-requires t c κs = let R = c .before .before .before .before .before .before .before .before .before .before .before .pre .1 .0 in (R .same, R .small, R .room)
 
 close-group-returns-2 : (t : ℕ) → close-group-lts.Need-returns-2 (close-group-claims t) (close-group-at t) close-group.Post
 close-group-returns-2 t c = let a = c .before .before .before .before .before .before .before .before .before .before .before .before .before .before .args in let t = a .table .now in
-    closes-dynamic t (a .frame .levels) (within (a .bytes .now) (a .frame)) _ (a .frame .area) _ (a .before) (a .scope) _ (c .before .before .before .before .before .before .before .before .scope .given .1) _ (c .before .before .check-pads .ensures ∙ ap (after (a .before)) (sym (rest-plain (schema t) (innerOf t (a .frame .levels)) (a .bytes .now) (a .frame .base) (a .frame .area) _ (sym (c .before .before .before .before .before .before .read-u32 .ensures .0) ∙ c .before .before .before .before .before .if1 .taken))))
+    closes-dynamic t (levelsIn (a .frame .rules)) (within (a .bytes .now) (a .frame)) _ (a .frame .area) _ (a .before) (a .scope) _ (c .before .before .before .before .before .before .before .before .scope .given .1) _ (c .before .before .check-pads .ensures ∙ ap (after (a .before)) (sym (rest-plain _ (schema t) (innerOf (ignoredIn (a .frame .rules)) t (levelsIn (a .frame .rules))) (a .bytes .now) (a .frame .base) (a .frame .area) _ (sym (c .before .before .before .before .before .before .read-u32 .ensures .0) ∙ c .before .before .before .before .before .if1 .taken))))
 
 close-group-check-rest-requires : (t : ℕ) → close-group-lts.Need-check-rest-requires (close-group-claims t) (close-group-at t) close-group.Post
 close-group-check-rest-requires t c κs = (search needs, (c .before .before .before .before .before .before .before .before .before .before .pre .1 .0, c .before .before .before .before .before .before .before .before .before .before .pre .1 .1 _ (c .before .before .before .before .scope .given .1)))
 
 close-group-returns-3 : (t : ℕ) → close-group-lts.Need-returns-3 (close-group-claims t) (close-group-at t) close-group.Post
-close-group-returns-3 t c = let a = c .before .before .before .before .before .before .before .before .before .before .before .before .before .args in closes-dynamic (a .table .now) (a .frame .levels) (within (a .bytes .now) (a .frame)) _ (a .frame .area) _ (a .before) (a .scope) _ (c .before .before .before .before .before .before .before .scope .given .1) _ (c .before .before .check-rest .ensures)
+close-group-returns-3 t c = let a = c .before .before .before .before .before .before .before .before .before .before .before .before .before .args in closes-dynamic (a .table .now) (levelsIn (a .frame .rules)) (within (a .bytes .now) (a .frame)) _ (a .frame .area) _ (a .before) (a .scope) _ (c .before .before .before .before .before .before .before .scope .given .1) _ (c .before .before .check-rest .ensures)
 
 close-group-returns-4 : (t : ℕ) → close-group-lts.Need-returns-4 (close-group-claims t) (close-group-at t) close-group.Post
-close-group-returns-4 t c = let a = c .before .before .before .before .before .before .before .args in closes-static (a .table .now) (a .frame .levels) (within (a .bytes .now) (a .frame)) _ (a .frame .area) _ (a .before) (a .scope) _ (c .before .scope2 .given .1) _ refl (search needs)
+close-group-returns-4 t c = let a = c .before .before .before .before .before .before .before .args in closes-static (a .table .now) (levelsIn (a .frame .rules)) (within (a .bytes .now) (a .frame)) _ (a .frame .area) _ (a .before) (a .scope) _ (c .before .scope2 .given .1) _ refl (search needs)
 
 pub +check-dynamic+check-extending+check-extension+check-field+check-fields+check-group+check-groups+check-item+check-items+check-nested+check-rest+check-value+close-group-spec :
     {M : Type 1} → statement M

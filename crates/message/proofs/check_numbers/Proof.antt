@@ -8,7 +8,8 @@ use lib.ListN.{length}
 use Rattle.schema.specs.Table.{enums}
 use Rattle.schema.specs.Layout.{widthIn}
 use Rattle.schema.specs.FieldKinds.{testedKind}
-use Rattle.message.specs.Walk.{here, strict, Reader, Inner, itemsR}
+use Rattle.settings.specs.declared.Ignored.{Ignored}
+use Rattle.message.specs.Walk.{here, Reader, Inner, itemsR}
 use Rattle.message.specs.Count.{count}
 use Rattle.message.specs.Check.{after, itemR}
 use Rattle.message.proofs.CheckFields.{items-passed, items-stopped, items-end, items-left}
@@ -18,13 +19,13 @@ use Rattle.message.proofs.check_numbers.Tie as tie
 abbrev Inv-loop : tie.InvT-loop
 Inv-loop table index bytes base tested total at taken before width i₀ place₀ sum₀ holds₀ i place sum holds =
     (i ≤ total) × (place + (total - i) * width ≤ length bytes) × (sum < 2 ^ 64)
-    × ((I : Inner) (S : ℕ → Reader) (area : ℕ) (F : ℕ → List ℕ) → after before (count (itemsR width (itemR I S (testedKind (enums table) tested)) total (here strict bytes base area) at (F taken))) ≡ after sum (count (itemsR width (itemR I S (testedKind (enums table) tested)) (total - i) (here strict bytes base area) place (F holds))))
+    × ((y : Ignored) (I : Inner) (S : ℕ → Reader) (area : ℕ) (F : ℕ → List ℕ) → after before (count (itemsR width (itemR I S (testedKind (enums table) tested)) total (here y bytes base area) at (F taken))) ≡ after sum (count (itemsR width (itemR I S (testedKind (enums table) tested)) (total - i) (here y bytes base area) place (F holds))))
 
 abbrev μ-loop : tie.MeasureT-loop
 μ-loop table index bytes base tested total at taken before width i₀ place₀ sum₀ holds₀ i place sum holds = total - i
 
 loop-holds : tie.Need-loop-holds Inv-loop μ-loop
-loop-holds c = let q = c .wide .ensures .0 ∙ c .before .tested-width .ensures (enums (c .before .before .before .before .before .args .table .now)) (widthIn (c .before .before .before .before .before .args .index .now)) in (search needs, rw (sub-zero, q) (c .before .before .before .before .before .pre .1), search needs, λ I S area F. rw sub-zero refl)
+loop-holds c = let q = c .wide .ensures .0 ∙ c .before .tested-width .ensures (enums (c .before .before .before .before .before .args .table .now)) (widthIn (c .before .before .before .before .before .args .index .now)) in (search needs, rw (sub-zero, q) (c .before .before .before .before .before .pre .1), search needs, λ y I S area F. rw sub-zero refl)
 
 check-number-requires : tie.Need-check-number-requires Inv-loop μ-loop
 check-number-requires c κs =
@@ -35,11 +36,11 @@ check-number-requires c κs =
     (p .0, omega (arith, c .before .loop .inv .1, w, q), p .2)
 
 returns : tie.Need-returns Inv-loop μ-loop
-returns c = λ I S area F.
+returns c = λ y I S area F.
     let a = c .before .before .before .before .before .before .before .before .before .before .before .args in
     let l = c .before .before .before .before .before .loop in
     let q = c .before .before .before .before .before .before .wide .ensures .0 ∙ c .before .before .before .before .before .before .before .tested-width .ensures (enums (c .before .before .before .before .before .before .before .before .before .before .before .args .table .now)) (widthIn (c .before .before .before .before .before .before .before .before .before .before .before .args .index .now)) in
-    rw (← q) (items-stopped _ _ (here strict (a .bytes .now) (a .base) area) (a .total) (l .i) (l .place) (l .length) (F (l .holds)) F _ (c .before .before .before .check-number .ensures I S area F) (c .before .before .before .before .loop-test .taken) F _ _ (c .before .number2 .given .1) ∙ sym (l .inv .3 I S area F))
+    rw (← q) (items-stopped _ _ (here y (a .bytes .now) (a .base) area) (a .total) (l .i) (l .place) (l .length) (F (l .holds)) F _ (c .before .before .before .check-number .ensures y I S area F) (c .before .before .before .before .loop-test .taken) F _ _ (c .before .number2 .given .1) ∙ sym (l .inv .3 y I S area F))
 
 loop-again : tie.Need-loop-again Inv-loop μ-loop
 loop-again c =
@@ -49,15 +50,15 @@ loop-again c =
       search needs,
       omega (arith, l .inv .1, w),
       search needs,
-      λ I S area F. l .inv .3 I S area F ∙ items-passed _ _ (here strict (a .bytes .now) (a .base) area) (a .total) (l .i) (l .place) (l .length) (F (l .holds)) F _ (c .before .before .before .check-number .ensures I S area F) (c .before .before .before .before .loop-test .taken) _ _ (c .before .number .given .1),
+      λ y I S area F. l .inv .3 y I S area F ∙ items-passed _ _ (here y (a .bytes .now) (a .base) area) (a .total) (l .i) (l .place) (l .length) (F (l .holds)) F _ (c .before .before .before .check-number .ensures y I S area F) (c .before .before .before .before .loop-test .taken) _ _ (c .before .number .given .1),
     )
 
 returns-2 : tie.Need-returns-2 Inv-loop μ-loop
-returns-2 c = λ I S area F.
+returns-2 c = λ y I S area F.
     let a = c .before .before .before .before .before .before .before .args in
     let l = c .before .loop in
     let q = c .before .before .wide .ensures .0 ∙ c .before .before .before .tested-width .ensures (enums (c .before .before .before .before .before .before .before .args .table .now)) (widthIn (c .before .before .before .before .before .before .before .args .index .now)) in
-    rw (← q) (items-end _ _ (here strict (a .bytes .now) (a .base) area) (a .total) (l .i) (l .place) (l .length) (F (l .holds)) F _ refl (c .loop-test .left) (l .inv .2) ∙ sym (l .inv .3 I S area F))
+    rw (← q) (items-end _ _ (here y (a .bytes .now) (a .base) area) (a .total) (l .i) (l .place) (l .length) (F (l .holds)) F _ refl (c .loop-test .left) (l .inv .2) ∙ sym (l .inv .3 y I S area F))
 
 pub check-numbers-spec : {M : Type 1} → statement M
 check-numbers-spec =

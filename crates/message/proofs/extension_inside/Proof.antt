@@ -4,13 +4,13 @@ use Rattle.message.proofs.extension_inside.Statement.{statement}
 use Rattle.message.proofs.extension_inside.Tie as tie
 
 returns : tie.Need-returns
-returns c = λ base. extension-none (c .before .before .before .args .bytes .now) base (c .before .before .before .args .area) _ (c .before .read-u32 .ensures .0) (c .if1 .taken)
+returns c = λ y base. extension-none y (c .before .before .before .args .bytes .now) base (c .before .before .before .args .area) _ (c .before .read-u32 .ensures .0) (c .if1 .taken)
 
 returns-2 : tie.Need-returns-2
-returns-2 c = λ base. extension-low (c .before .before .before .before .args .bytes .now) base (c .before .before .before .before .args .area) _ (c .before .before .read-u32 .ensures .0) (c .before .if1 .left) (c .if2 .taken)
+returns-2 c = λ y base. extension-low y (c .before .before .before .before .args .bytes .now) base (c .before .before .before .before .args .area) _ (c .before .before .read-u32 .ensures .0) (c .before .if1 .left) (c .if2 .taken)
 
 returns-3 : tie.Need-returns-3
-returns-3 c = λ base. extension-at (c .before .before .before .before .args .bytes .now) base (c .before .before .before .before .args .area) _ (c .before .before .read-u32 .ensures .0) (c .before .if1 .left) (c .if2 .left)
+returns-3 c = λ y base. extension-at y (c .before .before .before .before .args .bytes .now) base (c .before .before .before .before .args .area) _ (c .before .before .read-u32 .ensures .0) (c .before .if1 .left) (c .if2 .left)
 
 pub extension-inside-spec : {M : Type 1} → statement M
 extension-inside-spec =

@@ -7,17 +7,17 @@ use Rattle.reading.proofs.find_part.Tie as tie
 part-at-requires : tie.Need-part-at-requires
 part-at-requires c κs =
     let a = c .before .before .before .before .before .before .before .args in
-    (row-inside (a .table .now) _ _ _ (c .before .before .before .locate .ensures .1) (c .before .found2 .given .1), found-laid (a .table .now) (a .message .now) (c .before .before .before .before .before .before .before .pre .1) _ (a .field) (a .item) (c .before .before .before .locate .ensures .0) _ _ (c .before .found2 .given .1))
+    (row-inside (a .table .now) _ _ _ (c .before .before .before .locate .ensures .1) (c .before .found2 .given .1), found-laid _ (a .table .now) (a .message .now) (c .before .before .before .before .before .before .before .pre .1) _ (a .field) (a .item) (c .before .before .before .locate .ensures .0) _ _ (c .before .found2 .given .1))
 
 returns : tie.Need-returns
 returns c =
     let a = c .before .before .before .before .before .before .before .args in
-    part-missing (a .table .now) (a .message .now) (c .before .before .before .before .before .before .before .pre .1) _ (a .field) (a .item) (c .before .before .before .locate .ensures .0) _ (c .before .found .given .1)
+    part-missing _ (a .table .now) (a .message .now) (c .before .before .before .before .before .before .before .pre .1) _ (a .field) (a .item) (c .before .before .before .locate .ensures .0) _ (c .before .found .given .1)
 
 returns-2 : tie.Need-returns-2
 returns-2 c =
     let a = c .before .before .before .before .before .before .before .before .args in
-    c .part-at .ensures ∙ part-found (a .table .now) (a .message .now) (c .before .before .before .before .before .before .before .before .pre .1) _ (a .field) (a .item) (c .before .before .before .before .locate .ensures .0) _ _ (c .before .before .found2 .given .1)
+    c .part-at .ensures ∙ part-found _ (a .table .now) (a .message .now) (c .before .before .before .before .before .before .before .before .pre .1) _ (a .field) (a .item) (c .before .before .before .before .locate .ensures .0) _ _ (c .before .before .found2 .given .1)
 
 pub find-part-spec : {M : Type 1} → statement M
 find-part-spec =

@@ -9,12 +9,12 @@ use Rattle.reading.proofs.read_bytes.Tie as tie
 add-result : tie.Need-add-result
 add-result c =
     let a = c .before .before .before .before .before .before .before .args in
-    let l = part-inside (a .table .now) (a .message .now) (c .before .before .before .before .before .before .before .pre .1) (a .field) (a .item) _ (c .before .before .before .find-part .ensures) _ _ (c .before .part2 .given .1) in omega (arith, l)
+    let l = part-inside _ (a .table .now) (a .message .now) (c .before .before .before .before .before .before .before .pre .1) (a .field) (a .item) _ (c .before .before .before .find-part .ensures) _ _ (c .before .part2 .given .1) in omega (arith, l)
 
 part-result-end-2 : tie.Need-part-result-end-2
 part-result-end-2 c =
     let a = c .before .before .before .before .before .before .before .args in
-    let l = part-inside (a .table .now) (a .message .now) (c .before .before .before .before .before .before .before .pre .1) (a .field) (a .item) _ (c .before .before .before .find-part .ensures) _ _ (c .before .part2 .given .1) in omega (arith, l)
+    let l = part-inside _ (a .table .now) (a .message .now) (c .before .before .before .before .before .before .before .pre .1) (a .field) (a .item) _ (c .before .before .before .find-part .ensures) _ _ (c .before .part2 .given .1) in omega (arith, l)
 
 returns : tie.Need-returns
 returns c =

@@ -14,17 +14,17 @@ shared-slice-read-number-at c = let l = row-inside (c .before .before .before .b
 number-at-requires : tie.Need-number-at-requires
 number-at-requires c κs =
     let a = c .before .before .before .before .before .before .before .before .args in
-    found-number (a .table .now) (a .message .now) (c .before .before .before .before .before .before .before .before .pre .1) _ (a .field) (a .item) (c .before .before .before .before .locate .ensures .0) _ _ _ (c .before .before .found2 .given .1) refl
+    found-number _ (a .table .now) (a .message .now) (c .before .before .before .before .before .before .before .before .pre .1) _ (a .field) (a .item) (c .before .before .before .before .locate .ensures .0) _ _ _ (c .before .before .found2 .given .1) refl
 
 returns : tie.Need-returns
 returns c =
     let a = c .before .before .before .before .before .before .before .args in
-    number-missing (a .table .now) (a .message .now) (c .before .before .before .before .before .before .before .pre .1) _ (a .field) (a .item) (c .before .before .before .locate .ensures .0) _ (c .before .found .given .1)
+    number-missing _ (a .table .now) (a .message .now) (c .before .before .before .before .before .before .before .pre .1) _ (a .field) (a .item) (c .before .before .before .locate .ensures .0) _ (c .before .found .given .1)
 
 returns-2 : tie.Need-returns-2
 returns-2 c =
     let a = c .before .before .before .before .before .before .before .before .before .args in
-    c .number-at .ensures ∙ number-found (a .table .now) (a .message .now) (c .before .before .before .before .before .before .before .before .before .pre .1) _ (a .field) (a .item) (c .before .before .before .before .before .locate .ensures .0) _ _ _ (c .before .before .before .found2 .given .1) refl
+    c .number-at .ensures ∙ number-found _ (a .table .now) (a .message .now) (c .before .before .before .before .before .before .before .before .before .pre .1) _ (a .field) (a .item) (c .before .before .before .before .before .locate .ensures .0) _ _ _ (c .before .before .before .found2 .given .1) refl
 
 pub read-number-spec : {M : Type 1} → statement M
 read-number-spec =

@@ -15,7 +15,8 @@ use Rattle.schema.proofs.Groups.{static-inside, placed-inside}
 use Rattle.schema.proofs.Depth.{and-both, shallow-some, width-cons, shallow-cons, wide-kind, wide-field}
 use Rattle.message.specs.Sheet.{VA, ST, SG, SQ, GB, XT, XU, NO, GE}
 use Rattle.schema.specs.declared.FieldKind.the-variants.{Plain}
-use Rattle.message.specs.Walk.{byte, word, here, strict, itemsR, fieldsR}
+use Rattle.settings.specs.Store.{lax}
+use Rattle.message.specs.Walk.{byte, word, here, itemsR, fieldsR}
 use Rattle.message.specs.Check.{innerOf, widthOf, staticOf}
 use Rattle.message.proofs.CheckFields.{plain-wide, items-left, wide-number, wide-inline, wide-indirect, wide-static, wide-dynamic, kind-static, start-inside, start-static, start-width, start-shallow}
 use Rattle.sheet.specs.Show.{passage, just, then, itemOf, valueOf, fieldOf, extensionOf, extendingOf, groupOf, takes, endOf}
@@ -245,33 +246,33 @@ abbrev show-extending-claims : ℕ → show-extending-lts.Claims
 show-extending-claims t = (read-u32-reads.Asked, read-u32-reads.Learnt, read-u64-reads.Asked, read-u64-reads.Learnt, is-known-reads.Asked, is-known-reads.Learnt, show-nested-below t, show-nested.Post, show-bytes-reads.Asked, show-bytes-reads.Learnt)
 
 show-extending-read-u64-requires : (t : ℕ) → show-extending-lts.Need-read-u64-requires (show-extending-claims t) (show-extending-at t) show-extending.Post
-show-extending-read-u64-requires t c κs = let a = c .before .before .before .before .before .args in let R = c .before .before .before .before .before .pre .1 in let t = a .table .now in let b = a .bytes .now in let I = innerOf t (a .levels) in let ip = ap (λ (n : ℕ). a .at + n) (c .read-u32 .ensures .0) in
+show-extending-read-u64-requires t c κs = let a = c .before .before .before .before .before .args in let R = c .before .before .before .before .before .pre .1 in let t = a .table .now in let b = a .bytes .now in let I = innerOf lax t (a .levels) in let ip = ap (λ (n : ℕ). a .at + n) (c .read-u32 .ensures .0) in
     let q = extending-inside (schema t) I b (a .at) _ _ ip refl _ (R .3 .reads) in omega (arith, q .0, q .1)
 
 show-extending-show-nested-requires : (t : ℕ) → show-extending-lts.Need-show-nested-requires (show-extending-claims t) (show-extending-at t) show-extending.Post
-show-extending-show-nested-requires t c κs = let a = c .before .before .before .before .before .before .before .before .before .args in let R = c .before .before .before .before .before .before .before .before .before .pre .1 in let t = a .table .now in let b = a .bytes .now in let I = innerOf t (a .levels) in let ip = ap (λ (n : ℕ). a .at + n) (c .before .before .before .before .read-u32 .ensures .0) in
+show-extending-show-nested-requires t c κs = let a = c .before .before .before .before .before .before .before .before .before .args in let R = c .before .before .before .before .before .before .before .before .before .pre .1 in let t = a .table .now in let b = a .bytes .now in let I = innerOf lax t (a .levels) in let ip = ap (λ (n : ℕ). a .at + n) (c .before .before .before .before .read-u32 .ensures .0) in
     let q = extending-inside (schema t) I b (a .at) _ _ ip refl _ (R .3 .reads) in
     let k = rw (c .before .before .before .read-u64 .ensures) at (sym (c .before .before .is-known .ensures)) ∙ c .before .if1 .taken in
     (search needs, (R .0, R .1, q .1, fits-opens _ _ _ _ (extending-known (schema t) I b (a .at) _ _ ip refl k) (R .3)))
 
 show-extending-returns : (t : ℕ) → show-extending-lts.Need-returns (show-extending-claims t) (show-extending-at t) show-extending.Post
-show-extending-returns t c = let a = c .before .before .before .before .before .before .before .before .before .before .before .before .args in let t = a .table .now in let b = a .bytes .now in let I = innerOf t (a .levels) in let ip = ap (λ (n : ℕ). a .at + n) (c .before .before .before .before .before .before .before .read-u32 .ensures .0) in
+show-extending-returns t c = let a = c .before .before .before .before .before .before .before .before .before .before .before .before .args in let t = a .table .now in let b = a .bytes .now in let I = innerOf lax t (a .levels) in let ip = ap (λ (n : ℕ). a .at + n) (c .before .before .before .before .before .before .before .read-u32 .ensures .0) in
     let k = rw (c .before .before .before .before .before .before .read-u64 .ensures) at (sym (c .before .before .before .before .before .is-known .ensures)) ∙ c .before .before .before .before .if1 .taken in
     shown-opens _ _ _ _ _ _ (extending-known (schema t) I b (a .at) _ _ ip refl k) (c .before .before .show-nested .ensures)
 
 show-extending-read-u32-requires-2 : (t : ℕ) → show-extending-lts.Need-read-u32-requires-2 (show-extending-claims t) (show-extending-at t) show-extending.Post
-show-extending-read-u32-requires-2 t c κs = let a = c .before .before .before .before .before .before .before .before .args in let R = c .before .before .before .before .before .before .before .before .pre .1 in let t = a .table .now in let b = a .bytes .now in let I = innerOf t (a .levels) in let ip = ap (λ (n : ℕ). a .at + n) (c .before .before .before .read-u32 .ensures .0) in
+show-extending-read-u32-requires-2 t c κs = let a = c .before .before .before .before .before .before .before .before .args in let R = c .before .before .before .before .before .before .before .before .pre .1 in let t = a .table .now in let b = a .bytes .now in let I = innerOf lax t (a .levels) in let ip = ap (λ (n : ℕ). a .at + n) (c .before .before .before .read-u32 .ensures .0) in
     let q = extending-inside (schema t) I b (a .at) _ _ ip refl _ (R .3 .reads) in omega (arith, q .1)
 
 show-extending-show-bytes-requires : (t : ℕ) → show-extending-lts.Need-show-bytes-requires (show-extending-claims t) (show-extending-at t) show-extending.Post
-show-extending-show-bytes-requires t c κs = let a = c .before .before .before .before .before .before .before .before .before .before .args in let R = c .before .before .before .before .before .before .before .before .before .before .pre .1 in let t = a .table .now in let b = a .bytes .now in let I = innerOf t (a .levels) in let ip = ap (λ (n : ℕ). a .at + n) (c .before .before .before .before .before .read-u32 .ensures .0) in
+show-extending-show-bytes-requires t c κs = let a = c .before .before .before .before .before .before .before .before .before .before .args in let R = c .before .before .before .before .before .before .before .before .before .before .pre .1 in let t = a .table .now in let b = a .bytes .now in let I = innerOf lax t (a .levels) in let ip = ap (λ (n : ℕ). a .at + n) (c .before .before .before .before .before .read-u32 .ensures .0) in
     let n = c .before .read-u322 .ensures .0 in
     let q = extending-inside (schema t) I b (a .at) _ _ ip n _ (R .3 .reads) in
     let k = rw (c .before .before .before .before .read-u64 .ensures) at (sym (c .before .before .before .is-known .ensures)) ∙ c .before .before .if1 .left in
     (q .1, bytes-room XU _ _ _ _ b (q .1) (fits-opens _ _ _ _ (extending-kept (schema t) I b (a .at) _ _ ip n k) (R .3)))
 
 show-extending-returns-2 : (t : ℕ) → show-extending-lts.Need-returns-2 (show-extending-claims t) (show-extending-at t) show-extending.Post
-show-extending-returns-2 t c = let a = c .before .before .before .before .before .before .before .before .before .before .before .before .before .args in let R = c .before .before .before .before .before .before .before .before .before .before .before .before .before .pre .1 in let t = a .table .now in let b = a .bytes .now in let I = innerOf t (a .levels) in let ip = ap (λ (n : ℕ). a .at + n) (c .before .before .before .before .before .before .before .before .read-u32 .ensures .0) in
+show-extending-returns-2 t c = let a = c .before .before .before .before .before .before .before .before .before .before .before .before .before .args in let R = c .before .before .before .before .before .before .before .before .before .before .before .before .before .pre .1 in let t = a .table .now in let b = a .bytes .now in let I = innerOf lax t (a .levels) in let ip = ap (λ (n : ℕ). a .at + n) (c .before .before .before .before .before .before .before .before .read-u32 .ensures .0) in
     let n = c .before .before .before .before .read-u322 .ensures .0 in
     let q = extending-inside (schema t) I b (a .at) _ _ ip n _ (R .3 .reads) in
     let k = rw (c .before .before .before .before .before .before .before .read-u64 .ensures) at (sym (c .before .before .before .before .before .before .is-known .ensures)) ∙ c .before .before .before .before .before .if1 .left in
@@ -281,28 +282,28 @@ abbrev show-extension-claims : ℕ → show-extension-lts.Claims
 show-extension-claims t = (read-u32-reads.Asked, read-u32-reads.Learnt, show-bytes-reads.Asked, show-bytes-reads.Learnt, show-groups-below t, show-groups.Post)
 
 show-extension-returns : (t : ℕ) → show-extension-lts.Need-returns (show-extension-claims t) (show-extension-at t) show-extension.Post
-show-extension-returns t c = let a = c .before .before .before .before .before .before .args in let t = a .table .now in let b = a .bytes .now in let I = innerOf t (a .levels) in shown-opens _ _ _ _ _ _ (extension-none (schema t) I b (sym (c .before .read-u32 .ensures .0) ∙ c .if1 .taken)) (shown-none _ _)
+show-extension-returns t c = let a = c .before .before .before .before .before .before .args in let t = a .table .now in let b = a .bytes .now in let I = innerOf lax t (a .levels) in shown-opens _ _ _ _ _ _ (extension-none (schema t) I b (sym (c .before .read-u32 .ensures .0) ∙ c .if1 .taken)) (shown-none _ _)
 
 show-extension-read-u32-requires-2 : (t : ℕ) → show-extension-lts.Need-read-u32-requires-2 (show-extension-claims t) (show-extension-at t) show-extension.Post
-show-extension-read-u32-requires-2 t c κs = let a = c .before .before .before .before .before .before .args in let R = c .before .before .before .before .before .before .pre .1 in let t = a .table .now in let b = a .bytes .now in let I = innerOf t (a .levels) in let ip = ap (λ (n : ℕ). 12 + n) (c .before .read-u32 .ensures .0) in let z : word 12 b ≡ 0 → ⊥ = λ e. c .if1 .left (c .before .read-u32 .ensures .0 ∙ e) in
+show-extension-read-u32-requires-2 t c κs = let a = c .before .before .before .before .before .before .args in let R = c .before .before .before .before .before .before .pre .1 in let t = a .table .now in let b = a .bytes .now in let I = innerOf lax t (a .levels) in let ip = ap (λ (n : ℕ). 12 + n) (c .before .read-u32 .ensures .0) in let z : word 12 b ≡ 0 → ⊥ = λ e. c .if1 .left (c .before .read-u32 .ensures .0 ∙ e) in
     let q = extension-inside (schema t) I b z _ _ ip refl _ (R .3 .reads) in omega (arith, q)
 
 show-extension-returns-2 : (t : ℕ) → show-extension-lts.Need-returns-2 (show-extension-claims t) (show-extension-at t) show-extension.Post
-show-extension-returns-2 t c = let a = c .before .before .before .before .before .before .before .before .args in let t = a .table .now in let b = a .bytes .now in let I = innerOf t (a .levels) in let ip = ap (λ (n : ℕ). 12 + n) (c .before .before .before .read-u32 .ensures .0) in let z : word 12 b ≡ 0 → ⊥ = λ e. c .before .before .if1 .left (c .before .before .before .read-u32 .ensures .0 ∙ e) in
+show-extension-returns-2 t c = let a = c .before .before .before .before .before .before .before .before .args in let t = a .table .now in let b = a .bytes .now in let I = innerOf lax t (a .levels) in let ip = ap (λ (n : ℕ). 12 + n) (c .before .before .before .read-u32 .ensures .0) in let z : word 12 b ≡ 0 → ⊥ = λ e. c .before .before .if1 .left (c .before .before .before .read-u32 .ensures .0 ∙ e) in
     shown-opens _ _ _ _ _ _ (extension-empty (schema t) I b z _ _ ip (c .before .read-u322 .ensures .0) (c .if2 .taken)) (shown-none _ _)
 
 show-extension-show-bytes-requires : (t : ℕ) → show-extension-lts.Need-show-bytes-requires (show-extension-claims t) (show-extension-at t) show-extension.Post
-show-extension-show-bytes-requires t c κs = let a = c .before .before .before .before .before .before .before .before .before .args in let R = c .before .before .before .before .before .before .before .before .before .pre .1 in let t = a .table .now in let b = a .bytes .now in let I = innerOf t (a .levels) in let ip = ap (λ (n : ℕ). 12 + n) (c .before .before .before .before .read-u32 .ensures .0) in let z : word 12 b ≡ 0 → ⊥ = λ e. c .before .before .before .if1 .left (c .before .before .before .before .read-u32 .ensures .0 ∙ e) in let n = c .before .before .read-u322 .ensures .0 in
+show-extension-show-bytes-requires t c κs = let a = c .before .before .before .before .before .before .before .before .before .args in let R = c .before .before .before .before .before .before .before .before .before .pre .1 in let t = a .table .now in let b = a .bytes .now in let I = innerOf lax t (a .levels) in let ip = ap (λ (n : ℕ). 12 + n) (c .before .before .before .before .read-u32 .ensures .0) in let z : word 12 b ≡ 0 → ⊥ = λ e. c .before .before .before .if1 .left (c .before .before .before .before .read-u32 .ensures .0 ∙ e) in let n = c .before .before .read-u322 .ensures .0 in
     let q = extension-inside (schema t) I b z _ _ ip n _ (R .3 .reads) in let h : 12 + c .before .before .before .before .read-u32 .result + 4 ≤ length b = omega (arith, q) in let L = opened _ _ _ _ _ _ _ (extension-some (schema t) I b z _ _ ip n (c .before .if2 .left)) (begun _ _ _ (R .3)) in
     (h, bytes-room XT _ _ 4 _ b h (first-fits _ _ _ _ _ _ _ L))
 
 show-extension-show-groups-requires : (t : ℕ) → show-extension-lts.Need-show-groups-requires (show-extension-claims t) (show-extension-at t) show-extension.Post
-show-extension-show-groups-requires t c κs = let a = c .before .before .before .before .before .before .before .before .before .before .before .before .before .args in let R = c .before .before .before .before .before .before .before .before .before .before .before .before .before .pre .1 in let t = a .table .now in let b = a .bytes .now in let I = innerOf t (a .levels) in let ip = ap (λ (n : ℕ). 12 + n) (c .before .before .before .before .before .before .before .before .read-u32 .ensures .0) in let z : word 12 b ≡ 0 → ⊥ = λ e. c .before .before .before .before .before .before .before .if1 .left (c .before .before .before .before .before .before .before .before .read-u32 .ensures .0 ∙ e) in let n = c .before .before .before .before .before .before .read-u322 .ensures .0 in
+show-extension-show-groups-requires t c κs = let a = c .before .before .before .before .before .before .before .before .before .before .before .before .before .args in let R = c .before .before .before .before .before .before .before .before .before .before .before .before .before .pre .1 in let t = a .table .now in let b = a .bytes .now in let I = innerOf lax t (a .levels) in let ip = ap (λ (n : ℕ). 12 + n) (c .before .before .before .before .before .before .before .before .read-u32 .ensures .0) in let z : word 12 b ≡ 0 → ⊥ = λ e. c .before .before .before .before .before .before .before .if1 .left (c .before .before .before .before .before .before .before .before .read-u32 .ensures .0 ∙ e) in let n = c .before .before .before .before .before .before .read-u322 .ensures .0 in
     let q = extension-inside (schema t) I b z _ _ ip n _ (R .3 .reads) in let h : 12 + c .before .before .before .before .before .before .before .before .read-u32 .result + 4 ≤ length b = omega (arith, q) in let L = opened _ _ _ _ _ _ _ (extension-some (schema t) I b z _ _ ip n (c .before .before .before .before .before .if2 .left)) (begun _ _ _ (R .3)) in
     (search needs, (R .0, R .1, omega (arith, q), called _ _ _ _ _ _ _ L _ _ (shown-bytes XT _ is-XT _ _ _ _ 4 _ b h (c .before .before .before .show-bytes .ensures .0) (c .before .before .before .show-bytes .ensures .1)) .fits))
 
 show-extension-returns-3 : (t : ℕ) → show-extension-lts.Need-returns-3 (show-extension-claims t) (show-extension-at t) show-extension.Post
-show-extension-returns-3 t c = let a = c .before .before .before .before .before .before .before .before .before .before .before .before .before .before .before .before .args in let R = c .before .before .before .before .before .before .before .before .before .before .before .before .before .before .before .before .pre .1 in let t = a .table .now in let b = a .bytes .now in let I = innerOf t (a .levels) in let ip = ap (λ (n : ℕ). 12 + n) (c .before .before .before .before .before .before .before .before .before .before .before .read-u32 .ensures .0) in let z : word 12 b ≡ 0 → ⊥ = λ e. c .before .before .before .before .before .before .before .before .before .before .if1 .left (c .before .before .before .before .before .before .before .before .before .before .before .read-u32 .ensures .0 ∙ e) in let n = c .before .before .before .before .before .before .before .before .before .read-u322 .ensures .0 in
+show-extension-returns-3 t c = let a = c .before .before .before .before .before .before .before .before .before .before .before .before .before .before .before .before .args in let R = c .before .before .before .before .before .before .before .before .before .before .before .before .before .before .before .before .pre .1 in let t = a .table .now in let b = a .bytes .now in let I = innerOf lax t (a .levels) in let ip = ap (λ (n : ℕ). 12 + n) (c .before .before .before .before .before .before .before .before .before .before .before .read-u32 .ensures .0) in let z : word 12 b ≡ 0 → ⊥ = λ e. c .before .before .before .before .before .before .before .before .before .before .if1 .left (c .before .before .before .before .before .before .before .before .before .before .before .read-u32 .ensures .0 ∙ e) in let n = c .before .before .before .before .before .before .before .before .before .read-u322 .ensures .0 in
     let q = extension-inside (schema t) I b z _ _ ip n _ (R .3 .reads) in let h : 12 + c .before .before .before .before .before .before .before .before .before .before .before .read-u32 .result + 4 ≤ length b = omega (arith, q) in let L = opened _ _ _ _ _ _ _ (extension-some (schema t) I b z _ _ ip n (c .before .before .before .before .before .before .before .before .if2 .left)) (begun _ _ _ (R .3)) in
     called _ _ _ _ _ _ _ L _ _ (shown-bytes XT _ is-XT _ _ _ _ 4 _ b h (c .before .before .before .before .before .before .show-bytes .ensures .0) (c .before .before .before .before .before .before .show-bytes .ensures .1)) .whole _ _ (c .before .before .show-groups .ensures)
 
@@ -315,16 +316,16 @@ show-field-shared-slice-read-if2 t c = let a = c .before .before .before .before
 
 show-field-show-mark-requires : (t : ℕ) → show-field-lts.Need-show-mark-requires (show-field-claims t) (show-field-at t) show-field.Post
 show-field-show-mark-requires t c κs = let a = c .before .before .before .before .before .before .before .before .before .args in let t = a .table .now in let es = enums t in
-    just-room NO _ _ (fits-opens _ _ _ _ (field-absent (innerOf t (a .levels)) (widthOf t (a .depth)) (staticOf t (a .levels) (a .depth)) (fieldAt es (drop (a .field) t)) (a .bytes .now) (a .at) (sym (c .before .before .before .before .is-optional .ensures es) ∙ c .before .before .before .if1 .taken) (c .before .if2 .taken)) (c .before .before .before .before .before .before .before .before .before .pre .1 .5))
+    just-room NO _ _ (fits-opens _ _ _ _ (field-absent (innerOf lax t (a .levels)) (widthOf t (a .depth)) (staticOf lax t (a .levels) (a .depth)) (fieldAt es (drop (a .field) t)) (a .bytes .now) (a .at) (sym (c .before .before .before .before .is-optional .ensures es) ∙ c .before .before .before .if1 .taken) (c .before .if2 .taken)) (c .before .before .before .before .before .before .before .before .before .pre .1 .5))
 
 show-field-returns : (t : ℕ) → show-field-lts.Need-returns (show-field-claims t) (show-field-at t) show-field.Post
 show-field-returns t c = let a = c .before .before .before .before .before .before .before .before .before .before .before .before .args in let t = a .table .now in let es = enums t in
-    shown-opens _ _ _ _ _ _ (field-absent (innerOf t (a .levels)) (widthOf t (a .depth)) (staticOf t (a .levels) (a .depth)) (fieldAt es (drop (a .field) t)) (a .bytes .now) (a .at) (sym (c .before .before .before .before .before .before .before .is-optional .ensures es) ∙ c .before .before .before .before .before .before .if1 .taken) (c .before .before .before .before .if2 .taken)) (shown-just NO 2 _ _ _ _ (c .before .before .show-mark .ensures .0) refl (c .before .before .show-mark .ensures .1))
+    shown-opens _ _ _ _ _ _ (field-absent (innerOf lax t (a .levels)) (widthOf t (a .depth)) (staticOf lax t (a .levels) (a .depth)) (fieldAt es (drop (a .field) t)) (a .bytes .now) (a .at) (sym (c .before .before .before .before .before .before .before .is-optional .ensures es) ∙ c .before .before .before .before .before .before .if1 .taken) (c .before .before .before .before .if2 .taken)) (shown-just NO 2 _ _ _ _ (c .before .before .show-mark .ensures .0) refl (c .before .before .show-mark .ensures .1))
 
 -- where the value stands
 show-field-value : (t : ℕ) (c : show-field-lts.Joined1 (show-field-claims t) (show-field-at t) show-field.Post) → let a = c .before .before .before .before .before .before .args in let t = a .table .now in let b = a .bytes .now in
     (c .if1 .place + valueWidth (widthOf t (a .depth)) (fieldAt (enums t) (drop (a .field) t)) ≤ length b) × Opens (passage (fieldOf t (a .levels) (a .depth) (a .field)) b (a .at)) (passage (valueOf t (a .levels) (a .depth) (a .field)) b (c .if1 .place))
-show-field-value t c = let a = c .before .before .before .before .before .before .args in let l = c .before .before .before .before .before .before .pre .1 .3 in let t = a .table .now in let b = a .bytes .now in let I = innerOf t (a .levels) in let es = enums t in let sw = widthOf t (a .depth) in let S = staticOf t (a .levels) (a .depth) in let f = fieldAt es (drop (a .field) t) in let o = sym (c .before .is-optional .ensures es) in
+show-field-value t c = let a = c .before .before .before .before .before .before .args in let l = c .before .before .before .before .before .before .pre .1 .3 in let t = a .table .now in let b = a .bytes .now in let I = innerOf lax t (a .levels) in let es = enums t in let sw = widthOf t (a .depth) in let S = staticOf lax t (a .levels) (a .depth) in let f = fieldAt es (drop (a .field) t) in let o = sym (c .before .is-optional .ensures es) in
     ⊎-elim
     (λ w. let e = o ∙ w .0 .taken in rw (w .3) (omega (arith, width-optional sw f e, l), field-present I sw S f b (a .at) e (w .2 .left)))
     (λ w. let e = o ∙ w .0 .left in rw (w .1) (omega (arith, width-required sw f e, l), field-always I sw S f b (a .at) e))
@@ -342,7 +343,7 @@ show-fields-Inv-loop table index bytes levels depth group at out₀ pos start to
     (i ≤ total) × (length out ≡ length out₀) × (field + 16 * (total - i) ≤ length table)
     × (place + fieldsWidth (widthOf table deeper) (fieldsAt (enums table) (total - i) (drop field table)) ≤ length bytes)
     × (shallowFields (shallow (schema table) deeper) (widthOf table deeper) (fieldsAt (enums table) (total - i) (drop field table)) ≡ true)
-    × Left (passage (staticOf table levels depth group) bytes at) pos out₀ (passage (fieldsR (innerOf table levels) (widthOf table deeper) (staticOf table levels deeper) (fieldsAt (enums table) (total - i) (drop field table))) bytes place) next out
+    × Left (passage (staticOf lax table levels depth group) bytes at) pos out₀ (passage (fieldsR (innerOf lax table levels) (widthOf table deeper) (staticOf lax table levels deeper) (fieldsAt (enums table) (total - i) (drop field table))) bytes place) next out
 
 abbrev show-fields-μ-loop : show-fields-lts.MeasureT-loop
 show-fields-μ-loop table index bytes levels depth group at out₀ pos start total deeper i₀ field₀ place₀ next₀ out i field place next = total - i
@@ -357,7 +358,7 @@ show-fields-sub-deeper : (t : ℕ) → show-fields-lts.Need-sub-deeper (show-fie
 show-fields-sub-deeper t c = let a = c .before .before .before .before .before .before .args in let R = c .before .before .before .before .before .before .pre .1 in let t = a .table .now in omega (arith, shallow-some (schema t) _ _ (R .4))
 
 show-fields-loop-holds : (t : ℕ) → show-fields-lts.Need-loop-holds (show-fields-claims t) (show-fields-at t) show-fields.Post show-fields-Inv-loop show-fields-μ-loop
-show-fields-loop-holds t c = let a = c .before .before .before .before .before .before .args in let R = c .before .before .before .before .before .before .pre .1 in let t = a .table .now in let b = a .bytes .now in let I = innerOf t (a .levels) in let P = R .0 in let k = a .index .now in
+show-fields-loop-holds t c = let a = c .before .before .before .before .before .before .args in let R = c .before .before .before .before .before .before .pre .1 in let t = a .table .now in let b = a .bytes .now in let I = innerOf lax t (a .levels) in let P = R .0 in let k = a .index .now in
     let d = shallow-some (schema t) (a .depth) (a .group) (R .4) in
     let s = c .before .group-place .ensures .0 in let n = c .field-count .ensures .0 in
     let w = start-width t k P (a .group) (R .3) _ _ s n (a .depth) d in (
@@ -366,17 +367,17 @@ show-fields-loop-holds t c = let a = c .before .before .before .before .before .
       start-inside t k P (a .group) (R .3) _ _ s n,
       omega (arith, w, R .2),
       start-shallow t k P (a .group) (R .3) _ _ s n (a .depth) d (R .4),
-      opened _ _ _ _ _ _ _ (alike _ _ (λ base area m. start-static t k P (a .group) (R .3) _ _ s n (a .depth) d I (here strict b base area) (a .at) m)) (begun _ _ _ (R .5)),
+      opened _ _ _ _ _ _ _ (alike _ _ (λ base area m. start-static t k P (a .group) (R .3) _ _ s n (a .depth) d I (here lax b base area) (a .at) m)) (begun _ _ _ (R .5)),
     )
 
 show-fields-show-bytes-requires : (t : ℕ) → show-fields-lts.Need-show-bytes-requires (show-fields-claims t) (show-fields-at t) show-fields.Post show-fields-Inv-loop show-fields-μ-loop
-show-fields-show-bytes-requires t c κs = let a = c .before .before .before .before .before .before .before .before .before .before .before .args in let t = a .table .now in let b = a .bytes .now in let I = innerOf t (a .levels) in let i = c .before .before .before .before .loop .inv in let l = c .before .before .before .loop-test .taken in let sw = widthOf t (a .depth - 1) in let S = staticOf t (a .levels) (a .depth - 1) in let es = enums t in
+show-fields-show-bytes-requires t c κs = let a = c .before .before .before .before .before .before .before .before .before .before .before .args in let t = a .table .now in let b = a .bytes .now in let I = innerOf lax t (a .levels) in let i = c .before .before .before .before .loop .inv in let l = c .before .before .before .loop-test .taken in let sw = widthOf t (a .depth - 1) in let S = staticOf lax t (a .levels) (a .depth - 1) in let es = enums t in
     let f = fields-more es t (c .before .before .before .before .loop .field) (c .before .before .before .before .before .field-count .result) (c .before .before .before .before .loop .i) l in let w = width-cons sw _ _ _ f in
     let e = c .before .before .plain-width .ensures .0 (c .before .if1 .taken) es in let p = plain-wide sw _ _ _ e in let h : c .before .before .before .before .loop .place + c .before .before .plain-width .result ≤ length b = omega (arith, i .3, w, p) in
     (h, bytes-room VA _ _ _ _ b h (fits-opens _ _ _ _ (field-plain I sw S _ b (c .before .before .before .before .loop .place) _ _ e) (field-fits _ _ _ b (c .before .before .before .before .before .field-count .result) (c .before .before .before .before .loop .i) (c .before .before .before .before .loop .place) _ _ I sw S es t (c .before .before .before .before .loop .field) (i .5) l)))
 
 show-fields-loop-again : (t : ℕ) → show-fields-lts.Need-loop-again (show-fields-claims t) (show-fields-at t) show-fields.Post show-fields-Inv-loop show-fields-μ-loop
-show-fields-loop-again t c = let a = c .before .before .before .before .before .before .before .before .before .before .before .before .before .before .args in let t = a .table .now in let b = a .bytes .now in let I = innerOf t (a .levels) in let i = c .before .before .before .before .before .before .before .loop .inv in let l = c .before .before .before .before .before .before .loop-test .taken in let sw = widthOf t (a .depth - 1) in let S = staticOf t (a .levels) (a .depth - 1) in let es = enums t in
+show-fields-loop-again t c = let a = c .before .before .before .before .before .before .before .before .before .before .before .before .before .before .args in let t = a .table .now in let b = a .bytes .now in let I = innerOf lax t (a .levels) in let i = c .before .before .before .before .before .before .before .loop .inv in let l = c .before .before .before .before .before .before .loop-test .taken in let sw = widthOf t (a .depth - 1) in let S = staticOf lax t (a .levels) (a .depth - 1) in let es = enums t in
     let f = fields-more es t (c .before .before .before .before .before .before .before .loop .field) (c .before .before .before .before .before .before .before .before .field-count .result) (c .before .before .before .before .before .before .before .loop .i) l in let w = width-cons sw _ _ _ f in
     let e = c .before .before .before .before .before .plain-width .ensures .0 (c .before .before .before .before .if1 .taken) es in let p = plain-wide sw _ _ _ e in let h : c .before .before .before .before .before .before .before .loop .place + c .before .before .before .before .before .plain-width .result ≤ length b = omega (arith, i .3, w, p) in (
       search needs,
@@ -388,12 +389,12 @@ show-fields-loop-again t c = let a = c .before .before .before .before .before .
     )
 
 show-fields-show-field-requires : (t : ℕ) → show-fields-lts.Need-show-field-requires (show-fields-claims t) (show-fields-at t) show-fields.Post show-fields-Inv-loop show-fields-μ-loop
-show-fields-show-field-requires t c κs = let a = c .before .before .before .before .before .before .before .before .before .before .before .before .args in let R = c .before .before .before .before .before .before .before .before .before .before .before .before .pre .1 in let t = a .table .now in let b = a .bytes .now in let I = innerOf t (a .levels) in let i = c .before .before .before .before .before .loop .inv in let l = c .before .before .before .before .loop-test .taken in let sw = widthOf t (a .depth - 1) in let S = staticOf t (a .levels) (a .depth - 1) in let es = enums t in
+show-fields-show-field-requires t c κs = let a = c .before .before .before .before .before .before .before .before .before .before .before .before .args in let R = c .before .before .before .before .before .before .before .before .before .before .before .before .pre .1 in let t = a .table .now in let b = a .bytes .now in let I = innerOf lax t (a .levels) in let i = c .before .before .before .before .before .loop .inv in let l = c .before .before .before .before .loop-test .taken in let sw = widthOf t (a .depth - 1) in let S = staticOf lax t (a .levels) (a .depth - 1) in let es = enums t in
     let f = fields-more es t (c .before .before .before .before .before .loop .field) (c .before .before .before .before .before .before .field-count .result) (c .before .before .before .before .before .loop .i) l in let w = width-cons sw _ _ _ f in
     (omega (arith, shallow-some (schema t) _ _ (R .4)), (R .0, R .1, omega (arith, i .2, l), omega (arith, i .3, w), shallow-cons _ _ _ _ _ f (i .4) .0, field-fits _ _ _ b (c .before .before .before .before .before .before .field-count .result) (c .before .before .before .before .before .loop .i) (c .before .before .before .before .before .loop .place) _ _ I sw S es t (c .before .before .before .before .before .loop .field) (i .5) l))
 
 show-fields-loop-again-2 : (t : ℕ) → show-fields-lts.Need-loop-again-2 (show-fields-claims t) (show-fields-at t) show-fields.Post show-fields-Inv-loop show-fields-μ-loop
-show-fields-loop-again-2 t c = let a = c .before .before .before .before .before .before .before .before .before .before .before .before .before .before .before .args in let R = c .before .before .before .before .before .before .before .before .before .before .before .before .before .before .before .pre .1 in let t = a .table .now in let b = a .bytes .now in let I = innerOf t (a .levels) in let i = c .before .before .before .before .before .before .before .before .loop .inv in let l = c .before .before .before .before .before .before .before .loop-test .taken in let sw = widthOf t (a .depth - 1) in let S = staticOf t (a .levels) (a .depth - 1) in let es = enums t in
+show-fields-loop-again-2 t c = let a = c .before .before .before .before .before .before .before .before .before .before .before .before .before .before .before .args in let R = c .before .before .before .before .before .before .before .before .before .before .before .before .before .before .before .pre .1 in let t = a .table .now in let b = a .bytes .now in let I = innerOf lax t (a .levels) in let i = c .before .before .before .before .before .before .before .before .loop .inv in let l = c .before .before .before .before .before .before .before .loop-test .taken in let sw = widthOf t (a .depth - 1) in let S = staticOf lax t (a .levels) (a .depth - 1) in let es = enums t in
     let f = fields-more es t (c .before .before .before .before .before .before .before .before .loop .field) (c .before .before .before .before .before .before .before .before .before .field-count .result) (c .before .before .before .before .before .before .before .before .loop .i) l in let w = width-cons sw _ _ _ f in
     let q = shallow-cons _ _ _ _ _ f (i .4) in
     let v = c .before .before .before .before .field-width .ensures .0 es ∙ wide-field t (a .index .now) (R .0) (a .depth - 1) _ (q .0) in (
@@ -406,7 +407,7 @@ show-fields-loop-again-2 t c = let a = c .before .before .before .before .before
     )
 
 show-fields-returns : (t : ℕ) → show-fields-lts.Need-returns (show-fields-claims t) (show-fields-at t) show-fields.Post show-fields-Inv-loop show-fields-μ-loop
-show-fields-returns t c = let a = c .before .before .before .before .before .before .before .before .args in let t = a .table .now in let b = a .bytes .now in let I = innerOf t (a .levels) in let sw = widthOf t (a .depth - 1) in let S = staticOf t (a .levels) (a .depth - 1) in let es = enums t in
+show-fields-returns t c = let a = c .before .before .before .before .before .before .before .before .args in let t = a .table .now in let b = a .bytes .now in let I = innerOf lax t (a .levels) in let sw = widthOf t (a .depth - 1) in let S = staticOf lax t (a .levels) (a .depth - 1) in let es = enums t in
     fields-done _ _ _ b (c .before .before .field-count .result) (c .before .loop .i) (c .before .loop .place) _ _ I sw S es t (c .before .loop .field) (c .before .loop .inv .5) (c .loop-test .left)
 
 abbrev show-group-claims : ℕ → show-group-lts.Claims
@@ -418,7 +419,7 @@ show-group-open-group-requires t c κs = let a = c .before .before .before .befo
 
 -- what is left behind its head, and what is asked for its fields
 show-group-opened : (t : ℕ) (c : show-group-lts.After-open-group (show-group-claims t) (show-group-at t) show-group.Post) → let a = c .before .before .before .before .before .before .args in let t = a .table .now in let b = a .bytes .now in let o = c .open-group .result in
-    Left (groupOf t (a .levels) (a .depth) (a .scope) b (a .at)) (a .pos) (a .out .now) (then (passage (staticOf t (o .levels) (a .depth) (o .group)) b (a .at)) (endOf t (o .levels) (a .scope) b)) (o .pos) (c .open-group .last .1 .1 .1 .1 .1 .0)
+    Left (groupOf t (a .levels) (a .depth) (a .scope) b (a .at)) (a .pos) (a .out .now) (then (passage (staticOf lax t (o .levels) (a .depth) (o .group)) b (a .at)) (endOf t (o .levels) (a .scope) b)) (o .pos) (c .open-group .last .1 .1 .1 .1 .1 .0)
     × Readable t (a .levels) (a .depth) b (a .at) (a .scope) (o .group)
 show-group-opened t c = let a = c .before .before .before .before .before .before .args in let R = c .before .before .before .before .before .before .pre .1 in let t = a .table .now in let b = a .bytes .now in let o = c .open-group .ensures in (
   called _ _ _ _ _ _ _ (opened _ _ _ _ _ _ _ (group-parts t (a .levels) (a .depth) b (a .at) (a .scope) (R .2) _ _ (o .0) (o .1)) (begun _ _ _ (R .3))) _ _ (shown-just _ _ _ _ _ _ (o .2) refl (o .3)),
@@ -466,15 +467,15 @@ abbrev show-item-claims : ℕ → show-item-lts.Claims
 show-item-claims t = (wide-reads.Asked, wide-reads.Learnt, show-bytes-reads.Asked, show-bytes-reads.Learnt, tested-width-reads.Asked, tested-width-reads.Learnt, show-inline-reads.Asked, show-inline-reads.Learnt, read-u32-reads.Asked, read-u32-reads.Learnt, show-mark-reads.Asked, show-mark-reads.Learnt, show-group-below t, show-group.Post, show-nested-below t, show-nested.Post)
 
 show-item-show-bytes-requires : (t : ℕ) → show-item-lts.Need-show-bytes-requires (show-item-claims t) (show-item-at t) show-item.Post
-show-item-show-bytes-requires t c κs = let a = c .before .before .before .before .before .before .before .before .before .args in let R = c .before .before .before .before .before .before .before .before .before .pre .1 in let t = a .table .now in let b = a .bytes .now in let I = innerOf t (a .levels) in let es = enums t in let sw = widthOf t (a .depth) in let S = staticOf t (a .levels) (a .depth) in let e = c .before .before .before .kind .given .1 ∙ ap Plain (sym (c .before .wide .ensures .0)) in let h : a .at + c .before .wide .result ≤ length b = omega (arith, wide-plain sw es (a .kind) _ e, R .2) in
+show-item-show-bytes-requires t c κs = let a = c .before .before .before .before .before .before .before .before .before .args in let R = c .before .before .before .before .before .before .before .before .before .pre .1 in let t = a .table .now in let b = a .bytes .now in let I = innerOf lax t (a .levels) in let es = enums t in let sw = widthOf t (a .depth) in let S = staticOf lax t (a .levels) (a .depth) in let e = c .before .before .before .kind .given .1 ∙ ap Plain (sym (c .before .wide .ensures .0)) in let h : a .at + c .before .wide .result ≤ length b = omega (arith, wide-plain sw es (a .kind) _ e, R .2) in
     (h, bytes-room VA _ _ _ _ b h (fits-opens _ _ _ _ (item-plain I S es b (a .at) (a .kind) _ e) (R .4)))
 
 show-item-show-bytes-requires-2 : (t : ℕ) → show-item-lts.Need-show-bytes-requires-2 (show-item-claims t) (show-item-at t) show-item.Post
-show-item-show-bytes-requires-2 t c κs = let a = c .before .before .before .before .before .before .before .before .before .before .args in let R = c .before .before .before .before .before .before .before .before .before .before .pre .1 in let t = a .table .now in let b = a .bytes .now in let I = innerOf t (a .levels) in let es = enums t in let sw = widthOf t (a .depth) in let S = staticOf t (a .levels) (a .depth) in let e = c .before .before .before .before .kind2 .given .1 in let iw = c .before .wide2 .ensures .0 ∙ c .before .before .tested-width .ensures es sw in let h : a .at + c .before .wide2 .result ≤ length b = omega (arith, wide-number sw es (a .kind) _ e, iw, R .2) in
+show-item-show-bytes-requires-2 t c κs = let a = c .before .before .before .before .before .before .before .before .before .before .args in let R = c .before .before .before .before .before .before .before .before .before .before .pre .1 in let t = a .table .now in let b = a .bytes .now in let I = innerOf lax t (a .levels) in let es = enums t in let sw = widthOf t (a .depth) in let S = staticOf lax t (a .levels) (a .depth) in let e = c .before .before .before .before .kind2 .given .1 in let iw = c .before .wide2 .ensures .0 ∙ c .before .before .tested-width .ensures es sw in let h : a .at + c .before .wide2 .result ≤ length b = omega (arith, wide-number sw es (a .kind) _ e, iw, R .2) in
     (h, bytes-room VA _ _ _ _ b h (fits-opens _ _ _ _ (item-number I S es b (a .at) (a .kind) sw _ _ e iw) (R .4)))
 
 show-item-show-inline-requires : (t : ℕ) → show-item-lts.Need-show-inline-requires (show-item-claims t) (show-item-at t) show-item.Post
-show-item-show-inline-requires t c κs = let a = c .before .before .before .before .before .before .before .before .args in let R = c .before .before .before .before .before .before .before .before .pre .1 in let t = a .table .now in let b = a .bytes .now in let I = innerOf t (a .levels) in let es = enums t in let sw = widthOf t (a .depth) in let S = staticOf t (a .levels) (a .depth) in let e = c .before .before .kind3 .given .1 in let o = item-inline I S es b (a .at) (a .kind) _ _ e in
+show-item-show-inline-requires t c κs = let a = c .before .before .before .before .before .before .before .before .args in let R = c .before .before .before .before .before .before .before .before .pre .1 in let t = a .table .now in let b = a .bytes .now in let I = innerOf lax t (a .levels) in let es = enums t in let sw = widthOf t (a .depth) in let S = staticOf lax t (a .levels) (a .depth) in let e = c .before .before .kind3 .given .1 in let o = item-inline I S es b (a .at) (a .kind) _ _ e in
     let h : a .at + 1 + byte (a .at) b ≤ length b = omega (arith, wide-inline sw es (a .kind) _ _ e, inline-count ST b (a .at) _ _ _ (o _ (R .4 .reads)), R .2) in
     (h, rw (inline-length (byte (a .at) b) (a .at) b h) at (just-room _ _ _ (fits-opens _ _ _ _ (λ s r. marked-inline ST b (a .at) _ _ s (o s r)) (R .4))))
 
@@ -482,20 +483,20 @@ show-item-read-u32-requires : (t : ℕ) → show-item-lts.Need-read-u32-requires
 show-item-read-u32-requires t c κs = let a = c .before .before .before .before .before .before .before .args in let R = c .before .before .before .before .before .before .before .pre .1 in let t = a .table .now in let es = enums t in let sw = widthOf t (a .depth) in omega (arith, wide-indirect sw es (a .kind) _ (c .before .kind4 .given .1), R .2)
 
 show-item-read-u32-requires-2 : (t : ℕ) → show-item-lts.Need-read-u32-requires-2 (show-item-claims t) (show-item-at t) show-item.Post
-show-item-read-u32-requires-2 t c κs = let a = c .before .before .before .before .before .before .before .before .args in let R = c .before .before .before .before .before .before .before .before .pre .1 in let t = a .table .now in let b = a .bytes .now in let I = innerOf t (a .levels) in let es = enums t in let S = staticOf t (a .levels) (a .depth) in let e = c .before .before .kind4 .given .1 in let ip = ap (λ (n : ℕ). a .at + n) (c .read-u32 .ensures .0) in
+show-item-read-u32-requires-2 t c κs = let a = c .before .before .before .before .before .before .before .before .args in let R = c .before .before .before .before .before .before .before .before .pre .1 in let t = a .table .now in let b = a .bytes .now in let I = innerOf lax t (a .levels) in let es = enums t in let S = staticOf lax t (a .levels) (a .depth) in let e = c .before .before .kind4 .given .1 in let ip = ap (λ (n : ℕ). a .at + n) (c .read-u32 .ensures .0) in
     omega (arith, text-inside I S es b (a .at) (a .kind) _ _ ip refl _ e _ (R .4 .reads))
 
 show-item-show-bytes-requires-3 : (t : ℕ) → show-item-lts.Need-show-bytes-requires-3 (show-item-claims t) (show-item-at t) show-item.Post
-show-item-show-bytes-requires-3 t c κs = let a = c .before .before .before .before .before .before .before .before .before .before .args in let R = c .before .before .before .before .before .before .before .before .before .before .pre .1 in let t = a .table .now in let b = a .bytes .now in let I = innerOf t (a .levels) in let es = enums t in let S = staticOf t (a .levels) (a .depth) in let e = c .before .before .before .before .kind4 .given .1 in let ip = ap (λ (n : ℕ). a .at + n) (c .before .before .read-u32 .ensures .0) in
+show-item-show-bytes-requires-3 t c κs = let a = c .before .before .before .before .before .before .before .before .before .before .args in let R = c .before .before .before .before .before .before .before .before .before .before .pre .1 in let t = a .table .now in let b = a .bytes .now in let I = innerOf lax t (a .levels) in let es = enums t in let S = staticOf lax t (a .levels) (a .depth) in let e = c .before .before .before .before .kind4 .given .1 in let ip = ap (λ (n : ℕ). a .at + n) (c .before .before .read-u32 .ensures .0) in
     let n = c .before .read-u322 .ensures .0 in let h = text-inside I S es b (a .at) (a .kind) _ _ ip n _ e _ (R .4 .reads) in
     (h, bytes-room ST _ _ _ _ b h (fits-opens _ _ _ _ (item-text I S es b (a .at) (a .kind) _ _ ip n _ e) (R .4)))
 
 show-item-show-mark-requires : (t : ℕ) → show-item-lts.Need-show-mark-requires (show-item-claims t) (show-item-at t) show-item.Post
-show-item-show-mark-requires t c κs = let a = c .before .before .before .before .before .before .before .before .args in let R = c .before .before .before .before .before .before .before .before .pre .1 in let t = a .table .now in let b = a .bytes .now in let I = innerOf t (a .levels) in let es = enums t in let S = staticOf t (a .levels) (a .depth) in let e = c .before .before .kind5 .given .1 in let L = opened _ _ _ _ _ _ _ (item-static I S es b (a .at) (a .kind) _ e) (begun _ _ _ (R .4)) in mark-room SG _ _ (first-fits _ _ _ _ _ _ _ L)
+show-item-show-mark-requires t c κs = let a = c .before .before .before .before .before .before .before .before .args in let R = c .before .before .before .before .before .before .before .before .pre .1 in let t = a .table .now in let b = a .bytes .now in let I = innerOf lax t (a .levels) in let es = enums t in let S = staticOf lax t (a .levels) (a .depth) in let e = c .before .before .kind5 .given .1 in let L = opened _ _ _ _ _ _ _ (item-static I S es b (a .at) (a .kind) _ e) (begun _ _ _ (R .4)) in mark-room SG _ _ (first-fits _ _ _ _ _ _ _ L)
 
 show-item-show-group-requires : (t : ℕ) → show-item-lts.Need-show-group-requires (show-item-claims t) (show-item-at t) show-item.Post
 unfolding groupOf takes
-show-item-show-group-requires t c κs = let a = c .before .before .before .before .before .before .before .before .before .before .before .before .args in let R = c .before .before .before .before .before .before .before .before .before .before .before .before .pre .1 in let t = a .table .now in let b = a .bytes .now in let I = innerOf t (a .levels) in let es = enums t in let sw = widthOf t (a .depth) in let S = staticOf t (a .levels) (a .depth) in let e = c .before .before .before .before .before .before .kind5 .given .1 in let L = opened _ _ _ _ _ _ _ (item-static I S es b (a .at) (a .kind) _ e) (begun _ _ _ (R .4)) in
+show-item-show-group-requires t c κs = let a = c .before .before .before .before .before .before .before .before .before .before .before .before .args in let R = c .before .before .before .before .before .before .before .before .before .before .before .before .pre .1 in let t = a .table .now in let b = a .bytes .now in let I = innerOf lax t (a .levels) in let es = enums t in let sw = widthOf t (a .depth) in let S = staticOf lax t (a .levels) (a .depth) in let e = c .before .before .before .before .before .before .kind5 .given .1 in let L = opened _ _ _ _ _ _ _ (item-static I S es b (a .at) (a .kind) _ e) (begun _ _ _ (R .4)) in
     let w = wide-static sw es (a .kind) _ e in
     let q = and-both (leb 1 (sw _)) (shallow (schema t) (a .depth) _) (sym (kind-static sw es (a .kind) (shallow (schema t) (a .depth)) _ e) ∙ R .3) in
     (search needs, (R .0, R .1, (omega (arith, w, R .2), static-inside (schema t) (a .depth) _ (q .0), q .1), called _ _ _ _ _ _ _ L _ _ (shown-mark SG _ is-SG _ _ _ _ (c .before .before .before .show-mark .ensures .0) (c .before .before .before .show-mark .ensures .1)) .fits))
@@ -504,33 +505,33 @@ show-item-read-u32-requires-3 : (t : ℕ) → show-item-lts.Need-read-u32-requir
 show-item-read-u32-requires-3 t c κs = let a = c .before .before .before .before .before .before .before .args in let R = c .before .before .before .before .before .before .before .pre .1 in let t = a .table .now in let es = enums t in let sw = widthOf t (a .depth) in omega (arith, wide-dynamic sw es (a .kind) _ (c .before .kind6 .given .1), R .2)
 
 show-item-show-nested-requires : (t : ℕ) → show-item-lts.Need-show-nested-requires (show-item-claims t) (show-item-at t) show-item.Post
-show-item-show-nested-requires t c κs = let a = c .before .before .before .before .before .before .before .before .before .args in let R = c .before .before .before .before .before .before .before .before .before .pre .1 in let t = a .table .now in let b = a .bytes .now in let I = innerOf t (a .levels) in let es = enums t in let S = staticOf t (a .levels) (a .depth) in let e = c .before .before .before .kind6 .given .1 in let ip = ap (λ (n : ℕ). a .at + n) (c .before .read-u323 .ensures .0) in
+show-item-show-nested-requires t c κs = let a = c .before .before .before .before .before .before .before .before .before .args in let R = c .before .before .before .before .before .before .before .before .before .pre .1 in let t = a .table .now in let b = a .bytes .now in let I = innerOf lax t (a .levels) in let es = enums t in let S = staticOf lax t (a .levels) (a .depth) in let e = c .before .before .before .kind6 .given .1 in let ip = ap (λ (n : ℕ). a .at + n) (c .before .read-u323 .ensures .0) in
     (search needs, (R .0, R .1, group-inside I S es b (a .at) (a .kind) _ _ ip refl _ e _ (R .4 .reads), fits-opens _ _ _ _ (item-group I S es b (a .at) (a .kind) _ _ ip refl _ e) (R .4)))
 
 show-item-returns : (t : ℕ) → show-item-lts.Need-returns (show-item-claims t) (show-item-at t) show-item.Post
-show-item-returns t c = let a = c .before .before .before .before .before .before .before .before .before .before .before .before .args in let R = c .before .before .before .before .before .before .before .before .before .before .before .before .pre .1 in let t = a .table .now in let b = a .bytes .now in let I = innerOf t (a .levels) in let es = enums t in let sw = widthOf t (a .depth) in let S = staticOf t (a .levels) (a .depth) in let e = c .before .before .before .before .before .before .kind .given .1 ∙ ap Plain (sym (c .before .before .before .before .wide .ensures .0)) in let h : a .at + c .before .before .before .before .wide .result ≤ length b = omega (arith, wide-plain sw es (a .kind) _ e, R .2) in
+show-item-returns t c = let a = c .before .before .before .before .before .before .before .before .before .before .before .before .args in let R = c .before .before .before .before .before .before .before .before .before .before .before .before .pre .1 in let t = a .table .now in let b = a .bytes .now in let I = innerOf lax t (a .levels) in let es = enums t in let sw = widthOf t (a .depth) in let S = staticOf lax t (a .levels) (a .depth) in let e = c .before .before .before .before .before .before .kind .given .1 ∙ ap Plain (sym (c .before .before .before .before .wide .ensures .0)) in let h : a .at + c .before .before .before .before .wide .result ≤ length b = omega (arith, wide-plain sw es (a .kind) _ e, R .2) in
     shown-opens _ _ _ _ _ _ (item-plain I S es b (a .at) (a .kind) _ e) (shown-bytes VA _ is-VA _ _ _ _ _ _ b h (c .before .before .show-bytes .ensures .0) (c .before .before .show-bytes .ensures .1))
 
 show-item-returns-2 : (t : ℕ) → show-item-lts.Need-returns-2 (show-item-claims t) (show-item-at t) show-item.Post
-show-item-returns-2 t c = let a = c .before .before .before .before .before .before .before .before .before .before .before .before .before .args in let R = c .before .before .before .before .before .before .before .before .before .before .before .before .before .pre .1 in let t = a .table .now in let b = a .bytes .now in let I = innerOf t (a .levels) in let es = enums t in let sw = widthOf t (a .depth) in let S = staticOf t (a .levels) (a .depth) in let e = c .before .before .before .before .before .before .before .kind2 .given .1 in let iw = c .before .before .before .before .wide2 .ensures .0 ∙ c .before .before .before .before .before .tested-width .ensures es sw in let h : a .at + c .before .before .before .before .wide2 .result ≤ length b = omega (arith, wide-number sw es (a .kind) _ e, iw, R .2) in
+show-item-returns-2 t c = let a = c .before .before .before .before .before .before .before .before .before .before .before .before .before .args in let R = c .before .before .before .before .before .before .before .before .before .before .before .before .before .pre .1 in let t = a .table .now in let b = a .bytes .now in let I = innerOf lax t (a .levels) in let es = enums t in let sw = widthOf t (a .depth) in let S = staticOf lax t (a .levels) (a .depth) in let e = c .before .before .before .before .before .before .before .kind2 .given .1 in let iw = c .before .before .before .before .wide2 .ensures .0 ∙ c .before .before .before .before .before .tested-width .ensures es sw in let h : a .at + c .before .before .before .before .wide2 .result ≤ length b = omega (arith, wide-number sw es (a .kind) _ e, iw, R .2) in
     shown-opens _ _ _ _ _ _ (item-number I S es b (a .at) (a .kind) sw _ _ e iw) (shown-bytes VA _ is-VA _ _ _ _ _ _ b h (c .before .before .show-bytes2 .ensures .0) (c .before .before .show-bytes2 .ensures .1))
 
 show-item-returns-3 : (t : ℕ) → show-item-lts.Need-returns-3 (show-item-claims t) (show-item-at t) show-item.Post
-show-item-returns-3 t c = let a = c .before .before .before .before .before .before .before .before .before .before .before .args in let R = c .before .before .before .before .before .before .before .before .before .before .before .pre .1 in let t = a .table .now in let b = a .bytes .now in let I = innerOf t (a .levels) in let es = enums t in let sw = widthOf t (a .depth) in let S = staticOf t (a .levels) (a .depth) in let e = c .before .before .before .before .before .kind3 .given .1 in let o = item-inline I S es b (a .at) (a .kind) _ _ e in
+show-item-returns-3 t c = let a = c .before .before .before .before .before .before .before .before .before .before .before .args in let R = c .before .before .before .before .before .before .before .before .before .before .before .pre .1 in let t = a .table .now in let b = a .bytes .now in let I = innerOf lax t (a .levels) in let es = enums t in let sw = widthOf t (a .depth) in let S = staticOf lax t (a .levels) (a .depth) in let e = c .before .before .before .before .before .kind3 .given .1 in let o = item-inline I S es b (a .at) (a .kind) _ _ e in
     let h : a .at + 1 + byte (a .at) b ≤ length b = omega (arith, wide-inline sw es (a .kind) _ _ e, inline-count ST b (a .at) _ _ _ (o _ (R .4 .reads)), R .2) in
     shown-opens _ _ _ _ _ _ (λ s r. marked-inline ST b (a .at) _ _ s (o s r)) (shown-just _ _ _ _ _ _ (c .before .before .show-inline .ensures .0) (inline-length (byte (a .at) b) (a .at) b h) (c .before .before .show-inline .ensures .1))
 
 show-item-returns-4 : (t : ℕ) → show-item-lts.Need-returns-4 (show-item-claims t) (show-item-at t) show-item.Post
-show-item-returns-4 t c = let a = c .before .before .before .before .before .before .before .before .before .before .before .before .before .args in let R = c .before .before .before .before .before .before .before .before .before .before .before .before .before .pre .1 in let t = a .table .now in let b = a .bytes .now in let I = innerOf t (a .levels) in let es = enums t in let S = staticOf t (a .levels) (a .depth) in let e = c .before .before .before .before .before .before .before .kind4 .given .1 in let ip = ap (λ (n : ℕ). a .at + n) (c .before .before .before .before .before .read-u32 .ensures .0) in
+show-item-returns-4 t c = let a = c .before .before .before .before .before .before .before .before .before .before .before .before .before .args in let R = c .before .before .before .before .before .before .before .before .before .before .before .before .before .pre .1 in let t = a .table .now in let b = a .bytes .now in let I = innerOf lax t (a .levels) in let es = enums t in let S = staticOf lax t (a .levels) (a .depth) in let e = c .before .before .before .before .before .before .before .kind4 .given .1 in let ip = ap (λ (n : ℕ). a .at + n) (c .before .before .before .before .before .read-u32 .ensures .0) in
     let n = c .before .before .before .before .read-u322 .ensures .0 in let h = text-inside I S es b (a .at) (a .kind) _ _ ip n _ e _ (R .4 .reads) in
     shown-opens _ _ _ _ _ _ (item-text I S es b (a .at) (a .kind) _ _ ip n _ e) (shown-bytes ST _ is-ST _ _ _ _ _ _ b h (c .before .before .show-bytes3 .ensures .0) (c .before .before .show-bytes3 .ensures .1))
 
 show-item-returns-5 : (t : ℕ) → show-item-lts.Need-returns-5 (show-item-claims t) (show-item-at t) show-item.Post
 unfolding groupOf
-show-item-returns-5 t c = let a = c .before .before .before .before .before .before .before .before .before .before .before .before .before .before .before .args in let R = c .before .before .before .before .before .before .before .before .before .before .before .before .before .before .before .pre .1 in let t = a .table .now in let b = a .bytes .now in let I = innerOf t (a .levels) in let es = enums t in let S = staticOf t (a .levels) (a .depth) in let e = c .before .before .before .before .before .before .before .before .before .kind5 .given .1 in let L = opened _ _ _ _ _ _ _ (item-static I S es b (a .at) (a .kind) _ e) (begun _ _ _ (R .4)) in called _ _ _ _ _ _ _ L _ _ (shown-mark SG _ is-SG _ _ _ _ (c .before .before .before .before .before .before .show-mark .ensures .0) (c .before .before .before .before .before .before .show-mark .ensures .1)) .whole _ _ (c .before .before .show-group .ensures)
+show-item-returns-5 t c = let a = c .before .before .before .before .before .before .before .before .before .before .before .before .before .before .before .args in let R = c .before .before .before .before .before .before .before .before .before .before .before .before .before .before .before .pre .1 in let t = a .table .now in let b = a .bytes .now in let I = innerOf lax t (a .levels) in let es = enums t in let S = staticOf lax t (a .levels) (a .depth) in let e = c .before .before .before .before .before .before .before .before .before .kind5 .given .1 in let L = opened _ _ _ _ _ _ _ (item-static I S es b (a .at) (a .kind) _ e) (begun _ _ _ (R .4)) in called _ _ _ _ _ _ _ L _ _ (shown-mark SG _ is-SG _ _ _ _ (c .before .before .before .before .before .before .show-mark .ensures .0) (c .before .before .before .before .before .before .show-mark .ensures .1)) .whole _ _ (c .before .before .show-group .ensures)
 
 show-item-returns-6 : (t : ℕ) → show-item-lts.Need-returns-6 (show-item-claims t) (show-item-at t) show-item.Post
-show-item-returns-6 t c = let a = c .before .before .before .before .before .before .before .before .before .before .before .before .args in let t = a .table .now in let b = a .bytes .now in let I = innerOf t (a .levels) in let es = enums t in let S = staticOf t (a .levels) (a .depth) in let e = c .before .before .before .before .before .before .kind6 .given .1 in let ip = ap (λ (n : ℕ). a .at + n) (c .before .before .before .before .read-u323 .ensures .0) in
+show-item-returns-6 t c = let a = c .before .before .before .before .before .before .before .before .before .before .before .before .args in let t = a .table .now in let b = a .bytes .now in let I = innerOf lax t (a .levels) in let es = enums t in let S = staticOf lax t (a .levels) (a .depth) in let e = c .before .before .before .before .before .before .kind6 .given .1 in let ip = ap (λ (n : ℕ). a .at + n) (c .before .before .before .before .read-u323 .ensures .0) in
     shown-opens _ _ _ _ _ _ (item-group I S es b (a .at) (a .kind) _ _ ip refl _ e) (c .before .before .show-nested .ensures)
 
 abbrev show-items-Inv-loop : show-items-lts.InvT-loop
@@ -545,11 +546,11 @@ abbrev show-items-claims : ℕ → show-items-lts.Claims
 show-items-claims t = (wide-reads.Asked, wide-reads.Learnt, show-plain-reads.Asked, show-plain-reads.Learnt, show-item-below t, show-item.Post)
 
 show-items-show-plain-requires : (t : ℕ) → show-items-lts.Need-show-plain-requires (show-items-claims t) (show-items-at t) show-items.Post show-items-Inv-loop show-items-μ-loop
-show-items-show-plain-requires t c κs = let a = c .before .before .before .before .before .before .before .before .before .args in let R = c .before .before .before .before .before .before .before .before .before .pre .1 in let t = a .table .now in let b = a .bytes .now in let I = innerOf t (a .levels) in let es = enums t in let sw = widthOf t (a .depth) in let S = staticOf t (a .levels) (a .depth) in let e = c .before .before .before .kind .given .1 ∙ ap Plain (sym (c .before .wide .ensures .0)) in let w = R .3 ∙ wide-plain sw es (a .kind) _ e in
+show-items-show-plain-requires t c κs = let a = c .before .before .before .before .before .before .before .before .before .args in let R = c .before .before .before .before .before .before .before .before .before .pre .1 in let t = a .table .now in let b = a .bytes .now in let I = innerOf lax t (a .levels) in let es = enums t in let sw = widthOf t (a .depth) in let S = staticOf lax t (a .levels) (a .depth) in let e = c .before .before .before .kind .given .1 ∙ ap Plain (sym (c .before .wide .ensures .0)) in let w = R .3 ∙ wide-plain sw es (a .kind) _ e in
     (rw w at (R .2), fits-opens _ _ _ _ (items-plain I S es b (a .at) (a .kind) sw _ _ _ e (R .3)) (R .5))
 
 show-items-returns : (t : ℕ) → show-items-lts.Need-returns (show-items-claims t) (show-items-at t) show-items.Post show-items-Inv-loop show-items-μ-loop
-show-items-returns t c = let a = c .before .before .before .before .before .before .before .before .before .before .before .before .args in let R = c .before .before .before .before .before .before .before .before .before .before .before .before .pre .1 in let t = a .table .now in let b = a .bytes .now in let I = innerOf t (a .levels) in let es = enums t in let sw = widthOf t (a .depth) in let S = staticOf t (a .levels) (a .depth) in let e = c .before .before .before .before .before .before .kind .given .1 ∙ ap Plain (sym (c .before .before .before .before .wide .ensures .0)) in
+show-items-returns t c = let a = c .before .before .before .before .before .before .before .before .before .before .before .before .args in let R = c .before .before .before .before .before .before .before .before .before .before .before .before .pre .1 in let t = a .table .now in let b = a .bytes .now in let I = innerOf lax t (a .levels) in let es = enums t in let sw = widthOf t (a .depth) in let S = staticOf lax t (a .levels) (a .depth) in let e = c .before .before .before .before .before .before .kind .given .1 ∙ ap Plain (sym (c .before .before .before .before .wide .ensures .0)) in
     shown-opens _ _ _ _ _ _ (items-plain I S es b (a .at) (a .kind) sw _ _ _ e (R .3)) (c .before .before .show-plain .ensures)
 
 show-items-loop-holds : (t : ℕ) → show-items-lts.Need-loop-holds (show-items-claims t) (show-items-at t) show-items.Post show-items-Inv-loop show-items-μ-loop
@@ -593,12 +594,12 @@ show-value-read-u32-requires t c κs = let a = c .before .before .before .before
     omega (arith, width-sequence (widthOf t (a .depth)) (fieldAt es (drop (a .field) t)) (sym (c .before .is-sequence .ensures es) ∙ c .if1 .taken), c .before .before .before .before .before .before .before .before .pre .1 .3)
 
 show-value-read-u32-requires-2 : (t : ℕ) → show-value-lts.Need-read-u32-requires-2 (show-value-claims t) (show-value-at t) show-value.Post
-show-value-read-u32-requires-2 t c κs = let a = c .before .before .before .before .before .before .before .before .before .args in let R = c .before .before .before .before .before .before .before .before .before .pre .1 in let t = a .table .now in let b = a .bytes .now in let I = innerOf t (a .levels) in let es = enums t in let sw = widthOf t (a .depth) in let S = staticOf t (a .levels) (a .depth) in let f = fieldAt es (drop (a .field) t) in let k = c .before .before .before .before .kind-at .ensures es in let o = sym (c .before .before .is-sequence .ensures es) ∙ c .before .if1 .taken in
+show-value-read-u32-requires-2 t c κs = let a = c .before .before .before .before .before .before .before .before .before .args in let R = c .before .before .before .before .before .before .before .before .before .pre .1 in let t = a .table .now in let b = a .bytes .now in let I = innerOf lax t (a .levels) in let es = enums t in let sw = widthOf t (a .depth) in let S = staticOf lax t (a .levels) (a .depth) in let f = fieldAt es (drop (a .field) t) in let k = c .before .before .before .before .kind-at .ensures es in let o = sym (c .before .before .is-sequence .ensures es) ∙ c .before .if1 .taken in
     let iw = c .before .before .before .kind-width .ensures .0 es ∙ wide-kind t (a .index .now) (R .0) (a .depth) _ (rw (sym k) at (R .4)) in let ip = ap (λ (n : ℕ). a .at + n) (c .read-u32 .ensures .0) in
     omega (arith, sequence-inside I sw S f b (a .at) _ k o _ iw _ _ ip refl _ (R .5 .reads))
 
 show-value-show-bytes-requires : (t : ℕ) → show-value-lts.Need-show-bytes-requires (show-value-claims t) (show-value-at t) show-value.Post
-show-value-show-bytes-requires t c κs = let a = c .before .before .before .before .before .before .before .before .before .before .before .args in let R = c .before .before .before .before .before .before .before .before .before .before .before .pre .1 in let t = a .table .now in let b = a .bytes .now in let I = innerOf t (a .levels) in let es = enums t in let sw = widthOf t (a .depth) in let S = staticOf t (a .levels) (a .depth) in let f = fieldAt es (drop (a .field) t) in let k = c .before .before .before .before .before .before .kind-at .ensures es in let o = sym (c .before .before .before .before .is-sequence .ensures es) ∙ c .before .before .before .if1 .taken in
+show-value-show-bytes-requires t c κs = let a = c .before .before .before .before .before .before .before .before .before .before .before .args in let R = c .before .before .before .before .before .before .before .before .before .before .before .pre .1 in let t = a .table .now in let b = a .bytes .now in let I = innerOf lax t (a .levels) in let es = enums t in let sw = widthOf t (a .depth) in let S = staticOf lax t (a .levels) (a .depth) in let f = fieldAt es (drop (a .field) t) in let k = c .before .before .before .before .before .before .kind-at .ensures es in let o = sym (c .before .before .before .before .is-sequence .ensures es) ∙ c .before .before .before .if1 .taken in
     let iw = c .before .before .before .before .before .kind-width .ensures .0 es ∙ wide-kind t (a .index .now) (R .0) (a .depth) _ (rw (sym k) at (R .4)) in let ip = ap (λ (n : ℕ). a .at + n) (c .before .before .read-u32 .ensures .0) in let n = c .before .read-u322 .ensures .0 in
     let h : a .at + c .before .before .read-u32 .result + 4 ≤ length b = omega (arith, sequence-inside I sw S f b (a .at) _ k o _ iw _ _ ip n _ (R .5 .reads)) in
     (h, bytes-room SQ _ _ 4 _ b h (first-fits _ _ _ _ _ _ _ (opened _ _ _ _ _ _ _ (sequence-opens I sw S f b (a .at) _ k o _ iw _ _ ip n) (begun _ _ _ (R .5)))))
@@ -606,7 +607,7 @@ show-value-show-bytes-requires t c κs = let a = c .before .before .before .befo
 -- what is left: so many items, from there on
 show-value-items : (t : ℕ) (c : show-value-lts.Joined1 (show-value-claims t) (show-value-at t) show-value.Post) → let a = c .before .before .before .before .before .before .before .before .args in let t = a .table .now in let b = a .bytes .now in
     (c .if1 .start + c .if1 .total * c .before .before .kind-width .result ≤ length b) × Left (passage (valueOf t (a .levels) (a .depth) (a .field)) b (a .at)) (a .pos) (a .out .now) (passage (itemsR (c .before .before .kind-width .result) (itemOf t (a .levels) (a .depth) (c .before .before .before .kind-at .result)) (c .if1 .total)) b (c .if1 .start)) (c .if1 .next) (c .if1 .out)
-show-value-items t c = let a = c .before .before .before .before .before .before .before .before .args in let R = c .before .before .before .before .before .before .before .before .pre .1 in let t = a .table .now in let b = a .bytes .now in let I = innerOf t (a .levels) in let es = enums t in let sw = widthOf t (a .depth) in let S = staticOf t (a .levels) (a .depth) in let f = fieldAt es (drop (a .field) t) in let k = c .before .before .before .kind-at .ensures es in
+show-value-items t c = let a = c .before .before .before .before .before .before .before .before .args in let R = c .before .before .before .before .before .before .before .before .pre .1 in let t = a .table .now in let b = a .bytes .now in let I = innerOf lax t (a .levels) in let es = enums t in let sw = widthOf t (a .depth) in let S = staticOf lax t (a .levels) (a .depth) in let f = fieldAt es (drop (a .field) t) in let k = c .before .before .before .kind-at .ensures es in
     let iw = c .before .before .kind-width .ensures .0 es ∙ wide-kind t (a .index .now) (R .0) (a .depth) _ (rw (sym k) at (R .4)) in let o = sym (c .before .is-sequence .ensures es) in let L = begun _ _ _ (R .5) in
     ⊎-elim
     (λ w. let e = o ∙ w .0 .taken in let ip = ap (λ (n : ℕ). a .at + n) (w .1 .ensures .0) in let n = w .2 .ensures .0 in

@@ -4,7 +4,9 @@
 
 mod message;
 mod read;
+mod settings;
 mod sheet;
+mod store;
 mod supers;
 mod symbols;
 mod table;
@@ -12,13 +14,25 @@ mod widths;
 
 use super::table::TablePlan;
 use crate::question::{Kind, Question};
+use crate::Settings;
 
 /// A case and its answer: fault number and place, 0 and 0 if it is accepted.
 pub struct Edge {
     pub name: String,
     pub table: Vec<u8>,
+    /// The store and the customer it is asked under, where that matters.
+    pub settings: Option<(Vec<u8>, u16)>,
     pub question: Question,
     pub fault: (u8, usize),
+}
+
+impl Edge {
+    pub fn settings(&self) -> Settings<'_> {
+        match &self.settings {
+            Some((store, customer)) => Settings::of(store, *customer),
+            None => Settings::NONE,
+        }
+    }
 }
 
 /// No fault.
@@ -33,6 +47,8 @@ pub fn edges() -> Vec<Edge> {
     symbols::add(&mut edges);
     sheet::add(&mut edges);
     read::add(&mut edges);
+    store::add(&mut edges);
+    settings::add(&mut edges);
     edges.0
 }
 
@@ -40,7 +56,25 @@ struct Edges(Vec<Edge>);
 
 impl Edges {
     fn add(&mut self, name: &str, table: &[u8], question: Question, fault: (u8, usize)) {
-        self.0.push(Edge { name: name.to_string(), table: table.to_vec(), question, fault });
+        let (name, table) = (name.to_string(), table.to_vec());
+        self.0.push(Edge { name, table, settings: None, question, fault });
+    }
+
+    fn store(&mut self, name: &str, question: Question, fault: (u8, usize)) {
+        self.add(name, &[], question, fault);
+    }
+
+    /// A question about a message under a store and a customer.
+    fn under(
+        &mut self,
+        name: &str,
+        table: &[u8],
+        (store, customer): (&[u8], u16),
+        question: Question,
+        fault: (u8, usize),
+    ) {
+        let (name, table) = (name.to_string(), table.to_vec());
+        self.0.push(Edge { name, table, settings: Some((store.to_vec(), customer)), question, fault });
     }
 
     fn table(&mut self, name: &str, table: Vec<u8>, fault: (u8, usize)) {

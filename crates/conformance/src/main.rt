@@ -138,34 +138,48 @@ fn answer_addition(store: &mut [u8], customer: u16, item: u64) {
     print::sum(store);
 }
 
-// The question itself, in rooms of the lengths that the record asks for.
-fn ask(
-    r: Record,
-    table: &[u8],
-    store: &[u8],
-    customer: u16,
-    input: &mut [u8],
-    scratch: &mut [u8],
-    sheet: &mut [u8],
-    output: &mut [u8],
-) {
+// A question about a store, which is the input.
+fn ask_store(r: Record, store: &mut [u8]) {
+    let kind = r.kind;
+    match kind {
+        9 => print::verdict(codec::check_store(store)),
+        10 => print::setting(codec::read_settings(store, low_two(r.field), low_two(r.item))),
+        _ => answer_addition(store, low_two(r.field), r.item),
+    }
+}
+
+// A question that writes nothing but the scratch.
+fn ask(r: Record, table: &[u8], store: &[u8], customer: u16, input: &mut [u8], scratch: &mut [u8]) {
     let kind = r.kind;
     let field = r.field as usize;
     let item = r.item as usize;
     match kind {
         2 => answer_check(table, store, customer, input, scratch),
-        3 => answer_sheet(table, store, customer, input, scratch, sheet),
-        4 => answer_write(table, input, output),
-        5 => answer_rewrite(table, store, customer, input, scratch, sheet, output),
         6 => answer_number(table, store, customer, input, scratch, field, item),
         7 => answer_bytes(table, store, customer, input, scratch, field, item),
-        9 => print::verdict(codec::check_store(input)),
-        10 => print::setting(codec::read_settings(input, low_two(r.field), low_two(r.item))),
-        _ => answer_addition(input, low_two(r.field), r.item),
+        _ => ask_store(r, input),
     }
 }
 
-// Cuts the rooms to these lengths.
+// A question that writes a sheet or a message.
+fn ask_writing(
+    kind: usize,
+    table: &[u8],
+    store: &[u8],
+    customer: u16,
+    input: &[u8],
+    scratch: &mut [u8],
+    sheet: &mut [u8],
+    output: &mut [u8],
+) {
+    match kind {
+        3 => answer_sheet(table, store, customer, input, scratch, sheet),
+        4 => answer_write(table, input, output),
+        _ => answer_rewrite(table, store, customer, input, scratch, sheet, output),
+    }
+}
+
+// Cuts the rooms to the lengths that the record asks for.
 fn answer(
     r: Record,
     table: &[u8],
@@ -186,6 +200,19 @@ fn answer(
     if sheet.len() < room || output.len() < written {
         return;
     }
+    if is_writing(r.kind) {
+        ask_writing(
+            r.kind,
+            table,
+            store,
+            customer,
+            &input[0..length],
+            &mut scratch[0..lent],
+            &mut sheet[0..room],
+            &mut output[0..written],
+        );
+        return;
+    }
     ask(
         r,
         table,
@@ -193,10 +220,11 @@ fn answer(
         customer,
         &mut input[0..length],
         &mut scratch[0..lent],
-        &mut sheet[0..room],
-        &mut output[0..written],
     );
-    print::end_line();
+}
+
+fn is_writing(kind: usize) -> bool {
+    3 <= kind && kind <= 5
 }
 
 // Under what is in force.
@@ -225,6 +253,31 @@ fn answer_under(
         sheet,
         output,
     );
+    print::end_line();
+}
+
+fn hold_table(fd: i32, r: Record, table: &mut [u8], held: Held) -> Step {
+    record::load(fd, table, r.stored, r.length);
+    Step {
+        more: true,
+        held: Held {
+            table: r.length,
+            store: held.store,
+            customer: held.customer,
+        },
+    }
+}
+
+fn hold_store(fd: i32, r: Record, store: &mut [u8], held: Held) -> Step {
+    record::load(fd, store, r.stored, r.length);
+    Step {
+        more: true,
+        held: Held {
+            table: held.table,
+            store: r.length,
+            customer: low_two(r.field),
+        },
+    }
 }
 
 // Takes one record: a table or a store to hold, or a question to answer.
@@ -239,37 +292,23 @@ fn take(
     output: &mut [u8; 65600],
 ) -> Step {
     let r = record::next(fd);
-    let mut next = held;
     if r.last {
-        return Step {
-            more: false,
-            held: next,
-        };
+        return Step { more: false, held };
     }
     let kind = r.kind;
     match kind {
-        0 => {
-            record::load(fd, table, r.stored, r.length);
-            next.table = r.length;
-        }
+        0 => hold_table(fd, r, table, held),
         1 => {
-            record::load(fd, table, r.stored, r.length);
-            next.table = r.length;
+            let step = hold_table(fd, r, table, held);
             answer_table(table, r.length);
+            step
         }
-        8 => {
-            record::load(fd, store, r.stored, r.length);
-            next.store = r.length;
-            next.customer = low_two(r.field);
-        }
+        8 => hold_store(fd, r, store, held),
         _ => {
             record::load(fd, input, r.stored, r.length);
             answer_under(r, table, store, held, input, scratch, sheet, output);
+            Step { more: true, held }
         }
-    }
-    Step {
-        more: true,
-        held: next,
     }
 }
 

@@ -38,6 +38,7 @@ test:
 	.ci/run
 
 SAMPLES = samples/blank.table samples/good.message samples/dusty.message
+UNDER = --under samples/customers.store 12 samples/blank.table samples/rubbish.message
 
 # The examples in C and Rust, on the stored samples, and the Rust wrapper's tests. Not part of the gate.
 examples:
@@ -45,7 +46,9 @@ examples:
 	mkdir -p target/examples
 	$(CC) -std=c99 -Wall -Wextra -Wpedantic -Werror -Iinclude examples/check.c target/staticlib/libcapi.a -o target/examples/check
 	target/examples/check $(SAMPLES)
+	target/examples/check $(UNDER)
 	cargo run --offline --quiet --manifest-path bindings/rust/Cargo.toml --example check -- $(SAMPLES)
+	cargo run --offline --quiet --manifest-path bindings/rust/Cargo.toml --example check -- $(UNDER)
 	cargo test --offline --quiet --manifest-path bindings/rust/Cargo.toml
 
 # Timings beside the same loops in Rust, beside the second program and, where Debian's libflatbuffers-dev and

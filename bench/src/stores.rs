@@ -9,10 +9,10 @@ fn record(customer: u16, version: u16, flags: [u8; 3]) -> Vec<u8> {
     record
 }
 
-/// Three customers; the last one's settings ignore everything.
-pub fn three() -> Vec<u8> {
+/// Three customers, with room for so many records in all; the last one's settings ignore everything.
+pub fn three(room: usize) -> Vec<u8> {
     let mut store = [record(1, 1, [0, 1, 0]), record(2, 1, [1, 0, 1]), record(3, 1, [1, 1, 1])].concat();
-    store.resize(90, 0);
+    store.resize(9 * room, 0);
     store
 }
 

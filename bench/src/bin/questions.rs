@@ -121,12 +121,13 @@ fn main() {
     }
     time_readings(&cases[0]);
     for (name, store) in [
-        ("3 records", stores::three()),
+        ("3 records", stores::three(3)),
+        ("3 records, room for 10", stores::three(10)),
         ("100 customers", stores::customers(100)),
         ("7,281 customers", stores::customers(7_281)),
         ("1 MiB of 65,536 customers in turn", stores::hostile()),
     ] {
         time_store(name, &store);
     }
-    time_settings(&cases[0], &stores::three(), 3);
+    time_settings(&cases[0], &stores::three(10), 3);
 }

@@ -6,13 +6,16 @@ use Rattle.codec.proofs.message_to_sheet.Statement.{statement}
 use Rattle.codec.proofs.message_to_sheet.Tie as tie
 
 sheet-of-requires : tie.Need-sheet-of-requires
-sheet-of-requires c κs = (under (c .before .before .before .before .before .before .before .before .before .before .before .before .before .before .before .before .args .store .now) (c .before .before .before .before .before .before .before .before .before .before .before .before .before .before .before .before .args .customer) (length (c .before .before .before .before .before .before .before .before .before .before .before .before .before .before .before .before .args .scratch .now)), c .before .before .before .before .before .before .before .before .open-message .ensures .0 .opens _ (c .before .before .before .walked .given .1))
+sheet-of-requires c κs = let a = c .before .before .before .before .before .before .before .before .before .before .before .before .before .before .before .before .args in
+    (under (a .store .now) (a .customer) (length (a .scratch .now)), c .before .before .before .before .before .before .before .before .open-message .ensures .0 .opens _ (c .before .before .before .walked .given .1))
 
 returns : tie.Need-returns
-returns c = let x = c .before .before .sheet-of .ensures (under (c .before .before .before .before .before .before .before .before .before .before .before .before .before .before .before .before .before .before .before .args .store .now) (c .before .before .before .before .before .before .before .before .before .before .before .before .before .before .before .before .before .before .before .args .customer) (length (c .before .before .before .before .before .before .before .before .before .before .before .before .before .before .before .before .before .before .before .args .scratch .now))) (c .before .before .before .before .before .before .before .before .before .before .before .open-message .ensures .0 .opens _ (c .before .before .before .before .before .before .walked .given .1)) in (x .0, (c .before .before .before .before .before .before .before .before .before .before .before .open-message .ensures .1, x .1))
+returns c = let a = c .before .before .before .before .before .before .before .before .before .before .before .before .before .before .before .before .before .before .before .args in
+    let x = c .before .before .sheet-of .ensures (under (a .store .now) (a .customer) (length (a .scratch .now))) (c .before .before .before .before .before .before .before .before .before .before .before .open-message .ensures .0 .opens _ (c .before .before .before .before .before .before .walked .given .1)) in (x .0, (c .before .before .before .before .before .before .before .before .before .before .before .open-message .ensures .1, x .1))
 
 returns-2 : tie.Need-returns-2
-returns-2 c = let x = writes-nothing _ _ _ (c .before .before .before .before .before .before .before .before .before .before .before .before .before .before .args .sheet .now) (sheet-refused (c .before .before .before .before .before .before .before .before .before .before .before .before .before .before .args .table .now) (c .before .before .before .before .before .before .before .before .before .before .before .before .before .before .args .message .now) (under (c .before .before .before .before .before .before .before .before .before .before .before .before .before .before .args .store .now) (c .before .before .before .before .before .before .before .before .before .before .before .before .before .before .args .customer) (length (c .before .before .before .before .before .before .before .before .before .before .before .before .before .before .args .scratch .now))) (length (c .before .before .before .before .before .before .before .before .before .before .before .before .before .before .args .sheet .now)) _ _ (c .before .before .before .before .before .before .open-message .ensures .0 .refuses _ _ (c .before .walked2 .given .1))) in (x .0, (c .before .before .before .before .before .before .open-message .ensures .1, x .1))
+returns-2 c = let a = c .before .before .before .before .before .before .before .before .before .before .before .before .before .before .args in
+    let x = writes-nothing _ _ _ (a .sheet .now) (sheet-refused (a .table .now) (a .message .now) (under (a .store .now) (a .customer) (length (a .scratch .now))) (length (a .sheet .now)) _ _ (c .before .before .before .before .before .before .open-message .ensures .0 .refuses _ _ (c .before .walked2 .given .1))) in (x .0, (c .before .before .before .before .before .before .open-message .ensures .1, x .1))
 
 pub message-to-sheet-spec : {M : Type 1} → statement M
 message-to-sheet-spec =

@@ -17,11 +17,14 @@ read-bytes-requires c κs = let K = c .before .before .before .before .before .b
 
 returns : tie.Need-returns
 unfolding bytesIn startOf
-returns c = let e = part-read (c .before .before .before .before .before .before .before .before .before .before .before .before .before .before .before .args .table .now) (c .before .before .before .before .before .before .before .before .before .before .before .before .before .before .before .args .message .now) (under (c .before .before .before .before .before .before .before .before .before .before .before .before .before .before .before .args .store .now) (c .before .before .before .before .before .before .before .before .before .before .before .before .before .before .before .args .customer) (length (c .before .before .before .before .before .before .before .before .before .before .before .before .before .before .before .args .scratch .now))) (c .before .before .before .before .before .before .before .before .before .before .before .before .before .before .before .args .field) (c .before .before .before .before .before .before .before .before .before .before .before .before .before .before .before .args .item) _ _ (c .before .before .before .before .before .before .before .before .open-message .ensures .0 .opens _ (c .before .before .before .walked .given .1) .means) in (c .read-bytes .ensures .0 ∙ sym (ap (bytesIn (c .before .before .before .before .before .before .before .before .before .before .before .before .before .before .before .args .message .now)) e), (c .read-bytes .ensures .1 .0, (c .read-bytes .ensures .1 .1 ∙ sym (ap (λ (q : Part). ptr (c .before .before .before .before .before .before .before .before .before .before .before .before .before .before .before .args .message) .1 + startOf q) e), c .before .before .before .before .before .before .before .before .open-message .ensures .1)))
+returns c = let a = c .before .before .before .before .before .before .before .before .before .before .before .before .before .before .before .args in
+    let e = part-read (a .table .now) (a .message .now) (under (a .store .now) (a .customer) (length (a .scratch .now))) (a .field) (a .item) _ _ (c .before .before .before .before .before .before .before .before .open-message .ensures .0 .opens _ (c .before .before .before .walked .given .1) .means) in (c .read-bytes .ensures .0 ∙ sym (ap (bytesIn (a .message .now)) e), (c .read-bytes .ensures .1 .0, (c .read-bytes .ensures .1 .1 ∙ sym (ap (λ (q : Part). ptr (a .message) .1 + startOf q) e), c .before .before .before .before .before .before .before .before .open-message .ensures .1)))
 
 returns-2 : tie.Need-returns-2
 unfolding bytesIn startOf
-returns-2 c = let e = part-refused (c .before .before .before .before .before .before .before .before .before .before .before .before .before .before .args .table .now) (c .before .before .before .before .before .before .before .before .before .before .before .before .before .before .args .message .now) (under (c .before .before .before .before .before .before .before .before .before .before .before .before .before .before .args .store .now) (c .before .before .before .before .before .before .before .before .before .before .before .before .before .before .args .customer) (length (c .before .before .before .before .before .before .before .before .before .before .before .before .before .before .args .scratch .now))) (c .before .before .before .before .before .before .before .before .before .before .before .before .before .before .args .field) (c .before .before .before .before .before .before .before .before .before .before .before .before .before .before .args .item) _ _ (c .before .before .before .before .before .before .before .open-message .ensures .0 .refuses _ _ (c .before .before .walked2 .given .1)) in let z : 0 + ptr (c .before .before .before .before .before .before .before .before .before .before .before .before .before .before .args .message) .1 ≡ ptr (c .before .before .before .before .before .before .before .before .before .before .before .before .before .before .args .message) .1 + 0 = omega arith in (sym (ap (bytesIn (c .before .before .before .before .before .before .before .before .before .before .before .before .before .before .args .message .now)) e), (refl, (z ∙ sym (ap (λ (q : Part). ptr (c .before .before .before .before .before .before .before .before .before .before .before .before .before .before .args .message) .1 + startOf q) e), c .before .before .before .before .before .before .before .open-message .ensures .1)))
+returns-2 c = let a = c .before .before .before .before .before .before .before .before .before .before .before .before .before .before .args in
+    let e = part-refused (a .table .now) (a .message .now) (under (a .store .now) (a .customer) (length (a .scratch .now))) (a .field) (a .item) _ _ (c .before .before .before .before .before .before .before .open-message .ensures .0 .refuses _ _ (c .before .before .walked2 .given .1)) in
+    let z : 0 + ptr (a .message) .1 ≡ ptr (a .message) .1 + 0 = omega arith in (sym (ap (bytesIn (a .message .now)) e), (refl, (z ∙ sym (ap (λ (q : Part). ptr (a .message) .1 + startOf q) e), c .before .before .before .before .before .before .before .open-message .ensures .1)))
 
 pub read-bytes-spec : {M : Type 1} → statement M
 read-bytes-spec =

@@ -11,8 +11,8 @@ use Rattle.table.proofs.Claims.{accepted-tables}
 use Rattle.settings.specs.Store.{lax, storeVerdict, governing}
 use Rattle.store.proofs.Claims.{sound-of}
 use Rattle.message.specs.Walk.{done, walk}
-use Rattle.message.specs.Conforms.{typeId}
-use Rattle.message.proofs.Ignorable.{walk-same}
+use Rattle.meaning.specs.Conforms.{typeId}
+use Rattle.meaning.proofs.Ignorable.{walk-same}
 use Rattle.reading.specs.Item.{itemFrom, itemOf}
 use Rattle.reading.proofs.Items.{item-front}
 use Rattle.reading.proofs.Alike.{walk-laxer, laxest}

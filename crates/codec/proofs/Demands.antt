@@ -20,11 +20,11 @@ use Rattle.settings.specs.declared.Ignored.{Ignored}
 use Rattle.settings.specs.Store.{strict, storeVerdict, governing}
 use Rattle.store.proofs.Claims.{claims, sound-of}
 use Rattle.message.specs.Walk.{Reading, refused, done, walk, messageR}
-use Rattle.message.specs.Proper.{Proper}
-use Rattle.message.specs.Conforms.{Conforms}
-use Rattle.message.proofs.Accepted.{accepted-conforms}
-use Rattle.message.proofs.Sat.{Sat, sat-is, sat-all, sat-need}
-use Rattle.message.proofs.Eleven.{eleven}
+use Rattle.meaning.specs.Proper.{Proper}
+use Rattle.meaning.specs.Conforms.{Conforms}
+use Rattle.meaning.proofs.Accepted.{accepted-conforms}
+use Rattle.meaning.proofs.Sat.{Sat, sat-is, sat-all, sat-need}
+use Rattle.meaning.proofs.Eleven.{eleven}
 use Rattle.reading.specs.declared.Part.{Part}
 use Rattle.reading.specs.declared.Part.the-variants.{Refusal, Lies}
 use Rattle.reading.specs.Part.{bytesIn}

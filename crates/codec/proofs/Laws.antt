@@ -24,8 +24,8 @@ use Rattle.schema.proofs.Depth.{and-both}
 use Rattle.table.specs.Measure.{soundKind, soundFields}
 use Rattle.table.proofs.Accepted as table
 use Rattle.message.specs.Count.{count}
-use Rattle.message.specs.Proper.{SizedKind, SizedFields, Sized}
-use Rattle.message.proofs.CheckExact.{after-exact}
+use Rattle.meaning.specs.Proper.{SizedKind, SizedFields, Sized}
+use Rattle.meaning.proofs.CheckExact.{after-exact}
 use Rattle.sheet.specs.Written.{Writing, stopped, wrote, sheetW, fitted, written}
 use Rattle.sheet.specs.Rewritten.{sheetIn, onward}
 use Rattle.sheet.proofs.RoundTrip as trip

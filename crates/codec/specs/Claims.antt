@@ -9,8 +9,8 @@ use Rattle.schema.specs.Schema.{fieldsOf, width, find, under}
 use Rattle.schema.specs.Table.{schema, tableVerdict}
 use Rattle.schema.specs.Forms.{Alike}
 use Rattle.settings.specs.Store.{storeVerdict}
-use Rattle.message.specs.Conforms.{typeId}
-use Rattle.message.specs.Ignorable.{SameValues}
+use Rattle.meaning.specs.Conforms.{typeId}
+use Rattle.meaning.specs.Ignorable.{SameValues}
 use Rattle.reading.specs.Item.{itemFrom, itemOf}
 use Rattle.sheet.specs.Rewritten.{Rooms}
 use Rattle.codec.specs.Demands.{Means}

@@ -10,7 +10,7 @@ use Rattle.schema.specs.declared.Verdict.the-variants.{Accepted, Refused}
 use Rattle.schema.specs.Table.{schema, tableVerdict}
 use Rattle.settings.specs.Store.{storeVerdict, governing}
 use Rattle.message.specs.Walk.{done}
-use Rattle.message.specs.Conforms.{Conforms}
+use Rattle.meaning.specs.Conforms.{Conforms}
 use Rattle.reading.specs.Part.{bytesIn}
 use Rattle.reading.specs.declared.Number.the-variants.{Refused as NotRead}
 use Rattle.sheet.specs.Written.{stopped, wrote, sheetW}

@@ -86,7 +86,7 @@ module _ (y : Ignored) (I : Inner) (sw : ℕ → ℕ) (S : ℕ → Reader) (es :
 
 -- ONE FIELD
 
--- A count is that of n items of w bytes at p, behind k bytes of the sheet and with the marks m.
+-- A count is that of n items of w bytes at p, behind k bytes of the sheet and with the occupancy m.
 pub record ItemsAt (w : ℕ) (R : Reader) (h : Here) (c : Count) (n p k : ℕ) (m : List ℕ) : Type 0 where
   pub few : n < 2 ^ 32
   pub inside : p + n * w ≤ length (h .bytes)

@@ -11,19 +11,19 @@ use Rattle.wire.specs.Bytes.{part, splice, le}
 use Rattle.wire.proofs.Laws.{length-part, splice-nil}
 use Rattle.schema.specs.Faults.{need}
 use Rattle.schema.specs.Schema.{Group, textOk, width, find, known, allows}
-use Rattle.message.specs.Marks.{padsZero, padsBefore, mark}
+use Rattle.message.specs.Occupancy.{padsZero, padsBefore, occupy}
 use Rattle.message.specs.Sheet.{GB, XT, XU, GE}
 use Rattle.settings.specs.declared.Ignored.{Ignored}
 use Rattle.message.specs.Walk.{Reading, refused, done, prefixed, next, Here, here, Inner, word, locate, indirectR, innerR, itemsR, listR, textR, staticR, extendingR, groupsR, extensionR, extensionIn, behindR, padded, bodyR, headR, groupR, walk}
 use Rattle.message.specs.Count.{Count, failed, counted, count, more, andThen}
-use Rattle.message.specs.Check.{packed, marksOf, closing, countBy, after, placeBy}
+use Rattle.message.specs.Check.{packed, occupancyOf, closing, countBy, after, placeBy}
 use Rattle.message.specs.declared.Step.{Step}
 use Rattle.message.specs.declared.Step.the-variants.{Counted}
 use Rattle.message.specs.declared.Located.{Located}
 use Rattle.message.specs.declared.Located.the-variants.{At, Nowhere}
 use Rattle.message.proofs.Tests.{or-right}
 use Rattle.message.proofs.Count.{more-zero, more-more, then-then, then-passed, count-next, count-prefixed, count-marked, count-list, count-inner, length-mark}
-use Rattle.message.proofs.CheckMarks.{packed-is, not-scattered}
+use Rattle.message.proofs.CheckOccupancy.{packed-is, not-scattered}
 use Rattle.message.proofs.CheckAnswers.{stays, goes-on, passed, bounded}
 use Rattle.message.proofs.CheckFields.{leads-nowhere, leads-to}
 
@@ -113,7 +113,7 @@ module _ (y : Ignored) (gs : List Group) (I : Inner) (g base : ℕ) (b : List �
     unfolding bodyR behindR need
     body-is e = rw (← ia, le-leb a (length b) l, e) (closes y (part 8 4 b) b base a _ (length-part 8 4 b (omega arith)))
 
-    -- the fields and what is behind them, on marks that are all 0 and behind the eight bytes of the id
+    -- the fields and what is behind them, on an occupancy of zeros and behind the eight bytes of the id
     pub body-begins : extensionIn (here y b base a) 12 ≡ true → (k j : ℕ) → j ≡ (k + 8) % 2 ^ 64 → (o : List ℕ) → o ≡ replicate (length b) 0
         → after k (count (bodyR y gs I g base b))
         ≡ after j (andThen (count (staticR gs I 5 g (here y b base a) 16 o)) (λ m. andThen (count (extensionR gs I (here y b base a) 12 m)) (closing (here y b base a))))
@@ -202,8 +202,8 @@ pub cleared : (m : List ℕ) (n : ℕ) → n ≡ length m → splice n 0 (replic
 cleared m n e = let h : length m ≤ n = omega arith in rw (drop-of-length-le m h) (append-nil _)
 
 -- nothing is taken yet
-pub nothing-taken : (a : ℕ) (m b : List ℕ) → length m ≡ length b → a < 131072 → marksOf a a m ≡ replicate (length b) 0
-unfolding marksOf mark
+pub nothing-taken : (a : ℕ) (m b : List ℕ) → length m ≡ length b → a < 131072 → occupancyOf a a m ≡ replicate (length b) 0
+unfolding occupancyOf occupy
 nothing-taken a m b e h =
     let k : min (packed a) (length m) - a ≡ 0 = omega (arith, packed-is a h) in
     rw (k, not-scattered a h, splice-nil a (replicate (length m) 0), e)

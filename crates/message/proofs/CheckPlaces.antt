@@ -1,4 +1,4 @@
--- Where an offset leads, and the marks of what was found.
+-- Where an offset leads, and the occupancy of what was found.
 use Prim.Native.Nat.{ℕ, zero, suc, _+_, _-_, _*_, _<_, _≤_, _^_}
 use mathlib.Core.Path.{_≡_, refl, sym}
 use mathlib.Core.Bool.{Bool, true, false, not, _&&_, _||_, and-assoc, and-true}
@@ -10,8 +10,8 @@ use lib.Dec.{eqb}
 use borrow.Author.Tests.{lt-ltb, le-ltb, le-leb, lt-leb, ne-eqb}
 use Rattle.wire.proofs.Laws.{drop-more}
 use Rattle.schema.specs.Faults.{need}
-use Rattle.message.specs.Marks.{free, mark, padsZero, padsBefore}
-use Rattle.message.proofs.CheckMarks.{mark-twice}
+use Rattle.message.specs.Occupancy.{free, occupy, padsZero, padsBefore}
+use Rattle.message.proofs.CheckOccupancy.{occupy-twice}
 use Rattle.settings.specs.declared.Ignored.{Ignored}
 use Rattle.message.specs.Walk.{lost, found, here, word, inArea, locate}
 use Rattle.message.specs.Check.{placeBy, Claims, Lands}
@@ -33,9 +33,9 @@ module _ (F : ℕ → List ℕ) where
   pub claims-nowhere : (p n k x y : ℕ) → Claims F p n k (Nowhere x y)
   claims-nowhere p n k x y = record { place = λ q j s e. never x y q j s e; word = λ q j s e. never x y q j s e; taken = λ q j s e. never x y q j s e }
 
-  pub claims-at : (p n k : ℕ) (s : ℕ) (m : List ℕ) → mark p k m ≡ F s → p + k ≤ length m → Claims F p n k (At p n s)
+  pub claims-at : (p n k : ℕ) (s : ℕ) (m : List ℕ) → occupy p k m ≡ F s → p + k ≤ length m → Claims F p n k (At p n s)
   claims-at p n k s m e l =
-      let t : mark p k (F s) ≡ F s = rw (← e) (mark-twice p k m l) in
+      let t : occupy p k (F s) ≡ F s = rw (← e) (occupy-twice p k m l) in
       record { place = λ q j x r. told q p j n s x r .0; word = λ q j x r. told q p j n s x r .1; taken = λ q j x r. rw (told q p j n s x r .2) t }
 
   pub lands-nowhere : (w : ℕ) (b : List ℕ) (x y : ℕ) → Lands F w b (Nowhere x y)
@@ -69,18 +69,18 @@ module _ (y : Ignored) (F : ℕ → List ℕ) (past w : ℕ) (b : List ℕ) (bas
     unfolding placeBy locate need inArea
     over q = rw (← io, ← ip, ← in′, ← ik, le-leb area p h, lt-ltb p (length b) g, le-leb (p + 4) (length b) l, lt-leb (p + k) (length b) q)
 
-    pub claims : p + k ≤ length b → need (free p k m) (lost 27 (base + p)) (found p n (mark p k m)) ≡ locate past w (here y b base area) at m
+    pub claims : p + k ≤ length b → need (free p k m) (lost 27 (base + p)) (found p n (occupy p k m)) ≡ locate past w (here y b base area) at m
     unfolding locate need inArea
     claims q = rw (← io, ← ip, ← in′, ← ik, le-leb area p h, lt-ltb p (length b) g, le-leb (p + 4) (length b) l, le-leb (p + k) (length b) q)
 
 -- CLAIM
 
 module _ (F : ℕ → List ℕ) (base p n k : ℕ) (m : List ℕ) where
-  pub claim-shared : free p k m ≡ false → placeBy F (Nowhere 27 (base + p)) ≡ need (free p k m) (lost 27 (base + p)) (found p n (mark p k m))
+  pub claim-shared : free p k m ≡ false → placeBy F (Nowhere 27 (base + p)) ≡ need (free p k m) (lost 27 (base + p)) (found p n (occupy p k m))
   unfolding placeBy need
   claim-shared e = rw e
 
-  pub claim-free : (s : ℕ) → free p k m ≡ true → mark p k m ≡ F s → placeBy F (At p n s) ≡ need (free p k m) (lost 27 (base + p)) (found p n (mark p k m))
+  pub claim-free : (s : ℕ) → free p k m ≡ true → occupy p k m ≡ F s → placeBy F (At p n s) ≡ need (free p k m) (lost 27 (base + p)) (found p n (occupy p k m))
   unfolding placeBy need
   claim-free s e f = rw (e, f)
 

@@ -7,7 +7,7 @@ use Rattle.schema.specs.declared.Scope.{Scope}
 use Rattle.schema.specs.declared.Scope.the-variants.{Whole, Fields}
 use Rattle.message.specs.Walk.{Here}
 use Rattle.message.specs.Count.{Count, failed, count}
-use Rattle.message.specs.Check.{levelsIn, ignoredIn, marksOf, countBy, after, within, innerOf, Ready}
+use Rattle.message.specs.Check.{levelsIn, ignoredIn, occupancyOf, countBy, after, within, innerOf, Ready}
 use Rattle.message.specs.Scopes.{groupOf, behindOf, leftOf, Lies, Inside, Begins, Opens}
 use Rattle.message.specs.declared.Frame.{Frame}
 use Rattle.message.specs.declared.Step.{Step}
@@ -33,7 +33,7 @@ module _ (o f : Frame) where
   inside-long (Whole x) i n l a e = omega (arith, i .1, l)
   inside-long (Fields g) i n l a e = absurd (let c : _≡_ {A = ℕ} 0 1 = cc in omega arith)
 
-  -- the marks that go out are those of the frame around it
+  -- the occupancy that goes out is that of the frame around it
   pub inside-left : (z : Scope) → Inside z o f → (m : List ℕ) (r : Step) → countBy (λ s. leftOf z (o .area) s m) r ≡ countBy (λ s. leftOf z (f .area) s m) r
   inside-left (Whole a) i m r = refl
   inside-left (Fields g) i m r = rw i refl
@@ -56,11 +56,11 @@ module _ (t i b m : List ℕ) (o : Frame) (d at k : ℕ) (z : Scope) where
       subst (λ z. Lies t d z b at → Opens t i b m o d z at k (count (groupOf t (levelsIn (o .rules)) d z (within b o) at s)) r) (sym e) (λ F. rw (F .0, F .1) h) F
 
   pub opens-static : (g : ℕ) → z ≡ Fields g → Ready t i b m o → Lies t d z b at → (s : ℕ)
-      → Opens t i b m o d z at k (count (groupOf t (levelsIn (o .rules)) d z (within b o) at (marksOf (o .area) s m))) (Begun g o s k)
+      → Opens t i b m o d z at k (count (groupOf t (levelsIn (o .rules)) d z (within b o) at (occupancyOf (o .area) s m))) (Begun g o s k)
   unfolding Opens
   opens-static g e R F s =
       subst
-      (λ z. Lies t d z b at → Begins t i b m o d z at k (count (groupOf t (levelsIn (o .rules)) d z (within b o) at (marksOf (o .area) s m))) g o s k)
+      (λ z. Lies t d z b at → Begins t i b m o d z at k (count (groupOf t (levelsIn (o .rules)) d z (within b o) at (occupancyOf (o .area) s m))) g o s k)
       (sym e)
       (λ F. record { ready = R; fits = F; inside = refl; counts = ap (after k) (sym (then-nothing _)) })
       F
@@ -71,6 +71,6 @@ module _ (t : List ℕ) (n : ℕ) (h : Here) (m : List ℕ) (area : ℕ) (x : Li
   pub closes-dynamic : (a : ℕ) → z ≡ Whole a → (r : Step) → countBy (λ _. []) r ≡ after k (behindOf t n (Whole a) h m) → countBy (λ s. leftOf z area s x) r ≡ after k (behindOf t n z h m)
   closes-dynamic a e r q = subst (λ z. countBy (λ s. leftOf z area s x) r ≡ after k (behindOf t n z h m)) (sym e) q
 
-  pub closes-static : (g : ℕ) → z ≡ Fields g → (s : ℕ) → m ≡ marksOf area s x → k < 2 ^ 64 → countBy (λ s. leftOf z area s x) (Counted k s) ≡ after k (behindOf t n z h m)
+  pub closes-static : (g : ℕ) → z ≡ Fields g → (s : ℕ) → m ≡ occupancyOf area s x → k < 2 ^ 64 → countBy (λ s. leftOf z area s x) (Counted k s) ≡ after k (behindOf t n z h m)
   closes-static g e s q l =
-      subst (λ z. countBy (λ s. leftOf z area s x) (Counted k s) ≡ after k (behindOf t n z h m)) (sym e) (stays (λ s. marksOf area s x) k _ s (rw q refl) l)
+      subst (λ z. countBy (λ s. leftOf z area s x) (Counted k s) ≡ after k (behindOf t n z h m)) (sym e) (stays (λ s. occupancyOf area s x) k _ s (rw q refl) l)

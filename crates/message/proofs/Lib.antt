@@ -1,17 +1,5 @@
 pub mod Count
 pub mod Tests
-pub mod Marking
-pub mod Sat
-pub mod Utf8
-pub mod Lookups
-pub mod Values
-pub mod Judged
-pub mod Extents
-pub mod Holders
-pub mod Agree
-pub mod Accepted
-pub mod Ignorable
-pub mod Eleven
 pub mod Rules
 pub mod CheckAnswers
 pub mod CheckPlaces
@@ -19,5 +7,4 @@ pub mod CheckValues
 pub mod CheckFields
 pub mod CheckGroups
 pub mod CheckScopes
-pub mod CheckMarks
-pub mod CheckExact
+pub mod CheckOccupancy

@@ -10,7 +10,7 @@ use Rattle.schema.specs.Schema.{Kind, Field, width}
 use Rattle.schema.specs.Table.{schema}
 use Rattle.schema.specs.Layout.{Layout}
 use Rattle.settings.specs.declared.Ignored.{Ignored}
-use Rattle.message.specs.Marks.{mark, padsZero, padsBefore}
+use Rattle.message.specs.Occupancy.{occupy, padsZero, padsBefore}
 use Rattle.message.specs.Sheet.{kindMark, fieldMark}
 use Rattle.message.specs.Walk.{Here, here, Reader, Inner, Place, lost, found, markedR, kindR, valueR, staticR, groupR}
 use Rattle.message.specs.Count.{Count, failed, counted}
@@ -32,7 +32,7 @@ unfoldable pub ignoredIn : ℕ → Ignored
 ignoredIn n = record { absent = eqb (n / 16 % 2) 1; pads = leb 2 (n / 16 % 4); unused = leb 4 (n / 16) }
 
 -- MARKS
--- The code keeps no mark for the values that stand one behind the other from the data area's start on, as most do: it knows where they end.
+-- The code keeps no occupancy of the values that stand one behind the other from the data area's start on, as most do: it knows where they end.
 -- Until a value stands elsewhere the scratch is not looked at.
 
 -- What is taken, as one number: where the packed values end, with 2^17 added once a value stood elsewhere.
@@ -42,18 +42,18 @@ packed s = s % 131072
 unfoldable pub scattered : ℕ → Bool
 scattered s = leb 131072 s
 
--- The marks of a group with its data area at a, where s is taken and the scratch is m.
-unfoldable pub marksOf : ℕ → ℕ → List ℕ → List ℕ
-marksOf a s m = mark a (min (packed s) (length m) - a) (cond (scattered s) m (replicate (length m) 0))
+-- The occupancy of a group with its data area at a, where s is taken and the scratch is m.
+unfoldable pub occupancyOf : ℕ → ℕ → List ℕ → List ℕ
+occupancyOf a s m = occupy a (min (packed s) (length m) - a) (cond (scattered s) m (replicate (length m) 0))
 
 -- ANSWERS
 
--- The answer of a step of the walk; F gives the marks of what is taken.
+-- The answer of a step of the walk; F gives the occupancy of what is taken.
 unfoldable pub countBy : (ℕ → List ℕ) → Step → Count
 countBy F (Counted k s) = counted k (F s)
 countBy F (Refused n p) = failed n p
 
--- The whole walk's answer, with marks m.
+-- The whole walk's answer, with occupancy m.
 unfoldable pub countOf : Walked → List ℕ → Count
 countOf (Whole k) m = counted k m
 countOf (Failed n p) m = failed n p
@@ -72,13 +72,13 @@ placeBy F (Nowhere n p) = lost n p
 pub record Claims (F : ℕ → List ℕ) (p n k : ℕ) (r : Located) : Type 0 where
   pub place : (q j s : ℕ) → r ≡ At q j s → q ≡ p
   pub word : (q j s : ℕ) → r ≡ At q j s → j ≡ n
-  pub taken : (q j s : ℕ) → r ≡ At q j s → mark p k (F s) ≡ F s
+  pub taken : (q j s : ℕ) → r ≡ At q j s → occupy p k (F s) ≡ F s
 
 -- A value that was found has a count of four bytes, lies in the bytes b, and is taken.
 pub record Lands (F : ℕ → List ℕ) (w : ℕ) (b : List ℕ) (r : Located) : Type 0 where
   pub four : (p n : ℕ) (s : ℕ) → r ≡ At p n s → n < 2 ^ 32
   pub inside : (p n : ℕ) (s : ℕ) → r ≡ At p n s → p + (4 + n * w) ≤ length b
-  pub taken : (p n : ℕ) (s : ℕ) → r ≡ At p n s → mark p (4 + n * w) (F s) ≡ F s
+  pub taken : (p n : ℕ) (s : ℕ) → r ≡ At p n s → occupy p (4 + n * w) (F s) ≡ F s
 
 -- What comes behind a group's fields and its extension: "6", and the group's end mark.
 unfoldable pub closing : Here → List ℕ → Count

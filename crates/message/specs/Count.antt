@@ -17,7 +17,7 @@ unfoldable pub more : ℕ → Count → Count
 more k (failed n p) = failed n p
 more k (counted j m) = counted (k + j) m
 
--- One count and then, with the marks that it leaves, another.
+-- One count and then, with the occupancy that it leaves, another.
 unfoldable pub andThen : Count → (List ℕ → Count) → Count
 andThen (failed n p) f = failed n p
 andThen (counted k m) f = more k (f m)

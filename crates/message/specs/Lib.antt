@@ -1,11 +1,6 @@
-pub mod Marks
+pub mod Occupancy
 pub mod Sheet
 pub mod Walk
 pub mod Count
 pub mod Check
 pub mod Scopes
-pub mod Text
-pub mod Conforms
-pub mod Proper
-pub mod Ignorable
-pub mod Cases

@@ -10,7 +10,7 @@ use Rattle.schema.specs.declared.Scope.{Scope}
 use Rattle.schema.specs.declared.Scope.the-variants.{Whole, Fields}
 use Rattle.message.specs.Walk.{Here, Reader, extensionR}
 use Rattle.message.specs.Count.{Count, failed, counted, count, andThen}
-use Rattle.message.specs.Check.{levelsIn, ignoredIn, marksOf, closing, after, within, innerOf, widthOf, staticOf, Ready}
+use Rattle.message.specs.Check.{levelsIn, ignoredIn, occupancyOf, closing, after, within, innerOf, widthOf, staticOf, Ready}
 use Rattle.message.specs.declared.Frame.{Frame}
 use Rattle.message.specs.declared.Opened.{Opened}
 use Rattle.message.specs.declared.Opened.the-variants.{Begun, Refused}
@@ -25,10 +25,10 @@ abbrev pub behindOf : List ℕ → ℕ → Scope → Here → List ℕ → Count
 behindOf t levels (Whole a) h m = andThen (count (extensionR (schema t) (innerOf (h .ignored) t levels) h 12 m)) (closing h)
 behindOf t levels (Fields g) h m = counted 0 m
 
--- The marks that it leaves: a dynamic group's are its own.
+-- The occupancy that it leaves: a dynamic group's is its own.
 abbrev pub leftOf : Scope → ℕ → ℕ → List ℕ → List ℕ
 leftOf (Whole a) area s m = []
-leftOf (Fields g) area s m = marksOf area s m
+leftOf (Fields g) area s m = occupancyOf area s m
 
 -- Its fields stand at this place of the bytes b. Those of a dynamic group follow its head, and there is room for them once it is opened.
 abbrev pub Lies : List ℕ → ℕ → Scope → List ℕ → ℕ → Type 0
@@ -45,7 +45,7 @@ pub record Begins (t i b m : List ℕ) (o : Frame) (d : ℕ) (z : Scope) (at k :
   pub ready : Ready t i b m f
   pub fits : Lies t d (Fields g) b at
   pub inside : Inside z o f
-  pub counts : after k c ≡ after l (andThen (count (staticOf (ignoredIn (f .rules)) t (levelsIn (f .rules)) d g (within b f) at (marksOf (f .area) s m))) (behindOf t (levelsIn (f .rules)) z (within b f)))
+  pub counts : after k c ≡ after l (andThen (count (staticOf (ignoredIn (f .rules)) t (levelsIn (f .rules)) d g (within b f) at (occupancyOf (f .area) s m))) (behindOf t (levelsIn (f .rules)) z (within b f)))
 
 -- It is opened: begun, or refused by its first fault.
 unfoldable pub Opens : List ℕ → List ℕ → List ℕ → List ℕ → Frame → ℕ → Scope → ℕ → ℕ → Count → Opened → Type 0

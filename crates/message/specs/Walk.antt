@@ -12,12 +12,12 @@ use Rattle.wire.specs.Bytes.{part, le, bytesOf, allZero, zeros}
 use Rattle.schema.specs.Faults.{need}
 use Rattle.schema.specs.Schema.{Test, passes, testFault, textOk, Kind, plain, inline, indirect, static, dynamic, Field, Group, kindWidth, valueWidth, fieldWidth, fieldsOf, width, find, known, allows}
 use Rattle.settings.specs.declared.Ignored.{Ignored}
-use Rattle.message.specs.Marks.{free, mark, padsZero, padsBefore}
+use Rattle.message.specs.Occupancy.{free, occupy, padsZero, padsBefore}
 use Rattle.message.specs.Sheet.{Mark, GB, XT, XU, markBytes, NO, GE, kindMark, fieldMark}
 
 -- READINGS
 
--- A fault's number and place; or the sheet, and the marks that are left.
+-- A fault's number and place; or the sheet, and the occupancy that is left.
 pub data Reading : Type 0 where
   refused : ℕ → ℕ → Reading
   done : List ℕ → List ℕ → Reading
@@ -27,7 +27,7 @@ unfoldable pub prefixed : List ℕ → Reading → Reading
 prefixed s (refused n p) = refused n p
 prefixed s (done t m) = done (s ++ t) m
 
--- One reading and then, with the marks that it leaves, another.
+-- One reading and then, with the occupancy that it leaves, another.
 unfoldable pub next : Reading → (List ℕ → Reading) → Reading
 next (refused n p) f = refused n p
 next (done s m) f = prefixed s (f m)
@@ -43,7 +43,7 @@ pub record Here : Type 0 where
 abbrev pub here : Ignored → List ℕ → ℕ → ℕ → Here
 here x b base area = record { ignored = x; bytes = b; base = base; area = area }
 
--- The group, a place in its bytes, its marks.
+-- The group, a place in its bytes, its occupancy.
 abbrev pub Reader : Type 0
 Reader = Here → ℕ → List ℕ → Reading
 
@@ -103,7 +103,7 @@ inlineR u c h at m =
 unfoldable pub inArea : Here → ℕ → Bool
 inArea h p = leb (h .area) p && ltb p (length (h .bytes))
 
--- Where an offset leads: a fault; or the place, the count or size word there, and the marks with the value taken.
+-- Where an offset leads: a fault; or the place, the count or size word there, and the occupancy with the value taken.
 pub data Place : Type 0 where
   lost : ℕ → ℕ → Place
   found : ℕ → ℕ → List ℕ → Place
@@ -119,7 +119,7 @@ locate past w h at m =
     (need (leb (p + 4) (length b)) (lost 26 (h .base + p))
     (need (leb (p + (4 + n * w)) (length b)) (lost past (h .base + p))
     (need (free p (4 + n * w) m) (lost 27 (h .base + p))
-    (found p n (mark p (4 + n * w) m)))))
+    (found p n (occupy p (4 + n * w) m)))))
 
 -- ".. then the contents": `inside` reads them, from the word and its place on.
 unfoldable pub onward : Place → Here → (ℕ → Reader) → Reading
@@ -204,7 +204,7 @@ behindR R S h at m = need (extensionIn h at) (refused 3 (h .base + at)) (next (R
 
 -- A DYNAMIC GROUP
 
--- ".., 6", and no marks go out: a nested group's are its own.
+-- ".., 6", and no occupancy goes out: a nested group's is its own.
 unfoldable pub padded : Here → Reading → Reading
 padded h (refused n p) = refused n p
 padded h (done s m) =

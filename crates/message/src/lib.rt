@@ -18,17 +18,17 @@ ghost use Rattle.schema.specs.Layout.{widthIn, Layout};
 ghost use Rattle.schema.specs.FieldKinds.{kindFrom, testedKind, Widths};
 ghost use Rattle.schema.specs.declared.Scope.the-variants.{Whole};
 ghost use Rattle.settings.specs.declared.Ignored.{Ignored};
-ghost use Rattle.message.specs.Marks.{free, mark, padsZero, padsBefore};
+ghost use Rattle.message.specs.Occupancy.{free, occupy, padsZero, padsBefore};
 ghost use Rattle.message.specs.Sheet.{Mark, ST};
 ghost use Rattle.message.specs.Walk.{lost, found, Reader, Inner, byte, here, markedR, optionalR, indirectR, textR, innerR, locate, itemsR, fieldR, extendingR, extensionR, extensionIn, bodyR, walk};
 ghost use Rattle.message.specs.Count.{count, andThen, counted};
-ghost use Rattle.message.specs.Check.{levelsIn, ignoredIn, packed, scattered, marksOf, closing, countBy, countOf, after, placeBy, Claims, Lands, within, itemR, markedValueR, innerOf, widthOf, staticOf, Ready};
+ghost use Rattle.message.specs.Check.{levelsIn, ignoredIn, packed, scattered, occupancyOf, closing, countBy, countOf, after, placeBy, Claims, Lands, within, itemR, markedValueR, innerOf, widthOf, staticOf, Ready};
 ghost use Rattle.message.specs.declared.Frame.{Frame};
 ghost use Rattle.message.specs.Scopes.{groupOf, behindOf, leftOf, Lies, Opens};
 
 // Which bytes of a data area are taken, as one number, since a struct would pass through memory at each
 // call: where the packed values end, and, once a value did not stand straight behind the others, this
-// added. Then more bytes are marked in the scratch. No message is so long.
+// added. Then more bytes are taken in the scratch. No message is so long.
 const SCATTERED: usize = 131072;
 
 // What a walk finds: the sheet's length so far and what is taken, or the first fault.
@@ -135,15 +135,15 @@ fn packed_end(taken: usize) -> usize
 // "Offset: 5, 26 for the count or size word, 26 or 13 for the rest, 27": what is found is taken.
 fn locate(
     bytes: &[u8],
-    marks: &mut [u8],
+    occupied: &mut [u8],
     frame: Frame,
     taken: usize,
     at: usize,
     past: u8,
     width: usize,
 ) -> Located
-    requires { ⌜ (length (now marks) ≡ length (now bytes)) × (frame .base + length (now bytes) ≤ 65536) × (frame .area ≤ length (now bytes)) × (at + 4 ≤ length (now bytes)) × (width ≤ 4096) ⌝ }
-    ensures { λ r. ⌜ (placeBy (λ s. marksOf (frame .area) s (now (marks .exit))) r ≡ locate past width (within (now (bytes .entry)) frame) at (marksOf (frame .area) taken (now (marks .entry)))) × Lands (λ s. marksOf (frame .area) s (now (marks .exit))) width (now (bytes .entry)) r ⌝ }
+    requires { ⌜ (length (now occupied) ≡ length (now bytes)) × (frame .base + length (now bytes) ≤ 65536) × (frame .area ≤ length (now bytes)) × (at + 4 ≤ length (now bytes)) × (width ≤ 4096) ⌝ }
+    ensures { λ r. ⌜ (placeBy (λ s. occupancyOf (frame .area) s (now (occupied .exit))) r ≡ locate past width (within (now (bytes .entry)) frame) at (occupancyOf (frame .area) taken (now (occupied .entry)))) × Lands (λ s. occupancyOf (frame .area) s (now (occupied .exit))) width (now (bytes .entry)) r ⌝ }
 {
     let place = at + wire::read_u32(bytes, at);
     if place < frame.area {
@@ -172,20 +172,20 @@ fn locate(
             place: frame.base + place,
         };
     }
-    claim(marks, frame, taken, place, count, size)
+    claim(occupied, frame, taken, place, count, size)
 }
 
 // "27: byte already taken", or the value of `size` bytes at `place` is taken.
 fn claim(
-    marks: &mut [u8],
+    occupied: &mut [u8],
     frame: Frame,
     taken: usize,
     place: usize,
     count: usize,
     size: usize,
 ) -> Located
-    requires { ⌜ (frame .area ≤ place) × (1 ≤ size) × (place + size ≤ length (now marks)) × (frame .base + length (now marks) ≤ 65536) ⌝ }
-    ensures { λ r. ⌜ (placeBy (λ s. marksOf (frame .area) s (now (marks .exit))) r ≡ need (free place size (marksOf (frame .area) taken (now (marks .entry)))) (lost 27 (frame .base + place)) (found place count (mark place size (marksOf (frame .area) taken (now (marks .entry)))))) × Claims (λ s. marksOf (frame .area) s (now (marks .exit))) place count size r ⌝ }
+    requires { ⌜ (frame .area ≤ place) × (1 ≤ size) × (place + size ≤ length (now occupied)) × (frame .base + length (now occupied) ≤ 65536) ⌝ }
+    ensures { λ r. ⌜ (placeBy (λ s. occupancyOf (frame .area) s (now (occupied .exit))) r ≡ need (free place size (occupancyOf (frame .area) taken (now (occupied .entry)))) (lost 27 (frame .base + place)) (found place count (occupy place size (occupancyOf (frame .area) taken (now (occupied .entry)))))) × Claims (λ s. occupancyOf (frame .area) s (now (occupied .exit))) place count size r ⌝ }
 {
     if place < packed_end(taken) {
         return Located::Nowhere {
@@ -194,8 +194,8 @@ fn claim(
         };
     }
     if SCATTERED <= taken {
-        if wire::all_zero(marks, place, size) {
-            wire::fill(marks, place, size, 1);
+        if wire::all_zero(occupied, place, size) {
+            wire::fill(occupied, place, size, 1);
             return Located::At {
                 place,
                 count,
@@ -214,8 +214,8 @@ fn claim(
             taken: place + size,
         };
     }
-    clear(marks);
-    wire::fill(marks, place, size, 1);
+    clear(occupied);
+    wire::fill(occupied, place, size, 1);
     Located::At {
         place,
         count,
@@ -223,55 +223,55 @@ fn claim(
     }
 }
 
-fn clear(marks: &mut [u8])
-    ensures { λ _. ⌜ now (marks .exit) ≡ replicate (length (now (marks .entry))) 0 ⌝ }
+fn clear(occupied: &mut [u8])
+    ensures { λ _. ⌜ now (occupied .exit) ≡ replicate (length (now (occupied .entry))) 0 ⌝ }
 {
-    let n = marks.len();
-    wire::fill(marks, 0, n, 0);
+    let n = occupied.len();
+    wire::fill(occupied, 0, n, 0);
 }
 
-// What a nested group left in the scratch gives way to the marks of its own bytes.
-fn retake(marks: &mut [u8], taken: usize, place: usize, size: usize)
-    requires { ⌜ place + size ≤ length (now marks) ⌝ }
-    ensures { λ _. ⌜ now (marks .exit) ≡ cond (scattered taken) (splice size place (replicate size 1) (now (marks .entry))) (now (marks .entry)) ⌝ }
+// What a nested group left in the scratch gives way to the occupancy of its own bytes.
+fn retake(occupied: &mut [u8], taken: usize, place: usize, size: usize)
+    requires { ⌜ place + size ≤ length (now occupied) ⌝ }
+    ensures { λ _. ⌜ now (occupied .exit) ≡ cond (scattered taken) (splice size place (replicate size 1) (now (occupied .entry))) (now (occupied .entry)) ⌝ }
 {
     if SCATTERED <= taken {
-        wire::fill(marks, place, size, 1);
+        wire::fill(occupied, place, size, 1);
     }
 }
 
 // PADS
 
 // A byte that a value took, or a pad byte that is zero.
-fn is_clean(mark: u8, byte: u8) -> bool
-    ensures { λ r. ⌜ r ≡ not (eqb mark 0) || eqb byte 0 ⌝ }
+fn is_clean(occupy: u8, byte: u8) -> bool
+    ensures { λ r. ⌜ r ≡ not (eqb occupy 0) || eqb byte 0 ⌝ }
 {
-    mark != 0 || byte == 0
+    occupy != 0 || byte == 0
 }
 
 // Whether every pad byte from `at` on is zero. The loop has no early exit, so that it becomes vector
 // code.
-fn pads_zero(marks: &[u8], bytes: &[u8], at: usize) -> bool
-    requires { ⌜ length (now marks) ≡ length (now bytes) ⌝ }
-    ensures { λ r. ⌜ r ≡ padsZero (drop at (now (marks .entry))) (drop at (now (bytes .entry))) ⌝ }
+fn pads_zero(occupied: &[u8], bytes: &[u8], at: usize) -> bool
+    requires { ⌜ length (now occupied) ≡ length (now bytes) ⌝ }
+    ensures { λ r. ⌜ r ≡ padsZero (drop at (now (occupied .entry))) (drop at (now (bytes .entry))) ⌝ }
 {
     let mut zero = true;
     let mut i = at;
     while i < bytes.len() {
-        zero = zero & is_clean(marks[i], bytes[i]);
+        zero = zero & is_clean(occupied[i], bytes[i]);
         i += 1;
     }
     zero
 }
 
 // How many bytes from `at` on stand before the first pad byte that is not zero.
-fn pads_before(marks: &[u8], bytes: &[u8], at: usize) -> usize
-    requires { ⌜ (length (now marks) ≡ length (now bytes)) × (at ≤ length (now bytes)) ⌝ }
-    ensures { λ r. ⌜ (r ≡ padsBefore (drop at (now (marks .entry))) (drop at (now (bytes .entry)))) × (at + r ≤ length (now (bytes .entry))) ⌝ }
+fn pads_before(occupied: &[u8], bytes: &[u8], at: usize) -> usize
+    requires { ⌜ (length (now occupied) ≡ length (now bytes)) × (at ≤ length (now bytes)) ⌝ }
+    ensures { λ r. ⌜ (r ≡ padsBefore (drop at (now (occupied .entry))) (drop at (now (bytes .entry)))) × (at + r ≤ length (now (bytes .entry))) ⌝ }
 {
     let mut i = at;
     while i < bytes.len() {
-        if !is_clean(marks[i], bytes[i]) {
+        if !is_clean(occupied[i], bytes[i]) {
             return i - at;
         }
         i += 1;
@@ -289,23 +289,23 @@ fn later(a: usize, b: usize) -> usize
 }
 
 // "6", as a test of what no value took, unless it is ignored.
-fn are_pads_blank(ignored: bool, marks: &[u8], bytes: &[u8], area: usize, taken: usize) -> bool
-    requires { ⌜ (length (now marks) ≡ length (now bytes)) × (area ≤ length (now bytes)) ⌝ }
-    ensures { λ r. ⌜ r ≡ ignored || padsZero (drop area (marksOf area taken (now (marks .entry)))) (drop area (now (bytes .entry))) ⌝ }
+fn are_pads_blank(ignored: bool, occupied: &[u8], bytes: &[u8], area: usize, taken: usize) -> bool
+    requires { ⌜ (length (now occupied) ≡ length (now bytes)) × (area ≤ length (now bytes)) ⌝ }
+    ensures { λ r. ⌜ r ≡ ignored || padsZero (drop area (occupancyOf area taken (now (occupied .entry)))) (drop area (now (bytes .entry))) ⌝ }
 {
     if ignored {
         return true;
     }
-    are_pads_zero(marks, bytes, area, taken)
+    are_pads_zero(occupied, bytes, area, taken)
 }
 
-fn are_pads_zero(marks: &[u8], bytes: &[u8], area: usize, taken: usize) -> bool
-    requires { ⌜ (length (now marks) ≡ length (now bytes)) × (area ≤ length (now bytes)) ⌝ }
-    ensures { λ r. ⌜ r ≡ padsZero (drop area (marksOf area taken (now (marks .entry)))) (drop area (now (bytes .entry))) ⌝ }
+fn are_pads_zero(occupied: &[u8], bytes: &[u8], area: usize, taken: usize) -> bool
+    requires { ⌜ (length (now occupied) ≡ length (now bytes)) × (area ≤ length (now bytes)) ⌝ }
+    ensures { λ r. ⌜ r ≡ padsZero (drop area (occupancyOf area taken (now (occupied .entry)))) (drop area (now (bytes .entry))) ⌝ }
 {
     let start = later(area, packed_end(taken));
     if SCATTERED <= taken {
-        return pads_zero(marks, bytes, start);
+        return pads_zero(occupied, bytes, start);
     }
     if bytes.len() < start {
         return true;
@@ -313,31 +313,31 @@ fn are_pads_zero(marks: &[u8], bytes: &[u8], area: usize, taken: usize) -> bool
     wire::all_zero(bytes, start, bytes.len() - start)
 }
 
-// "6", as the place in the data area. The marks that were not kept are written for it.
-fn bad_pad(marks: &mut [u8], bytes: &[u8], area: usize, taken: usize) -> usize
-    requires { ⌜ (length (now marks) ≡ length (now bytes)) × (area ≤ length (now bytes)) ⌝ }
-    ensures { λ r. ⌜ (r ≡ padsBefore (drop area (marksOf area taken (now (marks .entry)))) (drop area (now (bytes .entry)))) × (area + r ≤ length (now (bytes .entry))) ⌝ }
+// "6", as the place in the data area. The occupancy that was not kept is written for it.
+fn bad_pad(occupied: &mut [u8], bytes: &[u8], area: usize, taken: usize) -> usize
+    requires { ⌜ (length (now occupied) ≡ length (now bytes)) × (area ≤ length (now bytes)) ⌝ }
+    ensures { λ r. ⌜ (r ≡ padsBefore (drop area (occupancyOf area taken (now (occupied .entry)))) (drop area (now (bytes .entry)))) × (area + r ≤ length (now (bytes .entry))) ⌝ }
 {
-    write_marks(marks, area, taken);
-    pads_before(marks, bytes, area)
+    write_occupancy(occupied, area, taken);
+    pads_before(occupied, bytes, area)
 }
 
-fn write_marks(marks: &mut [u8], area: usize, taken: usize)
-    requires { ⌜ area ≤ length (now marks) ⌝ }
-    ensures { λ _. ⌜ now (marks .exit) ≡ marksOf area taken (now (marks .entry)) ⌝ }
+fn write_occupancy(occupied: &mut [u8], area: usize, taken: usize)
+    requires { ⌜ area ≤ length (now occupied) ⌝ }
+    ensures { λ _. ⌜ now (occupied .exit) ≡ occupancyOf area taken (now (occupied .entry)) ⌝ }
 {
-    clear_unless(marks, taken);
-    let end = earlier(packed_end(taken), marks.len());
+    clear_unless(occupied, taken);
+    let end = earlier(packed_end(taken), occupied.len());
     if area < end {
-        wire::fill(marks, area, end - area, 1);
+        wire::fill(occupied, area, end - area, 1);
     }
 }
 
-fn clear_unless(marks: &mut [u8], taken: usize)
-    ensures { λ _. ⌜ now (marks .exit) ≡ cond (scattered taken) (now (marks .entry)) (replicate (length (now (marks .entry))) 0) ⌝ }
+fn clear_unless(occupied: &mut [u8], taken: usize)
+    ensures { λ _. ⌜ now (occupied .exit) ≡ cond (scattered taken) (now (occupied .entry)) (replicate (length (now (occupied .entry))) 0) ⌝ }
 {
     if taken < SCATTERED {
-        clear(marks);
+        clear(occupied);
     }
 }
 
@@ -351,11 +351,17 @@ fn earlier(a: usize, b: usize) -> usize
 }
 
 // "6", and the group's end.
-fn check_pads(bytes: &[u8], marks: &mut [u8], frame: Frame, taken: usize, before: usize) -> Step
-    requires { ⌜ (length (now marks) ≡ length (now bytes)) × (frame .base + length (now bytes) ≤ 65536) × (frame .area ≤ length (now bytes)) ⌝ }
-    ensures { λ r. ⌜ countBy (λ _. []) r ≡ after before (closing (within (now (bytes .entry)) frame) (marksOf (frame .area) taken (now (marks .entry)))) ⌝ }
+fn check_pads(bytes: &[u8], occupied: &mut [u8], frame: Frame, taken: usize, before: usize) -> Step
+    requires { ⌜ (length (now occupied) ≡ length (now bytes)) × (frame .base + length (now bytes) ≤ 65536) × (frame .area ≤ length (now bytes)) ⌝ }
+    ensures { λ r. ⌜ countBy (λ _. []) r ≡ after before (closing (within (now (bytes .entry)) frame) (occupancyOf (frame .area) taken (now (occupied .entry)))) ⌝ }
 {
-    if are_pads_blank(ignores_pads(frame.rules), marks, bytes, frame.area, taken) {
+    if are_pads_blank(
+        ignores_pads(frame.rules),
+        occupied,
+        bytes,
+        frame.area,
+        taken,
+    ) {
         return Step::Counted {
             length: longer(before, 2),
             taken,
@@ -363,7 +369,7 @@ fn check_pads(bytes: &[u8], marks: &mut [u8], frame: Frame, taken: usize, before
     }
     Step::Refused {
         number: 6,
-        place: frame.base + frame.area + bad_pad(marks, bytes, frame.area, taken),
+        place: frame.base + frame.area + bad_pad(occupied, bytes, frame.area, taken),
     }
 }
 
@@ -482,17 +488,17 @@ fn check_inline(
 // "Indirect string: u32 count and bytes."
 fn check_text(
     bytes: &[u8],
-    marks: &mut [u8],
+    occupied: &mut [u8],
     frame: Frame,
     utf8: bool,
     at: usize,
     taken: usize,
     before: usize,
 ) -> Step
-    requires { ⌜ (length (now marks) ≡ length (now bytes)) × (frame .base + length (now bytes) ≤ 65536) × (frame .area ≤ length (now bytes)) × (at + 4 ≤ length (now bytes)) ⌝ }
-    ensures { λ r. ⌜ countBy (λ s. marksOf (frame .area) s (now (marks .exit))) r ≡ after before (count (markedR ST (indirectR 26 1 (textR utf8)) (within (now (bytes .entry)) frame) at (marksOf (frame .area) taken (now (marks .entry))))) ⌝ }
+    requires { ⌜ (length (now occupied) ≡ length (now bytes)) × (frame .base + length (now bytes) ≤ 65536) × (frame .area ≤ length (now bytes)) × (at + 4 ≤ length (now bytes)) ⌝ }
+    ensures { λ r. ⌜ countBy (λ s. occupancyOf (frame .area) s (now (occupied .exit))) r ≡ after before (count (markedR ST (indirectR 26 1 (textR utf8)) (within (now (bytes .entry)) frame) at (occupancyOf (frame .area) taken (now (occupied .entry))))) ⌝ }
 {
-    let found = locate(bytes, marks, frame, taken, at, 26, 1);
+    let found = locate(bytes, occupied, frame, taken, at, 26, 1);
     match found {
         Located::At {
             place,
@@ -516,7 +522,7 @@ fn check_text(
 
 fn check_texts(
     bytes: &[u8],
-    marks: &mut [u8],
+    occupied: &mut [u8],
     frame: Frame,
     utf8: bool,
     total: usize,
@@ -524,15 +530,15 @@ fn check_texts(
     taken: usize,
     before: usize,
 ) -> Step
-    requires { ⌜ (length (now marks) ≡ length (now bytes)) × (frame .base + length (now bytes) ≤ 65536) × (frame .area ≤ length (now bytes)) × (at + total * 4 ≤ length (now bytes)) ⌝ }
-    ensures { λ r. ⌜ countBy (λ s. marksOf (frame .area) s (now (marks .exit))) r ≡ after before (count (itemsR 4 (markedR ST (indirectR 26 1 (textR utf8))) total (within (now (bytes .entry)) frame) at (marksOf (frame .area) taken (now (marks .entry))))) ⌝ }
+    requires { ⌜ (length (now occupied) ≡ length (now bytes)) × (frame .base + length (now bytes) ≤ 65536) × (frame .area ≤ length (now bytes)) × (at + total * 4 ≤ length (now bytes)) ⌝ }
+    ensures { λ r. ⌜ countBy (λ s. occupancyOf (frame .area) s (now (occupied .exit))) r ≡ after before (count (itemsR 4 (markedR ST (indirectR 26 1 (textR utf8))) total (within (now (bytes .entry)) frame) at (occupancyOf (frame .area) taken (now (occupied .entry))))) ⌝ }
 {
     let mut i = 0;
     let mut place = at;
     let mut length = before;
     let mut holds = taken;
     while i < total {
-        let text = check_text(bytes, marks, frame, utf8, place, holds, length);
+        let text = check_text(bytes, occupied, frame, utf8, place, holds, length);
         match text {
             Step::Counted {
                 length: sum,
@@ -645,7 +651,7 @@ fn check_group(
     table: &[u8],
     index: &[u16],
     bytes: &[u8],
-    marks: &mut [u8],
+    occupied: &mut [u8],
     outer: Frame,
     depth: usize,
     scope: schema::Scope,
@@ -653,8 +659,8 @@ fn check_group(
     taken: usize,
     before: usize,
 ) -> Step
-    requires { ⌜ (Ready (now table) (now index) (now bytes) (now marks) outer) × (Lies (now table) depth scope (now bytes) at) ⌝ }
-    ensures { λ r. ⌜ countBy (λ s. leftOf scope (outer .area) s (now (marks .exit))) r ≡ after before (count (groupOf (now (table .entry)) (levelsIn (outer .rules)) depth scope (within (now (bytes .entry)) outer) at (marksOf (outer .area) taken (now (marks .entry))))) ⌝ }
+    requires { ⌜ (Ready (now table) (now index) (now bytes) (now occupied) outer) × (Lies (now table) depth scope (now bytes) at) ⌝ }
+    ensures { λ r. ⌜ countBy (λ s. leftOf scope (outer .area) s (now (occupied .exit))) r ≡ after before (count (groupOf (now (table .entry)) (levelsIn (outer .rules)) depth scope (within (now (bytes .entry)) outer) at (occupancyOf (outer .area) taken (now (occupied .entry))))) ⌝ }
 {
     let opening = open_group(table, index, bytes, outer, scope, taken, before);
     match opening {
@@ -668,7 +674,7 @@ fn check_group(
                 table,
                 index,
                 bytes,
-                marks,
+                occupied,
                 frame,
                 depth,
                 group,
@@ -681,7 +687,7 @@ fn check_group(
                     table,
                     index,
                     bytes,
-                    marks,
+                    occupied,
                     frame,
                     scope,
                     now,
@@ -705,7 +711,7 @@ fn open_group(
     before: usize,
 ) -> Opened
     requires { ⌜ (Layout (now table) (now index)) × (frame .base + length (now bytes) ≤ 65536) ⌝ }
-    ensures { λ r. ⌜ ((m : List ℕ) (d at : ℕ) → Ready (now (table .entry)) (now (index .entry)) (now (bytes .entry)) m frame → Lies (now (table .entry)) d scope (now (bytes .entry)) at → Opens (now (table .entry)) (now (index .entry)) (now (bytes .entry)) m frame d scope at before (count (groupOf (now (table .entry)) (levelsIn (frame .rules)) d scope (within (now (bytes .entry)) frame) at (marksOf (frame .area) taken m))) r) ⌝ }
+    ensures { λ r. ⌜ ((m : List ℕ) (d at : ℕ) → Ready (now (table .entry)) (now (index .entry)) (now (bytes .entry)) m frame → Lies (now (table .entry)) d scope (now (bytes .entry)) at → Opens (now (table .entry)) (now (index .entry)) (now (bytes .entry)) m frame d scope at before (count (groupOf (now (table .entry)) (levelsIn (frame .rules)) d scope (within (now (bytes .entry)) frame) at (occupancyOf (frame .area) taken m))) r) ⌝ }
 {
     match scope {
         schema::Scope::Whole { allowed } => open_dynamic(
@@ -801,14 +807,14 @@ fn close_group(
     table: &[u8],
     index: &[u16],
     bytes: &[u8],
-    marks: &mut [u8],
+    occupied: &mut [u8],
     frame: Frame,
     scope: schema::Scope,
     taken: usize,
     before: usize,
 ) -> Step
-    requires { ⌜ (Ready (now table) (now index) (now bytes) (now marks) frame) × ((allowed : ℕ) → scope ≡ Whole allowed → 16 ≤ length (now bytes)) ⌝ }
-    ensures { λ r. ⌜ countBy (λ s. leftOf scope (frame .area) s (now (marks .exit))) r ≡ after before (behindOf (now (table .entry)) (levelsIn (frame .rules)) scope (within (now (bytes .entry)) frame) (marksOf (frame .area) taken (now (marks .entry)))) ⌝ }
+    requires { ⌜ (Ready (now table) (now index) (now bytes) (now occupied) frame) × ((allowed : ℕ) → scope ≡ Whole allowed → 16 ≤ length (now bytes)) ⌝ }
+    ensures { λ r. ⌜ countBy (λ s. leftOf scope (frame .area) s (now (occupied .exit))) r ≡ after before (behindOf (now (table .entry)) (levelsIn (frame .rules)) scope (within (now (bytes .entry)) frame) (occupancyOf (frame .area) taken (now (occupied .entry)))) ⌝ }
 {
     match scope {
         schema::Scope::Whole { allowed } => {
@@ -820,9 +826,9 @@ fn close_group(
                         taken,
                     };
                 }
-                return check_pads(bytes, marks, frame, taken, before);
+                return check_pads(bytes, occupied, frame, taken, before);
             }
-            check_rest(table, index, bytes, marks, frame, taken, before)
+            check_rest(table, index, bytes, occupied, frame, taken, before)
         }
         schema::Scope::Fields { group } => Step::Counted {
             length: before,
@@ -836,17 +842,17 @@ fn check_rest(
     table: &[u8],
     index: &[u16],
     bytes: &[u8],
-    marks: &mut [u8],
+    occupied: &mut [u8],
     frame: Frame,
     taken: usize,
     before: usize,
 ) -> Step
-    requires { ⌜ (Ready (now table) (now index) (now bytes) (now marks) frame) × (16 ≤ length (now bytes)) ⌝ }
-    ensures { λ r. ⌜ countBy (λ _. []) r ≡ after before (andThen (count (extensionR (schema (now (table .entry))) (innerOf (ignoredIn (frame .rules)) (now (table .entry)) (levelsIn (frame .rules))) (within (now (bytes .entry)) frame) 12 (marksOf (frame .area) taken (now (marks .entry))))) (closing (within (now (bytes .entry)) frame))) ⌝ }
+    requires { ⌜ (Ready (now table) (now index) (now bytes) (now occupied) frame) × (16 ≤ length (now bytes)) ⌝ }
+    ensures { λ r. ⌜ countBy (λ _. []) r ≡ after before (andThen (count (extensionR (schema (now (table .entry))) (innerOf (ignoredIn (frame .rules)) (now (table .entry)) (levelsIn (frame .rules))) (within (now (bytes .entry)) frame) 12 (occupancyOf (frame .area) taken (now (occupied .entry))))) (closing (within (now (bytes .entry)) frame))) ⌝ }
 {
-    let extension = check_extension(table, index, bytes, marks, frame, taken, before);
+    let extension = check_extension(table, index, bytes, occupied, frame, taken, before);
     match extension {
-        Step::Counted { length, taken: now } => check_pads(bytes, marks, frame, now, length),
+        Step::Counted { length, taken: now } => check_pads(bytes, occupied, frame, now, length),
         Step::Refused { number, place } => Step::Refused { number, place },
     }
 }
@@ -857,7 +863,7 @@ fn check_fields(
     table: &[u8],
     index: &[u16],
     bytes: &[u8],
-    marks: &mut [u8],
+    occupied: &mut [u8],
     frame: Frame,
     depth: usize,
     group: usize,
@@ -865,8 +871,8 @@ fn check_fields(
     taken: usize,
     before: usize,
 ) -> Step
-    requires { ⌜ (Ready (now table) (now index) (now bytes) (now marks) frame) × (at + widthOf (now table) depth group ≤ length (now bytes)) × (group < length (schema (now table))) × (shallow (schema (now table)) depth group ≡ true) ⌝ }
-    ensures { λ r. ⌜ countBy (λ s. marksOf (frame .area) s (now (marks .exit))) r ≡ after before (count (staticOf (ignoredIn (frame .rules)) (now (table .entry)) (levelsIn (frame .rules)) depth group (within (now (bytes .entry)) frame) at (marksOf (frame .area) taken (now (marks .entry))))) ⌝ }
+    requires { ⌜ (Ready (now table) (now index) (now bytes) (now occupied) frame) × (at + widthOf (now table) depth group ≤ length (now bytes)) × (group < length (schema (now table))) × (shallow (schema (now table)) depth group ≡ true) ⌝ }
+    ensures { λ r. ⌜ countBy (λ s. occupancyOf (frame .area) s (now (occupied .exit))) r ≡ after before (count (staticOf (ignoredIn (frame .rules)) (now (table .entry)) (levelsIn (frame .rules)) depth group (within (now (bytes .entry)) frame) at (occupancyOf (frame .area) taken (now (occupied .entry))))) ⌝ }
 {
     let start = schema::group_place(index, group);
     let total = schema::field_count(table, start);
@@ -890,7 +896,7 @@ fn check_fields(
             table,
             index,
             bytes,
-            marks,
+            occupied,
             frame,
             deeper,
             field,
@@ -925,7 +931,7 @@ fn check_field(
     table: &[u8],
     index: &[u16],
     bytes: &[u8],
-    marks: &mut [u8],
+    occupied: &mut [u8],
     frame: Frame,
     depth: usize,
     field: usize,
@@ -933,8 +939,8 @@ fn check_field(
     taken: usize,
     before: usize,
 ) -> Step
-    requires { ⌜ (Ready (now table) (now index) (now bytes) (now marks) frame) × (field + 16 ≤ length (now table)) × (at + fieldWidth (widthOf (now table) depth) (fieldAt (enums (now table)) (drop field (now table))) ≤ length (now bytes)) × (shallowKind (shallow (schema (now table)) depth) (widthOf (now table) depth) ((fieldAt (enums (now table)) (drop field (now table))) .kind) ≡ true) ⌝ }
-    ensures { λ r. ⌜ countBy (λ s. marksOf (frame .area) s (now (marks .exit))) r ≡ after before (count (fieldR (innerOf (ignoredIn (frame .rules)) (now (table .entry)) (levelsIn (frame .rules))) (widthOf (now (table .entry)) depth) (staticOf (ignoredIn (frame .rules)) (now (table .entry)) (levelsIn (frame .rules)) depth) (fieldAt (enums (now (table .entry))) (drop field (now (table .entry)))) (within (now (bytes .entry)) frame) at (marksOf (frame .area) taken (now (marks .entry))))) ⌝ }
+    requires { ⌜ (Ready (now table) (now index) (now bytes) (now occupied) frame) × (field + 16 ≤ length (now table)) × (at + fieldWidth (widthOf (now table) depth) (fieldAt (enums (now table)) (drop field (now table))) ≤ length (now bytes)) × (shallowKind (shallow (schema (now table)) depth) (widthOf (now table) depth) ((fieldAt (enums (now table)) (drop field (now table))) .kind) ≡ true) ⌝ }
+    ensures { λ r. ⌜ countBy (λ s. occupancyOf (frame .area) s (now (occupied .exit))) r ≡ after before (count (fieldR (innerOf (ignoredIn (frame .rules)) (now (table .entry)) (levelsIn (frame .rules))) (widthOf (now (table .entry)) depth) (staticOf (ignoredIn (frame .rules)) (now (table .entry)) (levelsIn (frame .rules)) depth) (fieldAt (enums (now (table .entry))) (drop field (now (table .entry)))) (within (now (bytes .entry)) frame) at (occupancyOf (frame .area) taken (now (occupied .entry))))) ⌝ }
 {
     let optional = schema::is_optional(table, field);
     if is_unset(optional, bytes, at) {
@@ -945,7 +951,7 @@ fn check_field(
         table,
         index,
         bytes,
-        marks,
+        occupied,
         frame,
         depth,
         field,
@@ -961,7 +967,7 @@ fn check_value(
     table: &[u8],
     index: &[u16],
     bytes: &[u8],
-    marks: &mut [u8],
+    occupied: &mut [u8],
     frame: Frame,
     depth: usize,
     field: usize,
@@ -969,8 +975,8 @@ fn check_value(
     taken: usize,
     before: usize,
 ) -> Step
-    requires { ⌜ (Ready (now table) (now index) (now bytes) (now marks) frame) × (field + 16 ≤ length (now table)) × (at + valueWidth (widthOf (now table) depth) (fieldAt (enums (now table)) (drop field (now table))) ≤ length (now bytes)) × (shallowKind (shallow (schema (now table)) depth) (widthOf (now table) depth) ((fieldAt (enums (now table)) (drop field (now table))) .kind) ≡ true) ⌝ }
-    ensures { λ r. ⌜ countBy (λ s. marksOf (frame .area) s (now (marks .exit))) r ≡ after before (count (markedValueR (innerOf (ignoredIn (frame .rules)) (now (table .entry)) (levelsIn (frame .rules))) (widthOf (now (table .entry)) depth) (staticOf (ignoredIn (frame .rules)) (now (table .entry)) (levelsIn (frame .rules)) depth) (fieldAt (enums (now (table .entry))) (drop field (now (table .entry)))) (within (now (bytes .entry)) frame) at (marksOf (frame .area) taken (now (marks .entry))))) ⌝ }
+    requires { ⌜ (Ready (now table) (now index) (now bytes) (now occupied) frame) × (field + 16 ≤ length (now table)) × (at + valueWidth (widthOf (now table) depth) (fieldAt (enums (now table)) (drop field (now table))) ≤ length (now bytes)) × (shallowKind (shallow (schema (now table)) depth) (widthOf (now table) depth) ((fieldAt (enums (now table)) (drop field (now table))) .kind) ≡ true) ⌝ }
+    ensures { λ r. ⌜ countBy (λ s. occupancyOf (frame .area) s (now (occupied .exit))) r ≡ after before (count (markedValueR (innerOf (ignoredIn (frame .rules)) (now (table .entry)) (levelsIn (frame .rules))) (widthOf (now (table .entry)) depth) (staticOf (ignoredIn (frame .rules)) (now (table .entry)) (levelsIn (frame .rules)) depth) (fieldAt (enums (now (table .entry))) (drop field (now (table .entry)))) (within (now (bytes .entry)) frame) at (occupancyOf (frame .area) taken (now (occupied .entry))))) ⌝ }
 {
     let kind = schema::kind_at(table, field);
     let width = schema::kind_width(index, kind);
@@ -979,7 +985,7 @@ fn check_value(
     let mut holds = taken;
     let mut length = before;
     if schema::is_sequence(table, field) {
-        let found = locate(bytes, marks, frame, taken, at, 13, width);
+        let found = locate(bytes, occupied, frame, taken, at, 13, width);
         match found {
             Located::At {
                 place,
@@ -1000,7 +1006,7 @@ fn check_value(
         table,
         index,
         bytes,
-        marks,
+        occupied,
         frame,
         depth,
         kind,
@@ -1018,7 +1024,7 @@ fn check_items(
     table: &[u8],
     index: &[u16],
     bytes: &[u8],
-    marks: &mut [u8],
+    occupied: &mut [u8],
     frame: Frame,
     depth: usize,
     kind: schema::FieldKind,
@@ -1028,8 +1034,8 @@ fn check_items(
     taken: usize,
     before: usize,
 ) -> Step
-    requires { ⌜ (Ready (now table) (now index) (now bytes) (now marks) frame) × (at + total * width ≤ length (now bytes)) × (total < 2 ^ 32) × (width ≤ 4096) × (width ≡ kindWidth (widthOf (now table) depth) (kindFrom (enums (now table)) kind)) × (shallowKind (shallow (schema (now table)) depth) (widthOf (now table) depth) (kindFrom (enums (now table)) kind) ≡ true) ⌝ }
-    ensures { λ r. ⌜ countBy (λ s. marksOf (frame .area) s (now (marks .exit))) r ≡ after before (count (itemsR width (itemR (innerOf (ignoredIn (frame .rules)) (now (table .entry)) (levelsIn (frame .rules))) (staticOf (ignoredIn (frame .rules)) (now (table .entry)) (levelsIn (frame .rules)) depth) (kindFrom (enums (now (table .entry))) kind)) total (within (now (bytes .entry)) frame) at (marksOf (frame .area) taken (now (marks .entry))))) ⌝ }
+    requires { ⌜ (Ready (now table) (now index) (now bytes) (now occupied) frame) × (at + total * width ≤ length (now bytes)) × (total < 2 ^ 32) × (width ≤ 4096) × (width ≡ kindWidth (widthOf (now table) depth) (kindFrom (enums (now table)) kind)) × (shallowKind (shallow (schema (now table)) depth) (widthOf (now table) depth) (kindFrom (enums (now table)) kind) ≡ true) ⌝ }
+    ensures { λ r. ⌜ countBy (λ s. occupancyOf (frame .area) s (now (occupied .exit))) r ≡ after before (count (itemsR width (itemR (innerOf (ignoredIn (frame .rules)) (now (table .entry)) (levelsIn (frame .rules))) (staticOf (ignoredIn (frame .rules)) (now (table .entry)) (levelsIn (frame .rules)) depth) (kindFrom (enums (now (table .entry))) kind)) total (within (now (bytes .entry)) frame) at (occupancyOf (frame .area) taken (now (occupied .entry))))) ⌝ }
 {
     if let schema::FieldKind::Plain { width: plain } = kind {
         return Step::Counted {
@@ -1038,7 +1044,7 @@ fn check_items(
         };
     }
     if let schema::FieldKind::Indirect { utf8 } = kind {
-        return check_texts(bytes, marks, frame, utf8, total, at, taken, before);
+        return check_texts(bytes, occupied, frame, utf8, total, at, taken, before);
     }
     if let schema::FieldKind::Number { tested } = kind {
         return check_numbers(
@@ -1062,7 +1068,7 @@ fn check_items(
             table,
             index,
             bytes,
-            marks,
+            occupied,
             frame,
             depth,
             kind,
@@ -1095,7 +1101,7 @@ fn check_item(
     table: &[u8],
     index: &[u16],
     bytes: &[u8],
-    marks: &mut [u8],
+    occupied: &mut [u8],
     frame: Frame,
     depth: usize,
     kind: schema::FieldKind,
@@ -1103,8 +1109,8 @@ fn check_item(
     taken: usize,
     before: usize,
 ) -> Step
-    requires { ⌜ (Ready (now table) (now index) (now bytes) (now marks) frame) × (at + kindWidth (widthOf (now table) depth) (kindFrom (enums (now table)) kind) ≤ length (now bytes)) × (shallowKind (shallow (schema (now table)) depth) (widthOf (now table) depth) (kindFrom (enums (now table)) kind) ≡ true) ⌝ }
-    ensures { λ r. ⌜ countBy (λ s. marksOf (frame .area) s (now (marks .exit))) r ≡ after before (count (itemR (innerOf (ignoredIn (frame .rules)) (now (table .entry)) (levelsIn (frame .rules))) (staticOf (ignoredIn (frame .rules)) (now (table .entry)) (levelsIn (frame .rules)) depth) (kindFrom (enums (now (table .entry))) kind) (within (now (bytes .entry)) frame) at (marksOf (frame .area) taken (now (marks .entry))))) ⌝ }
+    requires { ⌜ (Ready (now table) (now index) (now bytes) (now occupied) frame) × (at + kindWidth (widthOf (now table) depth) (kindFrom (enums (now table)) kind) ≤ length (now bytes)) × (shallowKind (shallow (schema (now table)) depth) (widthOf (now table) depth) (kindFrom (enums (now table)) kind) ≡ true) ⌝ }
+    ensures { λ r. ⌜ countBy (λ s. occupancyOf (frame .area) s (now (occupied .exit))) r ≡ after before (count (itemR (innerOf (ignoredIn (frame .rules)) (now (table .entry)) (levelsIn (frame .rules))) (staticOf (ignoredIn (frame .rules)) (now (table .entry)) (levelsIn (frame .rules)) depth) (kindFrom (enums (now (table .entry))) kind) (within (now (bytes .entry)) frame) at (occupancyOf (frame .area) taken (now (occupied .entry))))) ⌝ }
 {
     match kind {
         schema::FieldKind::Plain { width } => Step::Counted {
@@ -1132,7 +1138,7 @@ fn check_item(
         ),
         schema::FieldKind::Indirect { utf8 } => check_text(
             bytes,
-            marks,
+            occupied,
             frame,
             utf8,
             at,
@@ -1143,7 +1149,7 @@ fn check_item(
             table,
             index,
             bytes,
-            marks,
+            occupied,
             frame,
             depth,
             schema::Scope::Fields { group },
@@ -1155,7 +1161,7 @@ fn check_item(
             table,
             index,
             bytes,
-            marks,
+            occupied,
             frame,
             allowed,
             at,
@@ -1169,17 +1175,17 @@ fn check_dynamic(
     table: &[u8],
     index: &[u16],
     bytes: &[u8],
-    marks: &mut [u8],
+    occupied: &mut [u8],
     frame: Frame,
     allowed: usize,
     at: usize,
     taken: usize,
     before: usize,
 ) -> Step
-    requires { ⌜ (Ready (now table) (now index) (now bytes) (now marks) frame) × (at + 4 ≤ length (now bytes)) ⌝ }
-    ensures { λ r. ⌜ countBy (λ s. marksOf (frame .area) s (now (marks .exit))) r ≡ after before (count (indirectR 26 1 (innerR (innerOf (ignoredIn (frame .rules)) (now (table .entry)) (levelsIn (frame .rules))) allowed) (within (now (bytes .entry)) frame) at (marksOf (frame .area) taken (now (marks .entry))))) ⌝ }
+    requires { ⌜ (Ready (now table) (now index) (now bytes) (now occupied) frame) × (at + 4 ≤ length (now bytes)) ⌝ }
+    ensures { λ r. ⌜ countBy (λ s. occupancyOf (frame .area) s (now (occupied .exit))) r ≡ after before (count (indirectR 26 1 (innerR (innerOf (ignoredIn (frame .rules)) (now (table .entry)) (levelsIn (frame .rules))) allowed) (within (now (bytes .entry)) frame) at (occupancyOf (frame .area) taken (now (occupied .entry))))) ⌝ }
 {
-    let found = locate(bytes, marks, frame, taken, at, 26, 1);
+    let found = locate(bytes, occupied, frame, taken, at, 26, 1);
     match found {
         Located::At {
             place,
@@ -1189,7 +1195,7 @@ fn check_dynamic(
             table,
             index,
             bytes,
-            marks,
+            occupied,
             frame,
             allowed,
             place,
@@ -1207,7 +1213,7 @@ fn check_nested(
     table: &[u8],
     index: &[u16],
     bytes: &[u8],
-    marks: &mut [u8],
+    occupied: &mut [u8],
     frame: Frame,
     allowed: usize,
     start: usize,
@@ -1215,8 +1221,8 @@ fn check_nested(
     taken: usize,
     before: usize,
 ) -> Step
-    requires { ⌜ (Ready (now table) (now index) (now bytes) (now marks) frame) × (start + size ≤ length (now bytes)) × (mark start size (marksOf (frame .area) taken (now marks)) ≡ marksOf (frame .area) taken (now marks)) ⌝ }
-    ensures { λ r. ⌜ countBy (λ s. marksOf (frame .area) s (now (marks .exit))) r ≡ after before (andThen (count (innerOf (ignoredIn (frame .rules)) (now (table .entry)) (levelsIn (frame .rules)) allowed (frame .base + start) (part size start (now (bytes .entry))))) (λ _. counted 0 (marksOf (frame .area) taken (now (marks .entry))))) ⌝ }
+    requires { ⌜ (Ready (now table) (now index) (now bytes) (now occupied) frame) × (start + size ≤ length (now bytes)) × (occupy start size (occupancyOf (frame .area) taken (now occupied)) ≡ occupancyOf (frame .area) taken (now occupied)) ⌝ }
+    ensures { λ r. ⌜ countBy (λ s. occupancyOf (frame .area) s (now (occupied .exit))) r ≡ after before (andThen (count (innerOf (ignoredIn (frame .rules)) (now (table .entry)) (levelsIn (frame .rules)) allowed (frame .base + start) (part size start (now (bytes .entry))))) (λ _. counted 0 (occupancyOf (frame .area) taken (now (occupied .entry))))) ⌝ }
 {
     let end = start + size;
     let mut inner = frame;
@@ -1226,7 +1232,7 @@ fn check_nested(
         table,
         index,
         &bytes[start..end],
-        &mut marks[start..end],
+        &mut occupied[start..end],
         inner,
         5,
         schema::Scope::Whole { allowed },
@@ -1239,7 +1245,7 @@ fn check_nested(
             length,
             taken: inner,
         } => {
-            retake(marks, taken, start, size);
+            retake(occupied, taken, start, size);
             Step::Counted { length, taken }
         }
         Step::Refused { number, place } => Step::Refused { number, place },
@@ -1251,13 +1257,13 @@ fn check_extension(
     table: &[u8],
     index: &[u16],
     bytes: &[u8],
-    marks: &mut [u8],
+    occupied: &mut [u8],
     frame: Frame,
     taken: usize,
     before: usize,
 ) -> Step
-    requires { ⌜ (Ready (now table) (now index) (now bytes) (now marks) frame) × (16 ≤ length (now bytes)) ⌝ }
-    ensures { λ r. ⌜ countBy (λ s. marksOf (frame .area) s (now (marks .exit))) r ≡ after before (count (extensionR (schema (now (table .entry))) (innerOf (ignoredIn (frame .rules)) (now (table .entry)) (levelsIn (frame .rules))) (within (now (bytes .entry)) frame) 12 (marksOf (frame .area) taken (now (marks .entry))))) ⌝ }
+    requires { ⌜ (Ready (now table) (now index) (now bytes) (now occupied) frame) × (16 ≤ length (now bytes)) ⌝ }
+    ensures { λ r. ⌜ countBy (λ s. occupancyOf (frame .area) s (now (occupied .exit))) r ≡ after before (count (extensionR (schema (now (table .entry))) (innerOf (ignoredIn (frame .rules)) (now (table .entry)) (levelsIn (frame .rules))) (within (now (bytes .entry)) frame) 12 (occupancyOf (frame .area) taken (now (occupied .entry))))) ⌝ }
 {
     if wire::read_u32(bytes, 12) == 0 {
         return Step::Counted {
@@ -1265,7 +1271,7 @@ fn check_extension(
             taken,
         };
     }
-    let found = locate(bytes, marks, frame, taken, 12, 13, 4);
+    let found = locate(bytes, occupied, frame, taken, 12, 13, 4);
     match found {
         Located::At {
             place,
@@ -1282,7 +1288,7 @@ fn check_extension(
                 table,
                 index,
                 bytes,
-                marks,
+                occupied,
                 frame,
                 count,
                 place + 4,
@@ -1298,22 +1304,22 @@ fn check_groups(
     table: &[u8],
     index: &[u16],
     bytes: &[u8],
-    marks: &mut [u8],
+    occupied: &mut [u8],
     frame: Frame,
     total: usize,
     at: usize,
     taken: usize,
     before: usize,
 ) -> Step
-    requires { ⌜ (Ready (now table) (now index) (now bytes) (now marks) frame) × (at + total * 4 ≤ length (now bytes)) ⌝ }
-    ensures { λ r. ⌜ countBy (λ s. marksOf (frame .area) s (now (marks .exit))) r ≡ after before (count (itemsR 4 (indirectR 26 1 (extendingR (schema (now (table .entry))) (innerOf (ignoredIn (frame .rules)) (now (table .entry)) (levelsIn (frame .rules))))) total (within (now (bytes .entry)) frame) at (marksOf (frame .area) taken (now (marks .entry))))) ⌝ }
+    requires { ⌜ (Ready (now table) (now index) (now bytes) (now occupied) frame) × (at + total * 4 ≤ length (now bytes)) ⌝ }
+    ensures { λ r. ⌜ countBy (λ s. occupancyOf (frame .area) s (now (occupied .exit))) r ≡ after before (count (itemsR 4 (indirectR 26 1 (extendingR (schema (now (table .entry))) (innerOf (ignoredIn (frame .rules)) (now (table .entry)) (levelsIn (frame .rules))))) total (within (now (bytes .entry)) frame) at (occupancyOf (frame .area) taken (now (occupied .entry))))) ⌝ }
 {
     let mut i = 0;
     let mut place = at;
     let mut length = before;
     let mut holds = taken;
     while i < total {
-        let group = check_extending(table, index, bytes, marks, frame, place, holds, length);
+        let group = check_extending(table, index, bytes, occupied, frame, place, holds, length);
         match group {
             Step::Counted {
                 length: sum,
@@ -1340,16 +1346,16 @@ fn check_extending(
     table: &[u8],
     index: &[u16],
     bytes: &[u8],
-    marks: &mut [u8],
+    occupied: &mut [u8],
     frame: Frame,
     at: usize,
     taken: usize,
     before: usize,
 ) -> Step
-    requires { ⌜ (Ready (now table) (now index) (now bytes) (now marks) frame) × (at + 4 ≤ length (now bytes)) ⌝ }
-    ensures { λ r. ⌜ countBy (λ s. marksOf (frame .area) s (now (marks .exit))) r ≡ after before (count (indirectR 26 1 (extendingR (schema (now (table .entry))) (innerOf (ignoredIn (frame .rules)) (now (table .entry)) (levelsIn (frame .rules)))) (within (now (bytes .entry)) frame) at (marksOf (frame .area) taken (now (marks .entry))))) ⌝ }
+    requires { ⌜ (Ready (now table) (now index) (now bytes) (now occupied) frame) × (at + 4 ≤ length (now bytes)) ⌝ }
+    ensures { λ r. ⌜ countBy (λ s. occupancyOf (frame .area) s (now (occupied .exit))) r ≡ after before (count (indirectR 26 1 (extendingR (schema (now (table .entry))) (innerOf (ignoredIn (frame .rules)) (now (table .entry)) (levelsIn (frame .rules)))) (within (now (bytes .entry)) frame) at (occupancyOf (frame .area) taken (now (occupied .entry))))) ⌝ }
 {
-    let found = locate(bytes, marks, frame, taken, at, 26, 1);
+    let found = locate(bytes, occupied, frame, taken, at, 26, 1);
     match found {
         Located::At {
             place,
@@ -1367,7 +1373,7 @@ fn check_extending(
                     table,
                     index,
                     bytes,
-                    marks,
+                    occupied,
                     frame,
                     0,
                     place,
@@ -1410,9 +1416,9 @@ fn check_sized(
     index: &[u16],
     message: &[u8],
     rules: usize,
-    marks: &mut [u8],
+    occupied: &mut [u8],
 ) -> Walked
-    requires { ⌜ (Layout (now table) (now index)) × (length (now marks) ≡ length (now message)) × (length (now message) ≤ 65536) × (levelsIn rules ≡ 8) ⌝ }
+    requires { ⌜ (Layout (now table) (now index)) × (length (now occupied) ≡ length (now message)) × (length (now message) ≤ 65536) × (levelsIn rules ≡ 8) ⌝ }
     ensures { λ r. ⌜ countOf r [] ≡ after 0 (count (walk (ignoredIn rules) (schema (now (table .entry))) (now (message .entry)))) ⌝ }
 {
     if message.len() < 4 {
@@ -1436,7 +1442,7 @@ fn check_sized(
         table,
         index,
         message,
-        marks,
+        occupied,
         frame,
         5,
         schema::Scope::Whole { allowed: 0 },

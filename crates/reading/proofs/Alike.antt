@@ -9,13 +9,13 @@ use lib.Dec.{leb, eqb}
 use Rattle.wire.specs.Bytes.{part, le, allZero, zeros}
 use Rattle.schema.specs.Faults.{need}
 use Rattle.schema.specs.Schema.{Test, passes, testFault, textOk, Kind, plain, inline, indirect, static, dynamic, Field, Group, kindWidth, valueWidth, fieldWidth, fieldsOf, width, find, known, allows}
-use Rattle.message.specs.Marks.{free, padsZero, padsBefore}
+use Rattle.message.specs.Occupancy.{free, padsZero, padsBefore}
 use Rattle.message.specs.Sheet.{Mark, markBytes, kindMark, fieldMark}
 use Rattle.settings.specs.declared.Ignored.{Ignored}
 use Rattle.settings.specs.Store.{lax}
 use Rattle.message.specs.Walk.{Here, here, Reading, refused, done, Reader, Inner, byte, word, prefixed, next, noneR, thenR, markedR, optionalR, plainR, inlineR, inArea, Place, lost, found, locate, onward, indirectR, textR, innerR, itemsR, listR, kindR, valueR, fieldR, fieldsR, staticR, extendingR, groupsR, extensionR, extensionIn, behindR, padded, bodyR, headR, groupR, walk}
 
--- where the first is done, the second is done with the same sheet and marks
+-- where the first is done, the second is done with the same sheet and occupancy
 pub data Alike : Reading → Reading → Type 0 where
   fault : {n p : ℕ} {r : Reading} → Alike (refused n p) r
   same : {s m : List ℕ} → Alike (done s m) (done s m)

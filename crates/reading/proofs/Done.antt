@@ -7,9 +7,9 @@ use native.Mathlib.Omega.{arith}
 use lib.ListN.{length}
 use borrow.Author.Tests.{leb-true}
 use Rattle.schema.specs.Faults.{need}
-use Rattle.message.specs.Marks.{mark}
+use Rattle.message.specs.Occupancy.{occupy}
 use Rattle.message.specs.Walk.{Here, Reading, refused, done, Reader, prefixed, next, Place, lost, locate, onward, indirectR, padded}
-use Rattle.message.specs.Conforms.{target, countAt}
+use Rattle.meaning.specs.Conforms.{target, countAt}
 
 pub refused-done : {X : Type 0} {n p : ℕ} {s m : List ℕ} → refused n p ≡ done s m → X
 refused-done e = let z : _≡_ {A = ℕ} 0 1 = cc in absurd (omega arith)
@@ -64,9 +64,9 @@ onward-need false n p x h inside e = refused-done e
 
 -- the offset at `at` leads to a word n that lies in the group, with n times w bytes more, and from there it goes on
 pub record Leads (w : ℕ) (inside : ℕ → Reader) (h : Here) (at : ℕ) (s m : List ℕ) : Type 0 where
-  pub marks : List ℕ
+  pub occupied : List ℕ
   pub whole : target (h .bytes) at + (4 + countAt (h .bytes) at * w) ≤ length (h .bytes)
-  pub is : inside (countAt (h .bytes) at) h (target (h .bytes) at) marks ≡ done s m
+  pub is : inside (countAt (h .bytes) at) h (target (h .bytes) at) occupied ≡ done s m
 
 pub indirect-done : (past w : ℕ) (inside : ℕ → Reader) (h : Here) (at : ℕ) (m : List ℕ) {s m′ : List ℕ} → indirectR past w inside h at m ≡ done s m′ → Leads w inside h at s m′
 unfolding indirectR locate onward
@@ -75,4 +75,4 @@ indirect-done past w inside h at m e =
     let q₂ = onward-need _ _ _ _ h inside (q₁ .1) in
     let q₃ = onward-need _ _ _ _ h inside (q₂ .1) in
     let q₄ = onward-need _ _ _ _ h inside (q₃ .1) in
-    record { marks = mark (target (h .bytes) at) (4 + countAt (h .bytes) at * w) m; whole = leb-true _ _ (q₃ .0); is = q₄ .1 }
+    record { occupied = occupy (target (h .bytes) at) (4 + countAt (h .bytes) at * w) m; whole = leb-true _ _ (q₃ .0); is = q₄ .1 }

@@ -20,7 +20,7 @@ use Rattle.schema.proofs.Records.{byte-at}
 use Rattle.schema.proofs.Groups.{placed-fields, find-whole}
 use Rattle.settings.specs.declared.Ignored.{Ignored}
 use Rattle.message.specs.Walk.{byte}
-use Rattle.message.specs.Conforms.{target, countAt, typeId}
+use Rattle.meaning.specs.Conforms.{target, countAt, typeId}
 use Rattle.message.proofs.Tests.{true-false, or-cases}
 use Rattle.reading.specs.Item.{Accepted, Item, missing, item, itemFrom, itemOf, fieldIn, fieldsIn, itemIn, Recorded}
 use Rattle.reading.specs.Number.{numberTypes, numberWidth, numberOf, numberAt}

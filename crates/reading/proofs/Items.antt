@@ -14,7 +14,7 @@ use Rattle.schema.specs.Table.{fieldAt, fieldsAt}
 use Rattle.schema.proofs.Records.{fields-more, fields-none}
 use Rattle.schema.proofs.Types.{width-optional}
 use Rattle.message.specs.Walk.{byte}
-use Rattle.message.specs.Conforms.{target, countAt}
+use Rattle.meaning.specs.Conforms.{target, countAt}
 use Rattle.reading.specs.Item.{missing, sequenceItem, valueItem, absent, valuePlace, fieldItem, itemFrom, fieldIn, itemIn}
 use Rattle.reading.specs.Laid.{Led, FieldLaid, Laid}
 use Rattle.reading.specs.declared.Located.the-variants.{Missing, At}

@@ -14,7 +14,7 @@ use Rattle.schema.specs.Layout.{Layout, widthIn}
 use Rattle.message.specs.Sheet.{GB, markBytes}
 use Rattle.settings.specs.declared.Ignored.{Ignored}
 use Rattle.message.specs.Walk.{Inner, Here, here, done, Reader, byte, word, kindR, inlineR, indirectR, textR, innerR, fieldsR, staticR, behindR, bodyR, headR, groupR, walk}
-use Rattle.message.specs.Conforms.{typeId}
+use Rattle.meaning.specs.Conforms.{typeId}
 use Rattle.reading.specs.Item.{Item, itemFrom, itemOf, valueItem, sequenceItem, fieldItem}
 use Rattle.reading.specs.Laid.{Led, Laid, ItemLaid}
 use Rattle.reading.specs.Part.{partOf}

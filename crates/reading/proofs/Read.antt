@@ -13,7 +13,7 @@ use Rattle.schema.specs.Schema.{Kind, Field, kindWidth, valueWidth, fieldWidth,
 use Rattle.schema.proofs.Types.{width-sequence, width-one}
 use Rattle.message.specs.Sheet.{Mark, markBytes, NO, kindMark, fieldMark}
 use Rattle.message.specs.Walk.{Inner, Here, Reading, refused, done, Reader, next, byte, markedR, optionalR, kindR, itemsR, listR, valueR, fieldR, fieldsR, thenR}
-use Rattle.message.specs.Conforms.{target}
+use Rattle.meaning.specs.Conforms.{target}
 use Rattle.message.proofs.Tests.{true-false}
 use Rattle.reading.specs.Item.{Item, missing, item, sequenceItem, valueItem, absent, valuePlace, fieldItem, itemFrom}
 use Rattle.reading.specs.Laid.{FieldLaid, Laid}
@@ -105,7 +105,7 @@ module _ (I : Inner) (sw : ℕ → ℕ) (S : ℕ → Reader) (h : Here) where
       let a = as-list f at m (q .is) e in
       let x = prefixed-done _ _ (a .is) in
       let c : List ℕ = part 4 (target (h .bytes) at) (h .bytes) in
-      read-in (items-read (f .kind) _ refl _ i _ _ (a .marks) (x .is) (ltb-true _ _ t) refl (omega (arith, a .whole)))
+      read-in (items-read (f .kind) _ refl _ i _ _ (a .occupied) (x .is) (ltb-true _ _ t) refl (omega (arith, a .whole)))
       (markBytes (fieldMark f) ++ c) [] s (in-two (markBytes (fieldMark f)) c (x .rest) (q .whole) (x .whole))))
       (λ e. need-item _ 28 _ s (λ _. one-read (f .kind) at m (marked-one f at m e d) (omega (arith, l, width-one sw f e))))
 

@@ -15,7 +15,7 @@ use Rattle.schema.specs.Table.{fieldAt, fieldType, fieldSize, reference, kindOf
 use Rattle.message.specs.Sheet.{VA, ST, GB, markBytes, kindMark}
 use Rattle.settings.specs.declared.Ignored.{Ignored}
 use Rattle.message.specs.Walk.{Inner, Here, done, Reader, byte, word, prefixed, kindR, plainR, inlineR, textR, innerR, groupR, walk}
-use Rattle.message.specs.Conforms.{target, countAt}
+use Rattle.meaning.specs.Conforms.{target, countAt}
 use Rattle.message.proofs.Tests.{true-false}
 use Rattle.reading.specs.Item.{Accepted, Item, itemOf, fieldIn, itemIn}
 use Rattle.reading.specs.Part.{partOf, partAt, bytesIn}

@@ -11,7 +11,7 @@ use Rattle.schema.specs.Schema.{Field, Group, kindWidth, fieldWidth, fieldsOf, 
 use Rattle.schema.specs.Table.{fieldAt, fieldsAt, enums, schema}
 use Rattle.settings.specs.declared.Ignored.{Ignored}
 use Rattle.message.specs.Walk.{byte, done, walk}
-use Rattle.message.specs.Conforms.{target, countAt, typeId}
+use Rattle.meaning.specs.Conforms.{target, countAt, typeId}
 use Rattle.reading.specs.declared.Located.{Located}
 use Rattle.reading.specs.declared.Located.the-variants.{Missing, At}
 

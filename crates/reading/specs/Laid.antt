@@ -5,7 +5,7 @@ use mathlib.Core.List.{List, [], _∷_}
 use Prim.Native.Nat.{ℕ, _+_, _≤_}
 use lib.ListN.{length}
 use Rattle.schema.specs.Schema.{Kind, plain, inline, indirect, static, dynamic, Field, fieldWidth}
-use Rattle.message.specs.Conforms.{target}
+use Rattle.meaning.specs.Conforms.{target}
 use Rattle.reading.specs.Item.{absent, valuePlace}
 
 -- The offset at `at` and the count or size word that it leads to.

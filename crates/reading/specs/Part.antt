@@ -9,7 +9,7 @@ use Rattle.schema.specs.declared.Verdict.{Verdict}
 use Rattle.schema.specs.declared.Verdict.the-variants.{Accepted, Refused}
 use Rattle.schema.specs.Schema.{Kind, plain, inline, indirect, static, dynamic}
 use Rattle.message.specs.Walk.{byte}
-use Rattle.message.specs.Conforms.{target, countAt}
+use Rattle.meaning.specs.Conforms.{target, countAt}
 use Rattle.reading.specs.declared.Part.{Part}
 use Rattle.reading.specs.declared.Part.the-variants.{Refusal, Lies}
 use Rattle.reading.specs.Item.{Item, missing, item}

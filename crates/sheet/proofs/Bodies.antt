@@ -11,12 +11,12 @@ use Rattle.wire.specs.Bytes.{part, le, bytesOf}
 use Rattle.wire.proofs.Laws.{length-bytes, length-part}
 use Rattle.schema.specs.Faults.{need}
 use Rattle.schema.specs.Schema.{Group, known, textOk}
-use Rattle.message.specs.Marks.{free, mark}
+use Rattle.message.specs.Occupancy.{free, occupy}
 use Rattle.message.specs.Walk.{Here, done, Reader, Inner, word, prefixed, next, thenR, inArea, locate, onward, indirectR, textR, innerR, itemsR, listR}
-use Rattle.message.proofs.Marking.{mark-length, taken, taken-more}
-use Rattle.message.proofs.Sat.{Sat, said, sat-need, sat-prefixed, sat-next, sat-map, sat-indirect}
+use Rattle.meaning.proofs.Occupying.{occupy-length, taken, taken-more}
+use Rattle.meaning.proofs.Sat.{Sat, said, sat-need, sat-prefixed, sat-next, sat-map, sat-indirect}
 use Rattle.sheet.specs.Written.{Writing, wrote, Writer, InnerW, headed, placed, thenW, Body, indirectW, textB, innerB, itemsW, listB}
-use Rattle.sheet.proofs.Laws.{need-true, four, at-left, at-right, at-part, ones-join, run-free, run-mark}
+use Rattle.sheet.proofs.Laws.{need-true, four, at-left, at-right, at-part, ones-join, run-free, run-occupy}
 use Rattle.sheet.proofs.Match.{SatW, saidW, satw-is, satw-need, satw-headed, satw-placed, satw-map, Taken, Held, split-front, held-rest, Again, Match, match-none, match-then}
 use Rattle.sheet.proofs.Layers.{grab-eats, counted-eats, satw-grab, satw-counted}
 
@@ -58,10 +58,10 @@ offset-leads {h} {at} {fr} H =
 
 module _ (B : Body) where
   pub indirect-taken : (a p n : ℕ) (m s m′ : List ℕ) → free p n m ≡ true → a ≤ p → p + n ≤ length m
-      → BodyTaken B a n (mark p n m) s m′ → Taken (indirectW B) a m s m′
+      → BodyTaken B a n (occupy p n m) s m′ → Taken (indirectW B) a m s m′
   unfolding indirectW placed
   indirect-taken a p n m s m′ e l h t = record {
-    same = t .same ∙ mark-length p n m h;
+    same = t .same ∙ occupy-length p n m h;
     puts = λ at fr r.
         let x = t .puts fr r in
         record {
@@ -75,7 +75,7 @@ module _ (B : Body) where
 module _ (past : ℕ) (w : ℕ) (inside : ℕ → Reader) where
   indirect-reads : (h : Here) (at p n N : ℕ) (m : List ℕ) → at + word at (h .bytes) ≡ p → word p (h .bytes) ≡ n → 4 + n * w ≡ N
       → h .area ≤ p → p < length (h .bytes) → p + 4 ≤ length (h .bytes) → p + N ≤ length (h .bytes) → free p N m ≡ true
-      → indirectR past w inside h at m ≡ inside n h p (mark p N m)
+      → indirectR past w inside h at m ≡ inside n h p (occupy p N m)
   unfolding indirectR locate onward need inArea
   indirect-reads h at p n N m ep en eN l4 lp l5 l6 f =
       rw (ep, en, eN, le-leb (h .area) p l4, lt-ltb p (length (h .bytes)) lp, le-leb (p + 4) (length (h .bytes)) l5, le-leb (p + N) (length (h .bytes)) l6, f)
@@ -93,7 +93,7 @@ module _ (past : ℕ) (w : ℕ) (inside : ℕ → Reader) where
         indirect-reads h at fr (le (take 4 X)) (length X) (z ++ replicate k 0) (offset-leads H) c (q .size)
         (H .area) (omega (arith, H .all, lD, q .four)) (omega (arith, H .all, lD, q .four)) (omega (arith, H .all, lD))
         (run-free z fr (length X) (length Y + j) k (H .run) (omega (arith, H .zeros, lD)))
-        ∙ rw (run-mark z fr (length X) (length Y + j) k (H .run) (omega (arith, H .zeros, lD)), q .reads, ones-join z (length X) (length Y) (length (X ++ Y)) lD);
+        ∙ rw (run-occupy z fr (length X) (length Y + j) k (H .run) (omega (arith, H .zeros, lD)), q .reads, ones-join z (length X) (length Y) (length (X ++ Y)) lD);
   }
 
 pub match-indirect : (past : ℕ) (w : ℕ) (inside : ℕ → Reader) (B : Body) → BodyMatch w inside B → Match 4 (indirectR past w inside) (indirectW B)

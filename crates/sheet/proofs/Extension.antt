@@ -14,8 +14,8 @@ use Rattle.schema.specs.Faults.{need}
 use Rattle.schema.specs.Schema.{Group, known, textOk}
 use Rattle.message.specs.Sheet.{GB, XT, XU, markBytes}
 use Rattle.message.specs.Walk.{Here, Reader, Inner, word, prefixed, next, markedR, inArea, indirectR, textR, listR, extendingR, groupsR, extensionR, extensionIn, behindR}
-use Rattle.message.proofs.Marking.{taken, taken-more}
-use Rattle.message.proofs.Sat.{Sat, said, sat-need, sat-cond, sat-prefixed, sat-next, sat-map, sat-indirect}
+use Rattle.meaning.proofs.Occupying.{taken, taken-more}
+use Rattle.meaning.proofs.Sat.{Sat, said, sat-need, sat-cond, sat-prefixed, sat-next, sat-map, sat-indirect}
 use Rattle.sheet.specs.Written.{Writing, Writer, InnerW, indirectW, listB, innerB, extendingB, extensionW, swapped, backW, behindW}
 use Rattle.sheet.proofs.Laws.{four, at-left, at-right, at-part, ones-join}
 use Rattle.sheet.proofs.Match.{SatW, saidW, unsaidW, satw-need, satw-cond, satw-placed, satw-map, Fit, Taken, Held, split-front, held-first, held-rest, Again, Match}

@@ -14,9 +14,9 @@ use Rattle.schema.specs.Schema.{Kind, plain, inline, indirect, static, dynamic,
 use Rattle.message.specs.Sheet.{GE, markBytes, kindMark, fieldMark}
 use Rattle.settings.specs.declared.Ignored.{Ignored}
 use Rattle.message.specs.Walk.{Here, here, done, Reader, Inner, prefixed, next, kindR, valueR, fieldR, fieldsR, staticR, extensionR, behindR, padded, bodyR, headR, groupR}
-use Rattle.message.specs.Proper.{SizedKind, SizedFields, Sized}
-use Rattle.message.proofs.Marking.{taken-le}
-use Rattle.message.proofs.Sat.{Sat, unsaid, said, sat-need, sat-prefixed, sat-next, sat-map, sat-padded}
+use Rattle.meaning.specs.Proper.{SizedKind, SizedFields, Sized}
+use Rattle.meaning.proofs.Occupying.{taken-le}
+use Rattle.meaning.proofs.Sat.{Sat, unsaid, said, sat-need, sat-prefixed, sat-next, sat-map, sat-padded}
 use Rattle.sheet.specs.Written.{Writing, Writer, InnerW, kindW, valueW, fieldW, fieldsW, staticW, extensionW, behindW, framed, closed, bodyW, headW, groupW}
 use Rattle.sheet.proofs.Laws.{four, pads-ones}
 use Rattle.sheet.proofs.Match.{SatW, saidW, unsaidW, satw-is, satw-need, satw-map, Again, Match, match-none, match-then}

@@ -1,4 +1,4 @@
--- Laws of lists held at a place, of counts, and of runs of marks.
+-- Laws of lists held at a place, of counts, and of runs of taken bytes.
 use mathlib.Core.Path.{_≡_, refl, sym, ap, _∙_}
 use mathlib.Core.Bool.{Bool, true}
 use mathlib.Core.List.{List, [], _∷_, _++_, append-assoc}
@@ -9,7 +9,7 @@ use lib.Seq.{take-at, drop-at, drop-drop, drop-append-seam, getD-drop}
 use Rattle.wire.specs.Bytes.{part, le, bytesOf, allZero}
 use Rattle.wire.proofs.Laws.{le-bytes}
 use Rattle.schema.specs.Faults.{need}
-use Rattle.message.specs.Marks.{free, mark, padsZero}
+use Rattle.message.specs.Occupancy.{free, occupy, padsZero}
 
 pub need-true : {X : Type 0} (c : Bool) (f k : X) → c ≡ true → need c f k ≡ k
 unfolding need
@@ -83,9 +83,9 @@ module _ (z : List ℕ) (p n j k : ℕ) (hz : length z ≡ p) (hk : k ≡ n + j)
   unfolding free
   run-free = rw (run-split, drop-at z (replicate n 0 ++ replicate j 0) p hz, take-at {A = ℕ} (replicate n 0) (replicate j 0) n (length-replicate n 0)) (zeros-zero n)
 
-  pub run-mark : mark p n (z ++ replicate k 0) ≡ (z ++ replicate n 1) ++ replicate j 0
-  unfolding mark
-  run-mark = rw (run-split, drop-at z (replicate n 0 ++ replicate j 0) p hz, drop-at {A = ℕ} (replicate n 0) (replicate j 0) n (length-replicate n 0), take-at z (replicate n 0 ++ replicate j 0) p hz, append-assoc z (replicate n 1) (replicate j 0))
+  pub run-occupy : occupy p n (z ++ replicate k 0) ≡ (z ++ replicate n 1) ++ replicate j 0
+  unfolding occupy
+  run-occupy = rw (run-split, drop-at z (replicate n 0 ++ replicate j 0) p hz, drop-at {A = ℕ} (replicate n 0) (replicate j 0) n (length-replicate n 0), take-at z (replicate n 0 ++ replicate j 0) p hz, append-assoc z (replicate n 1) (replicate j 0))
 
 pub ones-join : (z : List ℕ) (a b c : ℕ) → c ≡ a + b → (z ++ replicate a 1) ++ replicate b 1 ≡ z ++ replicate c 1
 ones-join z a b c h = rw (h, append-assoc z (replicate a 1) (replicate b 1), replicate-append-replicate {A = ℕ} a b 1)

@@ -15,7 +15,7 @@ use Rattle.schema.specs.Schema.{Test, passes, textOk}
 use Rattle.message.specs.Sheet.{Mark, VA, ST, SG, SQ, GB, XT, XU, markBytes, NO}
 use Rattle.message.specs.Walk.{Reader, byte, prefixed, markedR, optionalR, plainR, inlineR}
 use Rattle.message.proofs.Count.{length-mark}
-use Rattle.message.proofs.Sat.{said, sat-need, sat-cond, sat-prefixed, sat-map}
+use Rattle.meaning.proofs.Sat.{said, sat-need, sat-cond, sat-prefixed, sat-map}
 use Rattle.sheet.specs.Written.{Writing, Writer, headed, grab, due, markedW, optionalW, plainW, counted, inlineW}
 use Rattle.sheet.proofs.Laws.{need-true, four, bytes-small, at-left, at-right, at-part, at-byte, zeros-zero}
 use Rattle.sheet.proofs.Match.{SatW, saidW, satw-need, satw-cond, satw-headed, satw-map, Taken, split-front, Again, Match}

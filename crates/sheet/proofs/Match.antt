@@ -8,8 +8,8 @@ use lib.ListN.{length, replicate, length-append, length-replicate}
 use Rattle.wire.specs.Bytes.{bytesOf}
 use Rattle.schema.specs.Faults.{need}
 use Rattle.message.specs.Walk.{Here, done, Reader, prefixed, next, noneR, thenR}
-use Rattle.message.proofs.Marking.{taken}
-use Rattle.message.proofs.Sat.{Sat, said, sat-next, sat-map}
+use Rattle.meaning.proofs.Occupying.{taken}
+use Rattle.meaning.proofs.Sat.{Sat, said, sat-next, sat-map}
 use Rattle.sheet.specs.Written.{Writing, stopped, wrote, Writer, headed, joined, nextW, placed, noneW, thenW}
 use Rattle.sheet.proofs.Laws.{At, at-left, at-right, ones-join}
 
@@ -69,12 +69,12 @@ pub record Fit (x : Writing) (r : List ℕ) (lo hi : ℕ) : Type 0 where
   pub is : x ≡ wrote fixed values r
   pub small : lo + length values ≤ hi
 
--- The reader went from the marks m to m′ and gave the sheet s. Its writer eats s wherever it writes, and its data needs no more bytes than were taken from a on.
+-- The reader went from the occupancy m to m′ and gave the sheet s. Its writer eats s wherever it writes, and its data needs no more bytes than were taken from a on.
 pub record Taken (W : Writer) (a : ℕ) (m s m′ : List ℕ) : Type 0 where
   pub same : length m′ ≡ length m
   pub puts : (at fr : ℕ) (r : List ℕ) → Fit (W at fr (s ++ r)) r (taken a m) (taken a m′)
 
--- What is written is read: a group's bytes hold F at `at` and D at `fr`, the first free place, and j bytes behind it; the marks are z up to `fr` and k zeros from there.
+-- What is written is read: a group's bytes hold F at `at` and D at `fr`, the first free place, and j bytes behind it; the occupancy is z up to `fr` and k zeros from there.
 pub record Held (h : Here) (at fr : ℕ) (F D z : List ℕ) (j k : ℕ) : Type 0 where
   pub fix : At (h .bytes) at F
   pub dat : At (h .bytes) fr D

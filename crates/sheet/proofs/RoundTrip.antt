@@ -15,10 +15,10 @@ use Rattle.message.specs.Sheet.{GB, markBytes}
 use Rattle.settings.specs.declared.Ignored.{Ignored}
 use Rattle.settings.specs.Store.{strict}
 use Rattle.message.specs.Walk.{here, Reading, refused, done, prefixed, bodyR, headR, groupR, walk, messageR}
-use Rattle.message.specs.Proper.{Sized}
+use Rattle.meaning.specs.Proper.{Sized}
 use Rattle.message.proofs.Count.{length-mark}
-use Rattle.message.proofs.Sat.{Sat, sat-all, unsaid, said, sat-is, sat-need, sat-prefixed, sat-map, sat-padded}
-use Rattle.message.proofs.Eleven.{eleven}
+use Rattle.meaning.proofs.Sat.{Sat, sat-all, unsaid, said, sat-is, sat-need, sat-prefixed, sat-map, sat-padded}
+use Rattle.meaning.proofs.Eleven.{eleven}
 use Rattle.sheet.specs.Written.{Writing, stopped, wrote, groupW, ended, sheetW, fitted, written}
 use Rattle.sheet.specs.Rewritten.{Rooms, sheetIn, onward, rewritten, Enough}
 use Rattle.sheet.specs.Canonical.{Means, Canonical}
@@ -29,16 +29,16 @@ use Rattle.sheet.proofs.Groups.{match-group}
 
 -- ACCEPTED MESSAGES
 
--- no marks go out of a group
-group-marks : (x : Ignored) (gs : List Group) (l n base : ℕ) (b : List ℕ) → Sat (λ s m. m ≡ []) (groupR x gs l n base b)
+-- no occupancy goes out of a group
+group-leaves : (x : Ignored) (gs : List Group) (l n base : ℕ) (b : List ℕ) → Sat (λ s m. m ≡ []) (groupR x gs l n base b)
 unfolding groupR headR bodyR
-group-marks x gs zero n base b = sat-need _ 1 _ (λ _. sat-need _ 2 _ (λ _. sat-need _ 25 _ (λ _. unsaid)))
-group-marks x gs (suc l) n base b =
+group-leaves x gs zero n base b = sat-need _ 1 _ (λ _. sat-need _ 2 _ (λ _. sat-need _ 25 _ (λ _. unsaid)))
+group-leaves x gs (suc l) n base b =
     sat-need _ 1 _ (λ _. sat-need _ 2 _ (λ _. sat-need _ 25 _ (λ _. sat-need _ 14 _ (λ _. sat-padded (here x b base (16 + width gs 5 (find gs (le (part 8 4 b))))) (sat-all (λ s m. refl) _)))))
 
-walk-marks : (x : Ignored) (gs : List Group) (b : List ℕ) → Sat (λ s m. m ≡ []) (walk x gs b)
+walk-leaves : (x : Ignored) (gs : List Group) (b : List ℕ) → Sat (λ s m. m ≡ []) (walk x gs b)
 unfolding walk
-walk-marks x gs b = sat-need _ 22 _ (λ _. sat-prefixed (markBytes GB) (group-marks x gs 8 0 0 b))
+walk-leaves x gs b = sat-need _ 22 _ (λ _. sat-prefixed (markBytes GB) (group-leaves x gs 8 0 0 b))
 
 sat-self : (r : Reading) → Sat (λ s m. r ≡ done s m) r
 sat-self (refused n p) = unsaid
@@ -62,7 +62,7 @@ walk-means x gs b s l e scratch h = rw (le-leb _ _ l, le-leb _ _ h) e
 pub message-means : (x : Ignored) (gs : List Group) (scratch : ℕ) (b s m : List ℕ) → messageR x gs scratch b ≡ done s m → Means x gs b s
 message-means x gs scratch b s m e =
     let w = message-walk x gs scratch b s m e in
-    walk-means x gs b s (w .0) (rw (sat-is (rw (w .1) at (walk-marks x gs b))) at (w .1))
+    walk-means x gs b s (w .0) (rw (sat-is (rw (w .1) at (walk-leaves x gs b))) at (w .1))
 
 -- WHAT IS WRITTEN READS BACK
 

@@ -22,10 +22,10 @@ need-done false n p r s m e = absurd (let z : _≡_ {A = ℕ} 0 1 = cc in omega 
 
 pub record Parts (r : Reading) (f : List ℕ → Reading) (s m : List ℕ) : Type 0 where
   pub first : List ℕ
-  pub marks : List ℕ
+  pub occupied : List ℕ
   pub second : List ℕ
-  pub reads : r ≡ done first marks
-  pub goes-on : f marks ≡ done second m
+  pub reads : r ≡ done first occupied
+  pub goes-on : f occupied ≡ done second m
   pub joined : s ≡ first ++ second
 
 pub next-done : (r : Reading) (f : List ℕ → Reading) (s m : List ℕ) → next r f ≡ done s m → Parts r f s m
@@ -37,7 +37,7 @@ next-done (done x i) f s m e = go (f i) refl
     go (refused n p) o = absurd (let u = rw o at e in let z : _≡_ {A = ℕ} 0 1 = cc in omega arith)
     go (done y j) o =
         let u : done (x ++ y) j ≡ done s m = rw o at e in
-        record { first = x; marks = i; second = y; reads = refl; goes-on = o ∙ (let v : done y j ≡ done y m = cc in v); joined = cc }
+        record { first = x; occupied = i; second = y; reads = refl; goes-on = o ∙ (let v : done y j ≡ done y m = cc in v); joined = cc }
 
 -- PASSAGES
 
@@ -46,15 +46,15 @@ abbrev pub Opens : Passage → Passage → Type 0
 Opens F G = (s : List ℕ) → Reads F s → Reads G s
 
 pub alike : (F G : Passage) → ((base area : ℕ) (m : List ℕ) → F base area m ≡ G base area m) → Opens F G
-alike F G e s r = record { base = r .base; area = r .area; marks = r .marks; taken = r .taken; is = sym (e (r .base) (r .area) (r .marks)) ∙ r .is }
+alike F G e s r = record { base = r .base; area = r .area; occupied = r .occupied; taken = r .taken; is = sym (e (r .base) (r .area) (r .occupied)) ∙ r .is }
 
 pub two-of : (A B : Passage) (s : List ℕ) → Reads (then A B) s → (x : List ℕ) × (y : List ℕ) × Reads A x × Reads B y × (s ≡ x ++ y)
 two-of A B s r =
-    let p = next-done (A (r .base) (r .area) (r .marks)) (λ m. B (r .base) (r .area) m) s (r .taken) (r .is) in (
+    let p = next-done (A (r .base) (r .area) (r .occupied)) (λ m. B (r .base) (r .area) m) s (r .taken) (r .is) in (
       p .first,
       p .second,
-      record { base = r .base; area = r .area; marks = r .marks; taken = p .marks; is = p .reads },
-      record { base = r .base; area = r .area; marks = p .marks; taken = r .taken; is = p .goes-on },
+      record { base = r .base; area = r .area; occupied = r .occupied; taken = p .occupied; is = p .reads },
+      record { base = r .base; area = r .area; occupied = p .occupied; taken = r .taken; is = p .goes-on },
       p .joined,
     )
 

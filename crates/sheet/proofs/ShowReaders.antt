@@ -20,7 +20,7 @@ use Rattle.schema.specs.declared.Tested.{Tested}
 use Rattle.schema.specs.declared.Scope.{Scope}
 use Rattle.schema.specs.declared.Scope.the-variants.{Whole, Fields}
 use Rattle.schema.proofs.Records.{fields-more, fields-none}
-use Rattle.message.specs.Marks.{mark}
+use Rattle.message.specs.Occupancy.{occupy}
 use Rattle.message.specs.Sheet.{Mark, VA, ST, SG, SQ, GB, XT, XU, markBytes, NO, GE, kindMark, fieldMark}
 use Rattle.settings.specs.Store.{lax}
 use Rattle.message.specs.Walk.{Reading, refused, done, prefixed, next, Here, here, Reader, Inner, byte, word, Place, lost, locate, onward, noneR, thenR, markedR, optionalR, plainR, inlineR, indirectR, textR, innerR, itemsR, listR, kindR, valueR, fieldR, fieldsR, extendingR, groupsR, extensionR, extensionIn, behindR, padded, bodyR, headR, groupR, walk}
@@ -89,7 +89,7 @@ unfolding next prefixed
 next-alone (refused n p) = refl
 next-alone (done s m) = ap (λ (t : List ℕ). done t m) (append-nil s)
 
--- a reading of an inner group, whose marks do not matter
+-- a reading of an inner group, whose occupancy does not matter
 inner-done : (x : List ℕ) (r : Reading) (i s m : List ℕ) → prefixed x (next r (λ _. done [] i)) ≡ done s m → (j : List ℕ) × (prefixed x r ≡ done s j)
 unfolding prefixed next
 inner-done x (refused n p) i s m e = absurd (let z : _≡_ {A = ℕ} 0 1 = cc in omega arith)
@@ -104,7 +104,7 @@ onward-need false n p x h inside s m e = absurd (let z : _≡_ {A = ℕ} 0 1 = c
 
 module _ (past w : ℕ) (inside : ℕ → Reader) (h : Here) (at : ℕ) (m s m′ : List ℕ) (e : indirectR past w inside h at m ≡ done s m′) where
   located : (at + word at (h .bytes) + (4 + word (at + word at (h .bytes)) (h .bytes) * w) ≤ length (h .bytes))
-      × (inside (word (at + word at (h .bytes)) (h .bytes)) h (at + word at (h .bytes)) (mark (at + word at (h .bytes)) (4 + word (at + word at (h .bytes)) (h .bytes) * w) m) ≡ done s m′)
+      × (inside (word (at + word at (h .bytes)) (h .bytes)) h (at + word at (h .bytes)) (occupy (at + word at (h .bytes)) (4 + word (at + word at (h .bytes)) (h .bytes) * w) m) ≡ done s m′)
   unfolding indirectR locate onward
   located =
       let a = onward-need _ _ _ _ h inside s m′ e in
@@ -118,7 +118,7 @@ module _ (past w : ℕ) (inside : ℕ → Reader) (b : List ℕ) (at p n : ℕ) 
   indirect-inside s r = rw (in′, ip) (located past w inside _ at _ _ _ (r .is) .0)
 
   pub indirect-opens : Opens (passage (indirectR past w inside) b at) (passage (inside n) b p)
-  indirect-opens = rw (in′, ip) (λ s r. record { base = r .base; area = r .area; marks = _; taken = r .taken; is = located past w inside _ at _ _ _ (r .is) .1 })
+  indirect-opens = rw (in′, ip) (λ s r. record { base = r .base; area = r .area; occupied = _; taken = r .taken; is = located past w inside _ at _ _ _ (r .is) .1 })
 
   -- with a mark before it
   pub marked-inside : (k : Mark) (s : List ℕ) → Reads (passage (markedR k (indirectR past w inside)) b at) s → p + (4 + n * w) ≤ length b
@@ -129,7 +129,7 @@ module _ (past w : ℕ) (inside : ℕ → Reader) (b : List ℕ) (at p n : ℕ) 
   unfolding markedR
   marked-opens k = rw (in′, ip) (λ s r.
       let q = prefixed-done _ _ _ _ (r .is) in
-      record { base = r .base; area = r .area; marks = _; taken = r .taken; is = ap (prefixed (markBytes k)) (located past w inside _ at _ _ _ (q .1) .1 ∙ sym (q .1)) ∙ r .is })
+      record { base = r .base; area = r .area; occupied = _; taken = r .taken; is = ap (prefixed (markBytes k)) (located past w inside _ at _ _ _ (q .1) .1 ∙ sym (q .1)) ∙ r .is })
 
 -- A MARK AND WHAT COMES BEHIND IT
 
@@ -143,7 +143,7 @@ module _ (k : Mark) (b : List ℕ) (at : ℕ) where
   unfolding markedR next
   marked-as R G f s r =
       let q = prefixed-done _ _ _ _ (r .is) in
-      record { base = r .base; area = r .area; marks = r .marks; taken = r .taken; is = ap (prefixed (markBytes k)) (f _ _ _ _ _ (q .1) ∙ sym (q .1)) ∙ r .is }
+      record { base = r .base; area = r .area; occupied = r .occupied; taken = r .taken; is = ap (prefixed (markBytes k)) (f _ _ _ _ _ (q .1) ∙ sym (q .1)) ∙ r .is }
 
   marked-just : (R : Reader) (x : List ℕ) → ((base area : ℕ) (m s m′ : List ℕ) → R (here lax b base area) at m ≡ done s m′ → done x m ≡ done s m′) → Opens (passage (markedR k R) b at) (just (markBytes k ++ x))
   unfolding next prefixed
@@ -180,8 +180,8 @@ module _ (k : Mark) (b : List ℕ) (at : ℕ) where
   pub marked-inner : (t : List ℕ) (l a n : ℕ) → Opens (passage (markedR k (innerR (innerOf lax t l) a n)) b at) (then (just (markBytes k)) (whole t l a (part (4 + n) at b)))
   unfolding markedR innerR next prefixed
   marked-inner t l a n s r =
-      let q = inner-done (markBytes k) (innerOf lax t l a (r .base + at) (part (4 + n) at b)) (r .marks) s (r .taken) (r .is) in
-      record { base = r .base + at; area = r .area; marks = r .marks; taken = q .0; is = q .1 }
+      let q = inner-done (markBytes k) (innerOf lax t l a (r .base + at) (part (4 + n) at b)) (r .occupied) s (r .taken) (r .is) in
+      record { base = r .base + at; area = r .area; occupied = r .occupied; taken = q .0; is = q .1 }
 
 pub inline-length : (n at : ℕ) (b : List ℕ) → at + 1 + n ≤ length b → length (markBytes ST ++ (bytesOf 4 n ++ part n (at + 1) b)) ≡ 6 + n
 inline-length n at b h =
@@ -256,11 +256,11 @@ module _ (I : Inner) (sw : ℕ → ℕ) (S : ℕ → Reader) (f : Field) (b : Li
   pub field-absent : f .optional ≡ true → (byte at b ≡ 1 → ⊥) → Opens (passage (fieldR I sw S f) b at) (just NO)
   unfolding optionalR
   field-absent o d s r =
-      let e = sym (field-optional I sw S f (here lax b (r .base) (r .area)) at (r .marks) o) ∙ r .is in
+      let e = sym (field-optional I sw S f (here lax b (r .base) (r .area)) at (r .occupied) o) ∙ r .is in
       let x = rw (ne-eqb _ _ d) at e in
       let y = need-done _ _ _ _ _ _ x in
       let z = need-done _ _ _ _ _ _ (y .1) in
-      record { base = r .base; area = r .area; marks = r .marks; taken = r .taken; is = z .1 }
+      record { base = r .base; area = r .area; occupied = r .occupied; taken = r .taken; is = z .1 }
 
   pub field-present : f .optional ≡ true → byte at b ≡ 1 → Opens (passage (fieldR I sw S f) b at) (passage (markedValueR I sw S f) b (at + 1))
   field-present o y = alike _ _ (λ base area m. field-there I sw S f (here lax b base area) at m o y)
@@ -377,14 +377,14 @@ module _ (gs : List Group) (I : Inner) (b : List ℕ) where
     extending-known k s r =
         let q = extending-is s r in
         let e = need-done _ _ _ _ _ _ (q .is) .1 in
-        record { base = q .base; area = q .area; marks = q .marks; taken = q .taken; is = rw k at e }
+        record { base = q .base; area = q .area; occupied = q .occupied; taken = q .taken; is = rw k at e }
 
     pub extending-kept : known gs (le (part 8 (p + 4) b)) ≡ false → Opens (passage (indirectR 26 1 (extendingR gs I)) b at) (just (markBytes XU ++ part (4 + n) p b))
     unfolding extendingR
     extending-kept k s r = marked-text XU b p false n s (kept s (extending-is s r))
       where
         kept : Opens (passage (extendingR gs I n) b p) (passage (markedR XU (textR false n)) b p)
-        kept s q = let e = need-done _ _ _ _ _ _ (q .is) .1 in record { base = q .base; area = q .area; marks = q .marks; taken = q .taken; is = rw k at e }
+        kept s q = let e = need-done _ _ _ _ _ _ (q .is) .1 in record { base = q .base; area = q .area; occupied = q .occupied; taken = q .taken; is = rw k at e }
 
 -- A GROUP
 
@@ -414,9 +414,9 @@ module _ (t : List ℕ) (l g : ℕ) (b s : List ℕ) (r : Reads (bodyOf t l g b)
       let u = padded-done h (prefixed (part 8 4 b) (next B (λ m. done GE m))) s (r .taken) (need-done _ _ _ _ _ _ (r .is) .1) in
       let v = prefixed-done (part 8 4 b) (next B (λ m. done GE m)) s (u .0) (u .1) in
       let w = next-done B (λ m. done GE m) (v .0) (u .0) (v .1) in
-      let q : B ≡ K = w .reads ∙ sym (need-done (extensionIn h 12) 3 (r .base + 12) K (w .first) (w .marks) (w .reads) .1) in
+      let q : B ≡ K = w .reads ∙ sym (need-done (extensionIn h 12) 3 (r .base + 12) K (w .first) (w .occupied) (w .reads) .1) in
       let a = sym (next-next (staticOf lax t l 5 g h 16 o) E (λ m. done GE m)) ∙ ap (λ (x : Reading). next x (λ m. done GE m)) (sym q) in
-      record { base = r .base; area = h .area; marks = o; taken = u .0; is = ap (prefixed (part 8 4 b)) a ∙ u .1 }
+      record { base = r .base; area = h .area; occupied = o; taken = u .0; is = ap (prefixed (part 8 4 b)) a ∙ u .1 }
 
 -- what a dynamic group's reading tells before its body
 record Head (t : List ℕ) (l : ℕ) (b s : List ℕ) : Type 0 where
@@ -443,7 +443,7 @@ head t (suc l) a b s r =
       some = omega arith;
       long = leb-true _ _ (x .0);
       inside = ltb-true _ _ (y .0);
-      body = rw q (record { base = r .base; area = r .area; marks = r .marks; taken = r .taken; is = e });
+      body = rw q (record { base = r .base; area = r .area; occupied = r .occupied; taken = r .taken; is = e });
     }
 
 -- BY ITS SCOPE
@@ -482,7 +482,7 @@ module _ (t : List ℕ) (l d : ℕ) (b : List ℕ) (at : ℕ) where
       → Opens (groupOf t l d scope b at) (then (just (idOf scope b)) (then (passage (staticOf lax t n d g) b at) (endOf t n scope b)))
   unfolding groupOf takes numberOf idOf endOf next
   group-parts (Whole a) h g n ig in′ s r = rw (ig, in′, h .0, h .1) (body-opens t (l - 1) _ b s (head t l a b s r .body))
-  group-parts (Fields g′) h g n ig in′ s r = let q = in′ ∙ sub-zero l in rw (ig, q) (record { base = r .base; area = r .area; marks = r .marks; taken = r .taken; is = next-alone _ ∙ r .is })
+  group-parts (Fields g′) h g n ig in′ s r = let q = in′ ∙ sub-zero l in rw (ig, q) (record { base = r .base; area = r .area; occupied = r .occupied; taken = r .taken; is = next-alone _ ∙ r .is })
 
   pub group-readable : (k : List ℕ) → Layout t k → (scope : Scope) → Lies t d scope b at → (g : ℕ) → g ≡ numberOf t scope b
       → (s : List ℕ) → Reads (groupOf t l d scope b at) s → Readable t l d b at scope g
@@ -496,7 +496,7 @@ module _ (t : List ℕ) (l d : ℕ) (b : List ℕ) (at : ℕ) where
 
 pub walk-done : (t b s m : List ℕ) → walk lax (schema t) b ≡ done s m → Reads (then (just (markBytes GB)) (whole t 8 0 b)) s
 unfolding walk next
-walk-done t b s m e = record { base = 0; area = 0; marks = []; taken = m; is = need-done _ _ _ _ _ _ e .1 }
+walk-done t b s m e = record { base = 0; area = 0; occupied = []; taken = m; is = need-done _ _ _ _ _ _ e .1 }
 
 pub walk-fits : (t b s m out : List ℕ) → walk lax (schema t) b ≡ done s m → length s ≤ length out → Fits (then (just (markBytes GB)) (whole t 8 0 b)) 0 out
 walk-fits t b s m out e l = record { sheet = s; reads = walk-done t b s m e; room = omega (arith, l) }

@@ -1,5 +1,5 @@
--- What the code that writes a sheet asks of its callers and what it leaves. It walks a message that the check accepted, so it tests nothing and keeps no marks:
--- it speaks of what a reader gives for some marks, wherever its group starts in the message.
+-- What the code that writes a sheet asks of its callers and what it leaves. It walks a message that the check accepted, so it tests nothing and keeps no occupancy:
+-- it speaks of what a reader gives for some occupancy, wherever its group starts in the message.
 use mathlib.Core.Path.{_≡_}
 use mathlib.Core.List.{List, []}
 use Prim.Native.Nat.{ℕ, _+_, _≤_}
@@ -16,7 +16,7 @@ use Rattle.settings.specs.Store.{lax}
 use Rattle.message.specs.Walk.{Reading, done, next, here, Reader, markedR, plainR, indirectR, innerR, fieldR, extendingR, extensionR, groupR}
 use Rattle.message.specs.Check.{itemR, markedValueR, innerOf, widthOf, staticOf}
 
--- What is read at one place of a message, by the start of its group, the group's data area and its marks.
+-- What is read at one place of a message, by the start of its group, the group's data area and its occupancy.
 abbrev pub Passage : Type 0
 Passage = ℕ → ℕ → List ℕ → Reading
 
@@ -94,9 +94,9 @@ endOf t levels (Fields group) b = just []
 pub record Reads (F : Passage) (s : List ℕ) : Type 0 where
   pub base : ℕ
   pub area : ℕ
-  pub marks : List ℕ
+  pub occupied : List ℕ
   pub taken : List ℕ
-  pub is : F base area marks ≡ done s taken
+  pub is : F base area occupied ≡ done s taken
 
 -- The passage has a sheet, and `out` has room for it from `pos` on.
 pub record Fits (F : Passage) (pos : ℕ) (out : List ℕ) : Type 0 where

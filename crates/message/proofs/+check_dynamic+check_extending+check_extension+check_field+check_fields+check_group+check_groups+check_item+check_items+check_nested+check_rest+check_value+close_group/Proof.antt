@@ -19,10 +19,10 @@ use Rattle.schema.proofs.Groups.{static-inside, placed-inside}
 use Rattle.schema.proofs.Depth.{and-both, shallow-some, width-cons, shallow-cons, wide-kind, wide-value, wide-field}
 use Rattle.message.specs.Walk.{byte, indirectR, innerR, itemsR, fieldsR, extendingR, valueR}
 use Rattle.message.specs.Count.{count, counted}
-use Rattle.message.specs.Check.{levelsIn, ignoredIn, marksOf, closing, after, within, itemR, markedValueR, innerOf, widthOf, staticOf}
+use Rattle.message.specs.Check.{levelsIn, ignoredIn, occupancyOf, closing, after, within, itemR, markedValueR, innerOf, widthOf, staticOf}
 use Rattle.message.proofs.Count.{count-inner}
 use Rattle.message.proofs.CheckAnswers.{refuses, counts, stays, goes-on, passed, stopped, bounded}
-use Rattle.message.proofs.CheckMarks.{retaken, pads-none}
+use Rattle.message.proofs.CheckOccupancy.{retaken, pads-none}
 use Rattle.message.proofs.CheckFields.{leads-nowhere, leads-to, fields-passed, fields-stopped, fields-end, plain-wide, fields-plain, flag-wide, flag-unset, field-optional, field-set, ItemsAt, one-item, sequence-nowhere, sequence-items, items-passed, items-stopped, items-end, items-left, items-plain, items-indirect, items-number, item-plain, item-number, item-inline, item-indirect, item-static, item-dynamic, wide-number, wide-inline, wide-indirect, wide-static, wide-dynamic, kind-static, start-inside, start-static, start-width, start-shallow, ready}
 use Rattle.message.proofs.CheckGroups.{nested-passed, extension-zero, extension-nowhere, extension-empty, extension-some, extending-short, extending-known, extending-kept, rest-plain, closing-filled}
 use Rattle.message.proofs.CheckScopes.{weight, inside-falls, inside-long, inside-left, opens-begun, opens-refused, closes-dynamic, closes-static}
@@ -287,10 +287,10 @@ check-dynamic-check-nested-requires t c κs = let a = c .before .before .before 
 
 check-dynamic-returns : (t : ℕ) → check-dynamic-lts.Need-returns (check-dynamic-claims t) (check-dynamic-at t) check-dynamic.Post
 check-dynamic-returns t c = let a = c .before .before .before .before .before .before .before .before .before .before .before .before .before .before .before .args in let t = a .table .now in let I = innerOf (ignoredIn (a .frame .rules)) t (levelsIn (a .frame .rules)) in
-    c .before .before .check-nested .ensures ∙ sym (ap (after (a .before)) (leads-to 26 1 (innerR I (a .allowed)) (within (a .bytes .now) (a .frame)) (a .at) (marksOf (a .frame .area) (a .taken) (a .marks .now)) _ _ (c .before .before .before .before .before .before .before .before .before .locate .ensures .0) _ _ _ (c .before .before .before .before .before .found .given .1) ∙ count-inner (within (a .bytes .now) (a .frame)) _ _ I (a .allowed) _))
+    c .before .before .check-nested .ensures ∙ sym (ap (after (a .before)) (leads-to 26 1 (innerR I (a .allowed)) (within (a .bytes .now) (a .frame)) (a .at) (occupancyOf (a .frame .area) (a .taken) (a .occupied .now)) _ _ (c .before .before .before .before .before .before .before .before .before .locate .ensures .0) _ _ _ (c .before .before .before .before .before .found .given .1) ∙ count-inner (within (a .bytes .now) (a .frame)) _ _ I (a .allowed) _))
 
 check-dynamic-returns-2 : (t : ℕ) → check-dynamic-lts.Need-returns-2 (check-dynamic-claims t) (check-dynamic-at t) check-dynamic.Post
-check-dynamic-returns-2 t c = let a = c .before .before .before .before .before .before .before .before .before .before .before .args in refuses _ _ _ _ _ (leads-nowhere 26 1 (innerR (innerOf (ignoredIn (a .frame .rules)) (a .table .now) (levelsIn (a .frame .rules))) (a .allowed)) (within (a .bytes .now) (a .frame)) (a .at) (marksOf (a .frame .area) (a .taken) (a .marks .now)) _ _ (c .before .before .before .before .before .locate .ensures .0) _ _ (c .before .found2 .given .1))
+check-dynamic-returns-2 t c = let a = c .before .before .before .before .before .before .before .before .before .before .before .args in refuses _ _ _ _ _ (leads-nowhere 26 1 (innerR (innerOf (ignoredIn (a .frame .rules)) (a .table .now) (levelsIn (a .frame .rules))) (a .allowed)) (within (a .bytes .now) (a .frame)) (a .at) (occupancyOf (a .frame .area) (a .taken) (a .occupied .now)) _ _ (c .before .before .before .before .before .locate .ensures .0) _ _ (c .before .found2 .given .1))
 
 abbrev check-extending-claims : ℕ → check-extending-lts.Claims
 check-extending-claims t = (locate-reads.Asked, locate-reads.Learnt, read-u64-reads.Asked, read-u64-reads.Learnt, is-known-reads.Asked, is-known-reads.Learnt, longer-reads.Asked, longer-reads.Learnt, check-nested-below t, check-nested.Post)
@@ -299,7 +299,7 @@ check-extending-add-t19 : (t : ℕ) → check-extending-lts.Need-add-t19 (check-
 check-extending-add-t19 t c = omega (arith, c .before .before .before .before .before .before .before .locate .ensures .1 .inside _ _ _ (c .before .before .before .found .given .1), c .before .before .before .before .before .before .before .before .before .before .before .before .before .pre .1 .0 .small)
 
 check-extending-returns : (t : ℕ) → check-extending-lts.Need-returns (check-extending-claims t) (check-extending-at t) check-extending.Post
-check-extending-returns t c = let a = c .before .before .before .before .before .before .before .before .before .before .before .before .before .args in refuses _ _ _ _ _ (extending-short (schema (a .table .now)) (innerOf (ignoredIn (a .frame .rules)) (a .table .now) (levelsIn (a .frame .rules))) (within (a .bytes .now) (a .frame)) (a .at) (marksOf (a .frame .area) (a .taken) (a .marks .now)) _ _ (c .before .before .before .before .before .before .before .locate .ensures .0) _ _ _ (c .before .before .before .found .given .1) (c .before .if1 .taken))
+check-extending-returns t c = let a = c .before .before .before .before .before .before .before .before .before .before .before .before .before .args in refuses _ _ _ _ _ (extending-short (schema (a .table .now)) (innerOf (ignoredIn (a .frame .rules)) (a .table .now) (levelsIn (a .frame .rules))) (within (a .bytes .now) (a .frame)) (a .at) (occupancyOf (a .frame .area) (a .taken) (a .occupied .now)) _ _ (c .before .before .before .before .before .before .before .locate .ensures .0) _ _ _ (c .before .before .before .found .given .1) (c .before .if1 .taken))
 
 check-extending-add-read-u64 : (t : ℕ) → check-extending-lts.Need-add-read-u64 (check-extending-claims t) (check-extending-at t) check-extending.Post
 check-extending-add-read-u64 t c = omega (arith, c .before .before .before .before .before .before .locate .ensures .1 .inside _ _ _ (c .before .before .found .given .1))
@@ -316,26 +316,26 @@ check-extending-check-nested-requires t c κs = let a = c .before .before .befor
 
 check-extending-returns-2 : (t : ℕ) → check-extending-lts.Need-returns-2 (check-extending-claims t) (check-extending-at t) check-extending.Post
 check-extending-returns-2 t c = let a = c .before .before .before .before .before .before .before .before .before .before .before .before .before .before .before .before .before .before .before .before .args in
-    c .before .before .check-nested .ensures ∙ sym (goes-on (a .before) 2 _ _ _ (extending-known (schema (a .table .now)) (innerOf (ignoredIn (a .frame .rules)) (a .table .now) (levelsIn (a .frame .rules))) (within (a .bytes .now) (a .frame)) (a .at) (marksOf (a .frame .area) (a .taken) (a .marks .now)) _ _ (c .before .before .before .before .before .before .before .before .before .before .before .before .before .before .locate .ensures .0) _ _ _ (c .before .before .before .before .before .before .before .before .before .before .found .given .1) (c .before .before .before .before .before .before .before .before .if1 .left) (rw (c .before .before .before .before .before .before .before .read-u64 .ensures) at (sym (c .before .before .before .before .before .before .is-known .ensures)) ∙ c .before .before .before .before .before .if2 .taken)) (c .before .before .before .longer .ensures))
+    c .before .before .check-nested .ensures ∙ sym (goes-on (a .before) 2 _ _ _ (extending-known (schema (a .table .now)) (innerOf (ignoredIn (a .frame .rules)) (a .table .now) (levelsIn (a .frame .rules))) (within (a .bytes .now) (a .frame)) (a .at) (occupancyOf (a .frame .area) (a .taken) (a .occupied .now)) _ _ (c .before .before .before .before .before .before .before .before .before .before .before .before .before .before .locate .ensures .0) _ _ _ (c .before .before .before .before .before .before .before .before .before .before .found .given .1) (c .before .before .before .before .before .before .before .before .if1 .left) (rw (c .before .before .before .before .before .before .before .read-u64 .ensures) at (sym (c .before .before .before .before .before .before .is-known .ensures)) ∙ c .before .before .before .before .before .if2 .taken)) (c .before .before .before .longer .ensures))
 
 check-extending-add-longer : (t : ℕ) → check-extending-lts.Need-add-longer (check-extending-claims t) (check-extending-at t) check-extending.Post
 check-extending-add-longer t c = omega (arith, rw mul-one at (c .before .before .before .before .before .before .before .before .before .locate .ensures .1 .inside _ _ _ (c .before .before .before .before .before .found .given .1)))
 
 check-extending-returns-3 : (t : ℕ) → check-extending-lts.Need-returns-3 (check-extending-claims t) (check-extending-at t) check-extending.Post
 check-extending-returns-3 t c = let a = c .before .before .before .before .before .before .before .before .before .before .before .before .before .before .before .before .args in
-    counts _ _ _ _ _ _ (extending-kept (schema (a .table .now)) (innerOf (ignoredIn (a .frame .rules)) (a .table .now) (levelsIn (a .frame .rules))) (within (a .bytes .now) (a .frame)) (a .at) (marksOf (a .frame .area) (a .taken) (a .marks .now)) _ _ (c .before .before .before .before .before .before .before .before .before .before .locate .ensures .0) _ _ _ (c .before .before .before .before .before .before .found .given .1) (c .before .before .before .before .if1 .left) (rw (c .before .before .before .read-u64 .ensures) at (sym (c .before .before .is-known .ensures)) ∙ c .before .if2 .left) (c .before .before .before .before .before .before .before .before .before .before .locate .ensures .1 .inside _ _ _ (c .before .before .before .before .before .before .found .given .1))) (c .longer2 .ensures)
+    counts _ _ _ _ _ _ (extending-kept (schema (a .table .now)) (innerOf (ignoredIn (a .frame .rules)) (a .table .now) (levelsIn (a .frame .rules))) (within (a .bytes .now) (a .frame)) (a .at) (occupancyOf (a .frame .area) (a .taken) (a .occupied .now)) _ _ (c .before .before .before .before .before .before .before .before .before .before .locate .ensures .0) _ _ _ (c .before .before .before .before .before .before .found .given .1) (c .before .before .before .before .if1 .left) (rw (c .before .before .before .read-u64 .ensures) at (sym (c .before .before .is-known .ensures)) ∙ c .before .if2 .left) (c .before .before .before .before .before .before .before .before .before .before .locate .ensures .1 .inside _ _ _ (c .before .before .before .before .before .before .found .given .1))) (c .longer2 .ensures)
 
 check-extending-returns-4 : (t : ℕ) → check-extending-lts.Need-returns-4 (check-extending-claims t) (check-extending-at t) check-extending.Post
-check-extending-returns-4 t c = let a = c .before .before .before .before .before .before .before .before .before .before .before .args in refuses _ _ _ _ _ (leads-nowhere 26 1 (extendingR (schema (a .table .now)) (innerOf (ignoredIn (a .frame .rules)) (a .table .now) (levelsIn (a .frame .rules)))) (within (a .bytes .now) (a .frame)) (a .at) (marksOf (a .frame .area) (a .taken) (a .marks .now)) _ _ (c .before .before .before .before .before .locate .ensures .0) _ _ (c .before .found2 .given .1))
+check-extending-returns-4 t c = let a = c .before .before .before .before .before .before .before .before .before .before .before .args in refuses _ _ _ _ _ (leads-nowhere 26 1 (extendingR (schema (a .table .now)) (innerOf (ignoredIn (a .frame .rules)) (a .table .now) (levelsIn (a .frame .rules)))) (within (a .bytes .now) (a .frame)) (a .at) (occupancyOf (a .frame .area) (a .taken) (a .occupied .now)) _ _ (c .before .before .before .before .before .locate .ensures .0) _ _ (c .before .found2 .given .1))
 
 abbrev check-extension-claims : ℕ → check-extension-lts.Claims
 check-extension-claims t = (read-u32-reads.Asked, read-u32-reads.Learnt, locate-reads.Asked, locate-reads.Learnt, longer-reads.Asked, longer-reads.Learnt, check-groups-below t, check-groups.Post)
 
 check-extension-returns : (t : ℕ) → check-extension-lts.Need-returns (check-extension-claims t) (check-extension-at t) check-extension.Post
-check-extension-returns t c = let a = c .before .before .before .before .before .before .args in stays _ (a .before) _ _ (extension-zero (schema (a .table .now)) (innerOf (ignoredIn (a .frame .rules)) (a .table .now) (levelsIn (a .frame .rules))) (within (a .bytes .now) (a .frame)) 12 (marksOf (a .frame .area) (a .taken) (a .marks .now)) (sym (c .before .read-u32 .ensures .0) ∙ c .if1 .taken)) (search needs)
+check-extension-returns t c = let a = c .before .before .before .before .before .before .args in stays _ (a .before) _ _ (extension-zero (schema (a .table .now)) (innerOf (ignoredIn (a .frame .rules)) (a .table .now) (levelsIn (a .frame .rules))) (within (a .bytes .now) (a .frame)) 12 (occupancyOf (a .frame .area) (a .taken) (a .occupied .now)) (sym (c .before .read-u32 .ensures .0) ∙ c .if1 .taken)) (search needs)
 
 check-extension-returns-2 : (t : ℕ) → check-extension-lts.Need-returns-2 (check-extension-claims t) (check-extension-at t) check-extension.Post
-check-extension-returns-2 t c = let a = c .before .before .before .before .before .before .before .before .before .before .before .before .before .before .args in stays _ (a .before) _ _ (extension-empty (schema (a .table .now)) (innerOf (ignoredIn (a .frame .rules)) (a .table .now) (levelsIn (a .frame .rules))) (within (a .bytes .now) (a .frame)) 12 (marksOf (a .frame .area) (a .taken) (a .marks .now)) (λ z. c .before .before .before .before .before .before .before .before .if1 .left (c .before .before .before .before .before .before .before .before .before .read-u32 .ensures .0 ∙ z)) _ _ (c .before .before .before .before .before .before .locate .ensures .0) _ _ _ (c .before .before .found .given .1) (c .if2 .taken)) (search needs)
+check-extension-returns-2 t c = let a = c .before .before .before .before .before .before .before .before .before .before .before .before .before .before .args in stays _ (a .before) _ _ (extension-empty (schema (a .table .now)) (innerOf (ignoredIn (a .frame .rules)) (a .table .now) (levelsIn (a .frame .rules))) (within (a .bytes .now) (a .frame)) 12 (occupancyOf (a .frame .area) (a .taken) (a .occupied .now)) (λ z. c .before .before .before .before .before .before .before .before .if1 .left (c .before .before .before .before .before .before .before .before .before .read-u32 .ensures .0 ∙ z)) _ _ (c .before .before .before .before .before .before .locate .ensures .0) _ _ _ (c .before .before .found .given .1) (c .if2 .taken)) (search needs)
 
 check-extension-add-check-groups : (t : ℕ) → check-extension-lts.Need-add-check-groups (check-extension-claims t) (check-extension-at t) check-extension.Post
 check-extension-add-check-groups t c = omega (arith, c .before .before .before .before .before .before .before .locate .ensures .1 .inside _ _ _ (c .before .before .before .found .given .1))
@@ -346,10 +346,10 @@ check-extension-check-groups-requires t c κs = let a = c .before .before .befor
 
 check-extension-returns-3 : (t : ℕ) → check-extension-lts.Need-returns-3 (check-extension-claims t) (check-extension-at t) check-extension.Post
 check-extension-returns-3 t c = let a = c .before .before .before .before .before .before .before .before .before .before .before .before .before .before .before .before .before .before .before .args in
-    c .before .before .check-groups .ensures ∙ sym (goes-on (a .before) 6 _ _ _ (extension-some (schema (a .table .now)) (innerOf (ignoredIn (a .frame .rules)) (a .table .now) (levelsIn (a .frame .rules))) (within (a .bytes .now) (a .frame)) 12 (marksOf (a .frame .area) (a .taken) (a .marks .now)) (λ z. c .before .before .before .before .before .before .before .before .before .before .before .before .before .if1 .left (c .before .before .before .before .before .before .before .before .before .before .before .before .before .before .read-u32 .ensures .0 ∙ z)) _ _ (c .before .before .before .before .before .before .before .before .before .before .before .locate .ensures .0) _ _ _ (c .before .before .before .before .before .before .before .found .given .1) (c .before .before .before .before .before .if2 .left) (omega (arith, c .before .before .before .before .before .before .before .before .before .before .before .locate .ensures .1 .inside _ _ _ (c .before .before .before .before .before .before .before .found .given .1)))) (c .before .before .before .longer .ensures))
+    c .before .before .check-groups .ensures ∙ sym (goes-on (a .before) 6 _ _ _ (extension-some (schema (a .table .now)) (innerOf (ignoredIn (a .frame .rules)) (a .table .now) (levelsIn (a .frame .rules))) (within (a .bytes .now) (a .frame)) 12 (occupancyOf (a .frame .area) (a .taken) (a .occupied .now)) (λ z. c .before .before .before .before .before .before .before .before .before .before .before .before .before .if1 .left (c .before .before .before .before .before .before .before .before .before .before .before .before .before .before .read-u32 .ensures .0 ∙ z)) _ _ (c .before .before .before .before .before .before .before .before .before .before .before .locate .ensures .0) _ _ _ (c .before .before .before .before .before .before .before .found .given .1) (c .before .before .before .before .before .if2 .left) (omega (arith, c .before .before .before .before .before .before .before .before .before .before .before .locate .ensures .1 .inside _ _ _ (c .before .before .before .before .before .before .before .found .given .1)))) (c .before .before .before .longer .ensures))
 
 check-extension-returns-4 : (t : ℕ) → check-extension-lts.Need-returns-4 (check-extension-claims t) (check-extension-at t) check-extension.Post
-check-extension-returns-4 t c = let a = c .before .before .before .before .before .before .before .before .before .before .before .before .before .args in refuses _ _ _ _ _ (extension-nowhere (schema (a .table .now)) (innerOf (ignoredIn (a .frame .rules)) (a .table .now) (levelsIn (a .frame .rules))) (within (a .bytes .now) (a .frame)) 12 (marksOf (a .frame .area) (a .taken) (a .marks .now)) (λ z. c .before .before .before .before .before .before .before .if1 .left (c .before .before .before .before .before .before .before .before .read-u32 .ensures .0 ∙ z)) _ _ (c .before .before .before .before .before .locate .ensures .0) _ _ (c .before .found2 .given .1))
+check-extension-returns-4 t c = let a = c .before .before .before .before .before .before .before .before .before .before .before .before .before .args in refuses _ _ _ _ _ (extension-nowhere (schema (a .table .now)) (innerOf (ignoredIn (a .frame .rules)) (a .table .now) (levelsIn (a .frame .rules))) (within (a .bytes .now) (a .frame)) 12 (occupancyOf (a .frame .area) (a .taken) (a .occupied .now)) (λ z. c .before .before .before .before .before .before .before .if1 .left (c .before .before .before .before .before .before .before .before .read-u32 .ensures .0 ∙ z)) _ _ (c .before .before .before .before .before .locate .ensures .0) _ _ (c .before .found2 .given .1))
 
 abbrev check-field-claims : ℕ → check-field-lts.Claims
 check-field-claims t = (is-optional-reads.Asked, is-optional-reads.Learnt, is-unset-reads.Asked, is-unset-reads.Learnt, value-width-reads.Asked, value-width-reads.Learnt, check-absent-reads.Asked, check-absent-reads.Learnt, flag-width-reads.Asked, flag-width-reads.Learnt, check-value-below t, check-value.Post)
@@ -368,7 +368,7 @@ check-field-returns : (t : ℕ) → check-field-lts.Need-returns (check-field-cl
 check-field-returns t c = let a = c .before .before .before .before .before .before .before .before .before .args in let t = a .table .now in let u = flag-unset (c .before .before .before .before .is-optional .result) (byte (a .at) (a .bytes .now)) (sym (c .before .before .before .is-unset .ensures) ∙ c .before .before .if1 .taken) in
     let f = fieldAt (enums t) (drop (a .field) t) in let I = innerOf (ignoredIn (a .frame .rules)) t (levelsIn (a .frame .rules)) in let S = staticOf (ignoredIn (a .frame .rules)) t (levelsIn (a .frame .rules)) (a .depth) in let sw = widthOf t (a .depth) in
     let v = c .before .value-width .ensures .0 (enums t) ∙ wide-value t (a .index .now) (c .before .before .before .before .before .before .before .before .before .pre .1 .0 .layout) (a .depth) _ (c .before .before .before .before .before .before .before .before .before .pre .1 .3) in
-    rw v at (c .check-absent .ensures (fieldMark f) (valueR I sw S f) (λ s. marksOf (a .frame .area) s (a .marks .now))) ∙ ap (λ x. after (a .before) (count x)) (sym (field-optional I sw S f (within (a .bytes .now) (a .frame)) (a .at) (marksOf (a .frame .area) (a .taken) (a .marks .now)) (sym (c .before .before .before .before .is-optional .ensures (enums t)) ∙ u .0)))
+    rw v at (c .check-absent .ensures (fieldMark f) (valueR I sw S f) (λ s. occupancyOf (a .frame .area) s (a .occupied .now))) ∙ ap (λ x. after (a .before) (count x)) (sym (field-optional I sw S f (within (a .bytes .now) (a .frame)) (a .at) (occupancyOf (a .frame .area) (a .taken) (a .occupied .now)) (sym (c .before .before .before .before .is-optional .ensures (enums t)) ∙ u .0)))
 
 check-field-add-check-value : (t : ℕ) → check-field-lts.Need-add-check-value (check-field-claims t) (check-field-at t) check-field.Post
 check-field-add-check-value t c = let a = c .before .before .before .before .before .before .before .before .before .args in let t = a .table .now in
@@ -382,18 +382,18 @@ check-field-check-value-requires t c κs = let a = c .before .before .before .be
 check-field-returns-2 : (t : ℕ) → check-field-lts.Need-returns-2 (check-field-claims t) (check-field-at t) check-field.Post
 check-field-returns-2 t c = let a = c .before .before .before .before .before .before .before .before .before .before .before .before .args in let t = a .table .now in
     let f = fieldAt (enums t) (drop (a .field) t) in let I = innerOf (ignoredIn (a .frame .rules)) t (levelsIn (a .frame .rules)) in let S = staticOf (ignoredIn (a .frame .rules)) t (levelsIn (a .frame .rules)) (a .depth) in let sw = widthOf t (a .depth) in
-    c .before .before .check-value .ensures ∙ ap (λ x. after (a .before) (count x)) (sym (field-set I sw S f (within (a .bytes .now) (a .frame)) (a .at) (marksOf (a .frame .area) (a .taken) (a .marks .now)) (c .before .before .before .before .before .before .before .is-optional .result) (c .before .before .before .before .before .before .before .is-optional .ensures (enums t)) (sym (c .before .before .before .before .before .before .is-unset .ensures) ∙ c .before .before .before .before .before .if1 .left) _ (c .before .before .before .flag-width .ensures)))
+    c .before .before .check-value .ensures ∙ ap (λ x. after (a .before) (count x)) (sym (field-set I sw S f (within (a .bytes .now) (a .frame)) (a .at) (occupancyOf (a .frame .area) (a .taken) (a .occupied .now)) (c .before .before .before .before .before .before .before .is-optional .result) (c .before .before .before .before .before .before .before .is-optional .ensures (enums t)) (sym (c .before .before .before .before .before .before .is-unset .ensures) ∙ c .before .before .before .before .before .if1 .left) _ (c .before .before .before .flag-width .ensures)))
 
 abbrev check-fields-Inv-loop : check-fields-lts.InvT-loop
-check-fields-Inv-loop table index bytes marks₀ frame depth group at taken before start total deeper i₀ field₀ place₀ sum₀ holds₀ marks i field place sum holds =
-    (i ≤ total) × (length marks ≡ length marks₀) × (field + 16 * (total - i) ≤ length table)
+check-fields-Inv-loop table index bytes occupied₀ frame depth group at taken before start total deeper i₀ field₀ place₀ sum₀ holds₀ occupied i field place sum holds =
+    (i ≤ total) × (length occupied ≡ length occupied₀) × (field + 16 * (total - i) ≤ length table)
     × (place + fieldsWidth (widthOf table deeper) (fieldsAt (enums table) (total - i) (drop field table)) ≤ length bytes)
     × (shallowFields (shallow (schema table) deeper) (widthOf table deeper) (fieldsAt (enums table) (total - i) (drop field table)) ≡ true) × (sum < 2 ^ 64)
-    × (after before (count (staticOf (ignoredIn (frame .rules)) table (levelsIn (frame .rules)) depth group (within bytes frame) at (marksOf (frame .area) holds₀ marks₀)))
-    ≡ after sum (count (fieldsR (innerOf (ignoredIn (frame .rules)) table (levelsIn (frame .rules))) (widthOf table deeper) (staticOf (ignoredIn (frame .rules)) table (levelsIn (frame .rules)) deeper) (fieldsAt (enums table) (total - i) (drop field table)) (within bytes frame) place (marksOf (frame .area) holds marks))))
+    × (after before (count (staticOf (ignoredIn (frame .rules)) table (levelsIn (frame .rules)) depth group (within bytes frame) at (occupancyOf (frame .area) holds₀ occupied₀)))
+    ≡ after sum (count (fieldsR (innerOf (ignoredIn (frame .rules)) table (levelsIn (frame .rules))) (widthOf table deeper) (staticOf (ignoredIn (frame .rules)) table (levelsIn (frame .rules)) deeper) (fieldsAt (enums table) (total - i) (drop field table)) (within bytes frame) place (occupancyOf (frame .area) holds occupied))))
 
 abbrev check-fields-μ-loop : check-fields-lts.MeasureT-loop
-check-fields-μ-loop table index bytes marks₀ frame depth group at taken before start total deeper i₀ field₀ place₀ sum₀ holds₀ marks i field place sum holds =
+check-fields-μ-loop table index bytes occupied₀ frame depth group at taken before start total deeper i₀ field₀ place₀ sum₀ holds₀ occupied i field place sum holds =
     total - i
 
 abbrev check-fields-claims : ℕ → check-fields-lts.Claims
@@ -416,7 +416,7 @@ check-fields-loop-holds t c = let a = c .before .before .before .before .before 
       omega (arith, w, r .1),
       start-shallow (a .table .now) (a .index .now) P (a .group) (r .2) _ _ s n (a .depth) d (r .3),
       search needs,
-      ap (λ x. after (a .before) (count x)) (start-static (a .table .now) (a .index .now) P (a .group) (r .2) _ _ s n (a .depth) d (innerOf (ignoredIn (a .frame .rules)) (a .table .now) (levelsIn (a .frame .rules))) (within (a .bytes .now) (a .frame)) (a .at) (marksOf (a .frame .area) (a .taken) (a .marks .now))),
+      ap (λ x. after (a .before) (count x)) (start-static (a .table .now) (a .index .now) P (a .group) (r .2) _ _ s n (a .depth) d (innerOf (ignoredIn (a .frame .rules)) (a .table .now) (levelsIn (a .frame .rules))) (within (a .bytes .now) (a .frame)) (a .at) (occupancyOf (a .frame .area) (a .taken) (a .occupied .now))),
     )
 
 check-fields-loop-again : (t : ℕ) → check-fields-lts.Need-loop-again (check-fields-claims t) (check-fields-at t) check-fields.Post check-fields-Inv-loop check-fields-μ-loop
@@ -431,7 +431,7 @@ check-fields-loop-again t c = let a = c .before .before .before .before .before 
       omega (arith, i .3, w, p),
       shallow-cons _ _ _ _ _ f (i .4) .1,
       search needs,
-      i .6 ∙ fields-plain _ (innerOf (ignoredIn (a .frame .rules)) t (levelsIn (a .frame .rules))) sw (staticOf (ignoredIn (a .frame .rules)) t (levelsIn (a .frame .rules)) (a .depth - 1)) (enums t) t (a .bytes .now) (a .frame .base) (a .frame .area) (c .before .before .before .before .before .field-count .result) (c .before .before .before .before .loop .i) (c .before .before .before .before .loop .field) (c .before .before .before .before .loop .place) (c .before .before .before .before .loop .length) (marksOf (a .frame .area) (c .before .before .before .before .loop .holds) (c .before .before .before .before .loop .marks)) _ _ _ (c .before .before .before .loop-test .taken) e (omega (arith, i .3, w, p)) (c .longer .ensures),
+      i .6 ∙ fields-plain _ (innerOf (ignoredIn (a .frame .rules)) t (levelsIn (a .frame .rules))) sw (staticOf (ignoredIn (a .frame .rules)) t (levelsIn (a .frame .rules)) (a .depth - 1)) (enums t) t (a .bytes .now) (a .frame .base) (a .frame .area) (c .before .before .before .before .before .field-count .result) (c .before .before .before .before .loop .i) (c .before .before .before .before .loop .field) (c .before .before .before .before .loop .place) (c .before .before .before .before .loop .length) (occupancyOf (a .frame .area) (c .before .before .before .before .loop .holds) (c .before .before .before .before .loop .occupied)) _ _ _ (c .before .before .before .loop-test .taken) e (omega (arith, i .3, w, p)) (c .longer .ensures),
     )
 
 check-fields-check-field-requires : (t : ℕ) → check-fields-lts.Need-check-field-requires (check-fields-claims t) (check-fields-at t) check-fields.Post check-fields-Inv-loop check-fields-μ-loop
@@ -442,7 +442,7 @@ check-fields-check-field-requires t c κs = let a = c .before .before .before .b
 
 check-fields-returns : (t : ℕ) → check-fields-lts.Need-returns (check-fields-claims t) (check-fields-at t) check-fields.Post check-fields-Inv-loop check-fields-μ-loop
 check-fields-returns t c = let a = c .before .before .before .before .before .before .before .before .before .before .before .before .before .before .before .before .before .before .args in let t = a .table .now in
-    fields-stopped (innerOf (ignoredIn (a .frame .rules)) t (levelsIn (a .frame .rules))) (widthOf t (a .depth - 1)) (staticOf (ignoredIn (a .frame .rules)) t (levelsIn (a .frame .rules)) (a .depth - 1)) (enums t) t (within (a .bytes .now) (a .frame)) (c .before .before .before .before .before .before .before .before .before .before .before .before .field-count .result) (c .before .before .before .before .before .before .before .before .before .before .before .loop .i) (c .before .before .before .before .before .before .before .before .before .before .before .loop .field) (c .before .before .before .before .before .before .before .before .before .before .before .loop .place) (c .before .before .before .before .before .before .before .before .before .before .before .loop .length) (marksOf (a .frame .area) (c .before .before .before .before .before .before .before .before .before .before .before .loop .holds) (c .before .before .before .before .before .before .before .before .before .before .before .loop .marks)) _ _ (c .before .before .before .before .before .check-field .ensures) (c .before .before .before .before .before .before .before .before .before .before .loop-test .taken) _ _ _ (c .before .answer2 .given .1) ∙ sym (c .before .before .before .before .before .before .before .before .before .before .before .loop .inv .6)
+    fields-stopped (innerOf (ignoredIn (a .frame .rules)) t (levelsIn (a .frame .rules))) (widthOf t (a .depth - 1)) (staticOf (ignoredIn (a .frame .rules)) t (levelsIn (a .frame .rules)) (a .depth - 1)) (enums t) t (within (a .bytes .now) (a .frame)) (c .before .before .before .before .before .before .before .before .before .before .before .before .field-count .result) (c .before .before .before .before .before .before .before .before .before .before .before .loop .i) (c .before .before .before .before .before .before .before .before .before .before .before .loop .field) (c .before .before .before .before .before .before .before .before .before .before .before .loop .place) (c .before .before .before .before .before .before .before .before .before .before .before .loop .length) (occupancyOf (a .frame .area) (c .before .before .before .before .before .before .before .before .before .before .before .loop .holds) (c .before .before .before .before .before .before .before .before .before .before .before .loop .occupied)) _ _ (c .before .before .before .before .before .check-field .ensures) (c .before .before .before .before .before .before .before .before .before .before .loop-test .taken) _ _ _ (c .before .answer2 .given .1) ∙ sym (c .before .before .before .before .before .before .before .before .before .before .before .loop .inv .6)
 
 check-fields-add-place-2 : (t : ℕ) → check-fields-lts.Need-add-place-2 (check-fields-claims t) (check-fields-at t) check-fields.Post check-fields-Inv-loop check-fields-μ-loop
 check-fields-add-place-2 t c = let a = c .before .before .before .before .before .before .before .before .before .before .before .before .before .before .before .before .before .before .args in let t = a .table .now in omega (arith, c .before .before .before .before .before .before .before .before .before .before .before .loop .inv .3, c .before .before .before .before .before .before .before .field-width .ensures .1, c .before .before .before .before .before .before .before .before .before .before .before .before .before .before .before .before .before .before .pre .1 .0 .small)
@@ -460,12 +460,12 @@ check-fields-loop-again-2 t c = let a = c .before .before .before .before .befor
       omega (arith, i .3, w, v),
       q .1,
       bounded _ _ _ _ (c .before .before .before .before .before .check-field .ensures) _ _ (c .before .answer .given .1),
-      i .6 ∙ fields-passed (innerOf (ignoredIn (a .frame .rules)) t (levelsIn (a .frame .rules))) sw (staticOf (ignoredIn (a .frame .rules)) t (levelsIn (a .frame .rules)) (a .depth - 1)) (enums t) t (within (a .bytes .now) (a .frame)) (c .before .before .before .before .before .before .before .before .before .before .before .before .field-count .result) (c .before .before .before .before .before .before .before .before .before .before .before .loop .i) (c .before .before .before .before .before .before .before .before .before .before .before .loop .field) (c .before .before .before .before .before .before .before .before .before .before .before .loop .place) (c .before .before .before .before .before .before .before .before .before .before .before .loop .length) (marksOf (a .frame .area) (c .before .before .before .before .before .before .before .before .before .before .before .loop .holds) (c .before .before .before .before .before .before .before .before .before .before .before .loop .marks)) _ _ (c .before .before .before .before .before .check-field .ensures) l _ _ _ (c .before .answer .given .1) v,
+      i .6 ∙ fields-passed (innerOf (ignoredIn (a .frame .rules)) t (levelsIn (a .frame .rules))) sw (staticOf (ignoredIn (a .frame .rules)) t (levelsIn (a .frame .rules)) (a .depth - 1)) (enums t) t (within (a .bytes .now) (a .frame)) (c .before .before .before .before .before .before .before .before .before .before .before .before .field-count .result) (c .before .before .before .before .before .before .before .before .before .before .before .loop .i) (c .before .before .before .before .before .before .before .before .before .before .before .loop .field) (c .before .before .before .before .before .before .before .before .before .before .before .loop .place) (c .before .before .before .before .before .before .before .before .before .before .before .loop .length) (occupancyOf (a .frame .area) (c .before .before .before .before .before .before .before .before .before .before .before .loop .holds) (c .before .before .before .before .before .before .before .before .before .before .before .loop .occupied)) _ _ (c .before .before .before .before .before .check-field .ensures) l _ _ _ (c .before .answer .given .1) v,
     )
 
 check-fields-returns-2 : (t : ℕ) → check-fields-lts.Need-returns-2 (check-fields-claims t) (check-fields-at t) check-fields.Post check-fields-Inv-loop check-fields-μ-loop
 check-fields-returns-2 t c = let a = c .before .before .before .before .before .before .before .before .args in let t = a .table .now in
-    fields-end (innerOf (ignoredIn (a .frame .rules)) t (levelsIn (a .frame .rules))) (widthOf t (a .depth - 1)) (staticOf (ignoredIn (a .frame .rules)) t (levelsIn (a .frame .rules)) (a .depth - 1)) (enums t) t (within (a .bytes .now) (a .frame)) (c .before .before .field-count .result) (c .before .loop .i) (c .before .loop .field) (c .before .loop .place) (c .before .loop .length) (marksOf (a .frame .area) (c .before .loop .holds) (c .before .loop .marks)) _ _ refl (c .loop-test .left) (c .before .loop .inv .5) ∙ sym (c .before .loop .inv .6)
+    fields-end (innerOf (ignoredIn (a .frame .rules)) t (levelsIn (a .frame .rules))) (widthOf t (a .depth - 1)) (staticOf (ignoredIn (a .frame .rules)) t (levelsIn (a .frame .rules)) (a .depth - 1)) (enums t) t (within (a .bytes .now) (a .frame)) (c .before .before .field-count .result) (c .before .loop .i) (c .before .loop .field) (c .before .loop .place) (c .before .loop .length) (occupancyOf (a .frame .area) (c .before .loop .holds) (c .before .loop .occupied)) _ _ refl (c .loop-test .left) (c .before .loop .inv .5) ∙ sym (c .before .loop .inv .6)
 
 abbrev check-group-claims : ℕ → check-group-lts.Claims
 check-group-claims t = (open-group-reads.Asked, open-group-reads.Learnt, check-fields-below t, check-fields.Post, close-group-below t, close-group.Post)
@@ -474,31 +474,31 @@ check-group-open-group-requires : (t : ℕ) → check-group-lts.Need-open-group-
 check-group-open-group-requires t c κs = let R = c .before .before .before .before .pre .1 .0 in (R .layout, R .small)
 
 check-group-check-fields-requires : (t : ℕ) → check-group-lts.Need-check-fields-requires (check-group-claims t) (check-group-at t) check-group.Post
-check-group-check-fields-requires t c κs = let a = c .before .before .before .before .before .before .before .before .before .args in let F = c .before .before .before .before .before .before .before .before .before .pre .1 .1 in let B = opens-begun _ _ _ _ (a .outer) (a .depth) (a .at) _ (a .scope) _ _ (c .before .before .before .before .open-group .ensures (a .marks .now) (a .depth) (a .at) (c .before .before .before .before .before .before .before .before .before .pre .1 .0) F) _ _ _ _ (c .before .before .opening .given .1) in
+check-group-check-fields-requires t c κs = let a = c .before .before .before .before .before .before .before .before .before .args in let F = c .before .before .before .before .before .before .before .before .before .pre .1 .1 in let B = opens-begun _ _ _ _ (a .outer) (a .depth) (a .at) _ (a .scope) _ _ (c .before .before .before .before .open-group .ensures (a .occupied .now) (a .depth) (a .at) (c .before .before .before .before .before .before .before .before .before .pre .1 .0) F) _ _ _ _ (c .before .before .opening .given .1) in
     (omega (arith, inside-falls (a .outer) _ _ _ (a .scope) (a .depth) (a .at) F (B .inside), c .before .before .before .before .before .before .before .before .before .pre .0), (B .ready, B .fits .0, B .fits .1, B .fits .2))
 
 check-group-close-group-requires : (t : ℕ) → check-group-lts.Need-close-group-requires (check-group-claims t) (check-group-at t) check-group.Post
-check-group-close-group-requires t c κs = let a = c .before .before .before .before .before .before .before .before .before .before .before .before .before .before .before .before .args in let F = c .before .before .before .before .before .before .before .before .before .before .before .before .before .before .before .before .pre .1 .1 in let B = opens-begun _ _ _ _ (a .outer) (a .depth) (a .at) _ (a .scope) _ _ (c .before .before .before .before .before .before .before .before .before .before .before .open-group .ensures (a .marks .now) (a .depth) (a .at) (c .before .before .before .before .before .before .before .before .before .before .before .before .before .before .before .before .pre .1 .0) F) _ _ _ _ (c .before .before .before .before .before .before .before .before .before .opening .given .1) in
+check-group-close-group-requires t c κs = let a = c .before .before .before .before .before .before .before .before .before .before .before .before .before .before .before .before .args in let F = c .before .before .before .before .before .before .before .before .before .before .before .before .before .before .before .before .pre .1 .1 in let B = opens-begun _ _ _ _ (a .outer) (a .depth) (a .at) _ (a .scope) _ _ (c .before .before .before .before .before .before .before .before .before .before .before .open-group .ensures (a .occupied .now) (a .depth) (a .at) (c .before .before .before .before .before .before .before .before .before .before .before .before .before .before .before .before .pre .1 .0) F) _ _ _ _ (c .before .before .before .before .before .before .before .before .before .opening .given .1) in
     (omega (arith, inside-falls (a .outer) _ _ _ (a .scope) (a .depth) (a .at) F (B .inside), c .before .before .before .before .before .before .before .before .before .before .before .before .before .before .before .before .pre .0), (ready _ _ _ _ _ _ (B .ready) (omega (arith, c .before .before .before .before .before .before .check-fields .kept, c .before .before .before .before .before .before .before .before .before .before .before .before .before .before .before .before .pre .1 .0 .same)), inside-long (a .outer) _ (a .scope) (B .inside) _ (B .ready .room)))
 
 check-group-returns : (t : ℕ) → check-group-lts.Need-returns (check-group-claims t) (check-group-at t) check-group.Post
-check-group-returns t c = let a = c .before .before .before .before .before .before .before .before .before .before .before .before .before .before .before .before .before .before .before .args in let B = opens-begun _ _ _ _ (a .outer) (a .depth) (a .at) _ (a .scope) _ _ (c .before .before .before .before .before .before .before .before .before .before .before .before .before .before .open-group .ensures (a .marks .now) (a .depth) (a .at) (c .before .before .before .before .before .before .before .before .before .before .before .before .before .before .before .before .before .before .before .pre .1 .0) (c .before .before .before .before .before .before .before .before .before .before .before .before .before .before .before .before .before .before .before .pre .1 .1)) _ _ _ _ (c .before .before .before .before .before .before .before .before .before .before .before .before .opening .given .1) in
+check-group-returns t c = let a = c .before .before .before .before .before .before .before .before .before .before .before .before .before .before .before .before .before .before .before .args in let B = opens-begun _ _ _ _ (a .outer) (a .depth) (a .at) _ (a .scope) _ _ (c .before .before .before .before .before .before .before .before .before .before .before .before .before .before .open-group .ensures (a .occupied .now) (a .depth) (a .at) (c .before .before .before .before .before .before .before .before .before .before .before .before .before .before .before .before .before .before .before .pre .1 .0) (c .before .before .before .before .before .before .before .before .before .before .before .before .before .before .before .before .before .before .before .pre .1 .1)) _ _ _ _ (c .before .before .before .before .before .before .before .before .before .before .before .before .opening .given .1) in
     inside-left (a .outer) _ (a .scope) (B .inside) _ _ ∙ c .before .before .close-group .ensures ∙ sym (B .counts ∙ passed _ _ _ _ (c .before .before .before .before .before .before .before .before .before .check-fields .ensures) _ _ _ (c .before .before .before .before .before .fields .given .1))
 
 check-group-returns-2 : (t : ℕ) → check-group-lts.Need-returns-2 (check-group-claims t) (check-group-at t) check-group.Post
-check-group-returns-2 t c = let a = c .before .before .before .before .before .before .before .before .before .before .before .before .before .before .before .args in let B = opens-begun _ _ _ _ (a .outer) (a .depth) (a .at) _ (a .scope) _ _ (c .before .before .before .before .before .before .before .before .before .before .open-group .ensures (a .marks .now) (a .depth) (a .at) (c .before .before .before .before .before .before .before .before .before .before .before .before .before .before .before .pre .1 .0) (c .before .before .before .before .before .before .before .before .before .before .before .before .before .before .before .pre .1 .1)) _ _ _ _ (c .before .before .before .before .before .before .before .before .opening .given .1) in
+check-group-returns-2 t c = let a = c .before .before .before .before .before .before .before .before .before .before .before .before .before .before .before .args in let B = opens-begun _ _ _ _ (a .outer) (a .depth) (a .at) _ (a .scope) _ _ (c .before .before .before .before .before .before .before .before .before .before .open-group .ensures (a .occupied .now) (a .depth) (a .at) (c .before .before .before .before .before .before .before .before .before .before .before .before .before .before .before .pre .1 .0) (c .before .before .before .before .before .before .before .before .before .before .before .before .before .before .before .pre .1 .1)) _ _ _ _ (c .before .before .before .before .before .before .before .before .opening .given .1) in
     stopped _ _ _ _ (c .before .before .before .before .before .check-fields .ensures) _ _ _ _ (c .before .fields2 .given .1) ∙ sym (B .counts)
 
 check-group-returns-3 : (t : ℕ) → check-group-lts.Need-returns-3 (check-group-claims t) (check-group-at t) check-group.Post
-check-group-returns-3 t c = let a = c .before .before .before .before .before .before .before .before .args in refuses _ _ _ _ _ (opens-refused _ _ _ _ (a .outer) (a .depth) (a .at) _ (a .scope) _ _ (c .before .before .before .open-group .ensures (a .marks .now) (a .depth) (a .at) (c .before .before .before .before .before .before .before .before .pre .1 .0) (c .before .before .before .before .before .before .before .before .pre .1 .1)) _ _ (c .before .opening2 .given .1))
+check-group-returns-3 t c = let a = c .before .before .before .before .before .before .before .before .args in refuses _ _ _ _ _ (opens-refused _ _ _ _ (a .outer) (a .depth) (a .at) _ (a .scope) _ _ (c .before .before .before .open-group .ensures (a .occupied .now) (a .depth) (a .at) (c .before .before .before .before .before .before .before .before .pre .1 .0) (c .before .before .before .before .before .before .before .before .pre .1 .1)) _ _ (c .before .opening2 .given .1))
 
 abbrev check-groups-Inv-loop : check-groups-lts.InvT-loop
-check-groups-Inv-loop table index bytes marks₀ frame total at taken before i₀ place₀ sum₀ holds₀ marks i place sum holds =
-    (i ≤ total) × (length marks ≡ length marks₀) × (place + (total - i) * 4 ≤ length bytes) × (sum < 2 ^ 64)
-    × (after before (count (itemsR 4 (indirectR 26 1 (extendingR (schema table) (innerOf (ignoredIn (frame .rules)) table (levelsIn (frame .rules))))) total (within bytes frame) at (marksOf (frame .area) holds₀ marks₀))) ≡ after sum (count (itemsR 4 (indirectR 26 1 (extendingR (schema table) (innerOf (ignoredIn (frame .rules)) table (levelsIn (frame .rules))))) (total - i) (within bytes frame) place (marksOf (frame .area) holds marks))))
+check-groups-Inv-loop table index bytes occupied₀ frame total at taken before i₀ place₀ sum₀ holds₀ occupied i place sum holds =
+    (i ≤ total) × (length occupied ≡ length occupied₀) × (place + (total - i) * 4 ≤ length bytes) × (sum < 2 ^ 64)
+    × (after before (count (itemsR 4 (indirectR 26 1 (extendingR (schema table) (innerOf (ignoredIn (frame .rules)) table (levelsIn (frame .rules))))) total (within bytes frame) at (occupancyOf (frame .area) holds₀ occupied₀))) ≡ after sum (count (itemsR 4 (indirectR 26 1 (extendingR (schema table) (innerOf (ignoredIn (frame .rules)) table (levelsIn (frame .rules))))) (total - i) (within bytes frame) place (occupancyOf (frame .area) holds occupied))))
 
 abbrev check-groups-μ-loop : check-groups-lts.MeasureT-loop
-check-groups-μ-loop table index bytes marks₀ frame total at taken before i₀ place₀ sum₀ holds₀ marks i place sum holds =
+check-groups-μ-loop table index bytes occupied₀ frame total at taken before i₀ place₀ sum₀ holds₀ occupied i place sum holds =
     total - i
 
 abbrev check-groups-claims : ℕ → check-groups-lts.Claims
@@ -513,7 +513,7 @@ check-groups-check-extending-requires t c κs = let a = c .before .before .befor
 
 check-groups-returns : (t : ℕ) → check-groups-lts.Need-returns (check-groups-claims t) (check-groups-at t) check-groups.Post check-groups-Inv-loop check-groups-μ-loop
 check-groups-returns t c = let a = c .before .before .before .before .before .before .before .before .before .before .before .before .before .args in
-    items-stopped 4 _ (within (a .bytes .now) (a .frame)) (a .total) (c .before .before .before .before .before .before .before .before .loop .i) (c .before .before .before .before .before .before .before .before .loop .place) (c .before .before .before .before .before .before .before .before .loop .length) (marksOf (a .frame .area) (c .before .before .before .before .before .before .before .before .loop .holds) (c .before .before .before .before .before .before .before .before .loop .marks)) _ _ (c .before .before .before .before .before .check-extending .ensures) (c .before .before .before .before .before .before .before .loop-test .taken) _ _ _ (c .before .group2 .given .1) ∙ sym (c .before .before .before .before .before .before .before .before .loop .inv .4)
+    items-stopped 4 _ (within (a .bytes .now) (a .frame)) (a .total) (c .before .before .before .before .before .before .before .before .loop .i) (c .before .before .before .before .before .before .before .before .loop .place) (c .before .before .before .before .before .before .before .before .loop .length) (occupancyOf (a .frame .area) (c .before .before .before .before .before .before .before .before .loop .holds) (c .before .before .before .before .before .before .before .before .loop .occupied)) _ _ (c .before .before .before .before .before .check-extending .ensures) (c .before .before .before .before .before .before .before .loop-test .taken) _ _ _ (c .before .group2 .given .1) ∙ sym (c .before .before .before .before .before .before .before .before .loop .inv .4)
 
 check-groups-loop-again : (t : ℕ) → check-groups-lts.Need-loop-again (check-groups-claims t) (check-groups-at t) check-groups.Post check-groups-Inv-loop check-groups-μ-loop
 check-groups-loop-again t c = let a = c .before .before .before .before .before .before .before .before .before .before .before .before .before .args in let i = c .before .before .before .before .before .before .before .before .loop .inv in let w = items-left (a .total) (c .before .before .before .before .before .before .before .before .loop .i) 4 (c .before .before .before .before .before .before .before .loop-test .taken) in (
@@ -521,12 +521,12 @@ check-groups-loop-again t c = let a = c .before .before .before .before .before 
   search needs,
   omega (arith, i .2, w),
   bounded _ _ _ _ (c .before .before .before .before .before .check-extending .ensures) _ _ (c .before .group .given .1),
-  i .4 ∙ items-passed 4 _ (within (a .bytes .now) (a .frame)) (a .total) (c .before .before .before .before .before .before .before .before .loop .i) (c .before .before .before .before .before .before .before .before .loop .place) (c .before .before .before .before .before .before .before .before .loop .length) (marksOf (a .frame .area) (c .before .before .before .before .before .before .before .before .loop .holds) (c .before .before .before .before .before .before .before .before .loop .marks)) _ _ (c .before .before .before .before .before .check-extending .ensures) (c .before .before .before .before .before .before .before .loop-test .taken) _ _ (c .before .group .given .1),
+  i .4 ∙ items-passed 4 _ (within (a .bytes .now) (a .frame)) (a .total) (c .before .before .before .before .before .before .before .before .loop .i) (c .before .before .before .before .before .before .before .before .loop .place) (c .before .before .before .before .before .before .before .before .loop .length) (occupancyOf (a .frame .area) (c .before .before .before .before .before .before .before .before .loop .holds) (c .before .before .before .before .before .before .before .before .loop .occupied)) _ _ (c .before .before .before .before .before .check-extending .ensures) (c .before .before .before .before .before .before .before .loop-test .taken) _ _ (c .before .group .given .1),
 )
 
 check-groups-returns-2 : (t : ℕ) → check-groups-lts.Need-returns-2 (check-groups-claims t) (check-groups-at t) check-groups.Post check-groups-Inv-loop check-groups-μ-loop
 check-groups-returns-2 t c = let a = c .before .before .before .before .before .before .args in
-    items-end 4 _ (within (a .bytes .now) (a .frame)) (a .total) (c .before .loop .i) (c .before .loop .place) (c .before .loop .length) (marksOf (a .frame .area) (c .before .loop .holds) (c .before .loop .marks)) _ _ refl (c .loop-test .left) (c .before .loop .inv .3) ∙ sym (c .before .loop .inv .4)
+    items-end 4 _ (within (a .bytes .now) (a .frame)) (a .total) (c .before .loop .i) (c .before .loop .place) (c .before .loop .length) (occupancyOf (a .frame .area) (c .before .loop .holds) (c .before .loop .occupied)) _ _ refl (c .loop-test .left) (c .before .loop .inv .3) ∙ sym (c .before .loop .inv .4)
 
 abbrev check-item-claims : ℕ → check-item-lts.Claims
 check-item-claims t = (wide-reads.Asked, wide-reads.Learnt, longer-reads.Asked, longer-reads.Learnt, check-number-reads.Asked, check-number-reads.Learnt, check-inline-reads.Asked, check-inline-reads.Learnt, check-text-reads.Asked, check-text-reads.Learnt, check-group-below t, check-group.Post, check-dynamic-below t, check-dynamic.Post)
@@ -557,35 +557,35 @@ check-item-check-dynamic-requires t c κs = let a = c .before .before .before .b
 
 check-item-returns : (t : ℕ) → check-item-lts.Need-returns (check-item-claims t) (check-item-at t) check-item.Post
 check-item-returns t c = let a = c .before .before .before .before .before .before .before .before .before .args in let t = a .table .now in let I = innerOf (ignoredIn (a .frame .rules)) t (levelsIn (a .frame .rules)) in let S = staticOf (ignoredIn (a .frame .rules)) t (levelsIn (a .frame .rules)) (a .depth) in
-    counts _ _ _ _ _ _ (item-plain _ I S (a .bytes .now) (a .frame .base) (a .frame .area) (marksOf (a .frame .area) (a .taken) (a .marks .now)) (enums t) (a .kind) (a .at) (widthOf t (a .depth)) _ (c .before .before .before .kind .given .1) (c .before .before .before .before .before .before .before .before .before .pre .1 .1)) (c .longer .ensures ∙ rw (c .before .wide .ensures .0))
+    counts _ _ _ _ _ _ (item-plain _ I S (a .bytes .now) (a .frame .base) (a .frame .area) (occupancyOf (a .frame .area) (a .taken) (a .occupied .now)) (enums t) (a .kind) (a .at) (widthOf t (a .depth)) _ (c .before .before .before .kind .given .1) (c .before .before .before .before .before .before .before .before .before .pre .1 .1)) (c .longer .ensures ∙ rw (c .before .wide .ensures .0))
 
 check-item-returns-2 : (t : ℕ) → check-item-lts.Need-returns-2 (check-item-claims t) (check-item-at t) check-item.Post
 check-item-returns-2 t c = let a = c .before .before .before .before .before .before .before .before .args in let t = a .table .now in let I = innerOf (ignoredIn (a .frame .rules)) t (levelsIn (a .frame .rules)) in let S = staticOf (ignoredIn (a .frame .rules)) t (levelsIn (a .frame .rules)) (a .depth) in
-    c .check-number .ensures (ignoredIn (a .frame .rules)) I S (a .frame .area) (λ s. marksOf (a .frame .area) s (a .marks .now)) ∙ ap (λ x. after (a .before) (count x)) (sym (item-number _ I S (a .bytes .now) (a .frame .base) (a .frame .area) (marksOf (a .frame .area) (a .taken) (a .marks .now)) (enums t) (a .kind) (a .at) _ (c .before .before .kind2 .given .1)))
+    c .check-number .ensures (ignoredIn (a .frame .rules)) I S (a .frame .area) (λ s. occupancyOf (a .frame .area) s (a .occupied .now)) ∙ ap (λ x. after (a .before) (count x)) (sym (item-number _ I S (a .bytes .now) (a .frame .base) (a .frame .area) (occupancyOf (a .frame .area) (a .taken) (a .occupied .now)) (enums t) (a .kind) (a .at) _ (c .before .before .kind2 .given .1)))
 
 check-item-returns-3 : (t : ℕ) → check-item-lts.Need-returns-3 (check-item-claims t) (check-item-at t) check-item.Post
 check-item-returns-3 t c = let a = c .before .before .before .before .before .before .before .before .args in let t = a .table .now in let I = innerOf (ignoredIn (a .frame .rules)) t (levelsIn (a .frame .rules)) in let S = staticOf (ignoredIn (a .frame .rules)) t (levelsIn (a .frame .rules)) (a .depth) in
-    c .check-inline .ensures I S (λ s. marksOf (a .frame .area) s (a .marks .now)) ∙ ap (λ x. after (a .before) (count x)) (sym (item-inline _ I S (a .bytes .now) (a .frame .base) (a .frame .area) (marksOf (a .frame .area) (a .taken) (a .marks .now)) (enums t) (a .kind) (a .at) _ _ (c .before .before .kind3 .given .1)))
+    c .check-inline .ensures I S (λ s. occupancyOf (a .frame .area) s (a .occupied .now)) ∙ ap (λ x. after (a .before) (count x)) (sym (item-inline _ I S (a .bytes .now) (a .frame .base) (a .frame .area) (occupancyOf (a .frame .area) (a .taken) (a .occupied .now)) (enums t) (a .kind) (a .at) _ _ (c .before .before .kind3 .given .1)))
 
 check-item-returns-4 : (t : ℕ) → check-item-lts.Need-returns-4 (check-item-claims t) (check-item-at t) check-item.Post
 check-item-returns-4 t c = let a = c .before .before .before .before .before .before .before .before .before .before .before .args in let t = a .table .now in let I = innerOf (ignoredIn (a .frame .rules)) t (levelsIn (a .frame .rules)) in let S = staticOf (ignoredIn (a .frame .rules)) t (levelsIn (a .frame .rules)) (a .depth) in
-    c .before .before .check-text .ensures ∙ ap (λ x. after (a .before) (count x)) (sym (item-indirect _ I S (a .bytes .now) (a .frame .base) (a .frame .area) (marksOf (a .frame .area) (a .taken) (a .marks .now)) (enums t) (a .kind) (a .at) _ (c .before .before .before .before .before .kind4 .given .1)))
+    c .before .before .check-text .ensures ∙ ap (λ x. after (a .before) (count x)) (sym (item-indirect _ I S (a .bytes .now) (a .frame .base) (a .frame .area) (occupancyOf (a .frame .area) (a .taken) (a .occupied .now)) (enums t) (a .kind) (a .at) _ (c .before .before .before .before .before .kind4 .given .1)))
 
 check-item-returns-5 : (t : ℕ) → check-item-lts.Need-returns-5 (check-item-claims t) (check-item-at t) check-item.Post
 check-item-returns-5 t c = let a = c .before .before .before .before .before .before .before .before .before .before .before .before .args in let t = a .table .now in let I = innerOf (ignoredIn (a .frame .rules)) t (levelsIn (a .frame .rules)) in let S = staticOf (ignoredIn (a .frame .rules)) t (levelsIn (a .frame .rules)) (a .depth) in
-    c .before .before .check-group .ensures ∙ sym (goes-on (a .before) 2 _ _ _ (item-static _ I S (a .bytes .now) (a .frame .base) (a .frame .area) (marksOf (a .frame .area) (a .taken) (a .marks .now)) (enums t) (a .kind) (a .at) _ (c .before .before .before .before .before .before .kind5 .given .1)) (c .before .before .before .longer2 .ensures))
+    c .before .before .check-group .ensures ∙ sym (goes-on (a .before) 2 _ _ _ (item-static _ I S (a .bytes .now) (a .frame .base) (a .frame .area) (occupancyOf (a .frame .area) (a .taken) (a .occupied .now)) (enums t) (a .kind) (a .at) _ (c .before .before .before .before .before .before .kind5 .given .1)) (c .before .before .before .longer2 .ensures))
 
 check-item-returns-6 : (t : ℕ) → check-item-lts.Need-returns-6 (check-item-claims t) (check-item-at t) check-item.Post
 check-item-returns-6 t c = let a = c .before .before .before .before .before .before .before .before .before .before .before .before .args in let t = a .table .now in let I = innerOf (ignoredIn (a .frame .rules)) t (levelsIn (a .frame .rules)) in let S = staticOf (ignoredIn (a .frame .rules)) t (levelsIn (a .frame .rules)) (a .depth) in
-    c .before .before .check-dynamic .ensures ∙ sym (goes-on (a .before) 2 _ _ _ (item-dynamic _ I S (a .bytes .now) (a .frame .base) (a .frame .area) (marksOf (a .frame .area) (a .taken) (a .marks .now)) (enums t) (a .kind) (a .at) _ (c .before .before .before .before .before .before .kind6 .given .1)) (c .before .before .before .longer3 .ensures))
+    c .before .before .check-dynamic .ensures ∙ sym (goes-on (a .before) 2 _ _ _ (item-dynamic _ I S (a .bytes .now) (a .frame .base) (a .frame .area) (occupancyOf (a .frame .area) (a .taken) (a .occupied .now)) (enums t) (a .kind) (a .at) _ (c .before .before .before .before .before .before .kind6 .given .1)) (c .before .before .before .longer3 .ensures))
 
 abbrev check-items-Inv-loop : check-items-lts.InvT-loop
-check-items-Inv-loop table index bytes marks₀ frame depth kind width total at taken before i₀ place₀ sum₀ holds₀ marks i place sum holds =
-    (i ≤ total) × (length marks ≡ length marks₀) × (place + (total - i) * width ≤ length bytes) × (sum < 2 ^ 64)
-    × (after before (count (itemsR width (itemR (innerOf (ignoredIn (frame .rules)) table (levelsIn (frame .rules))) (staticOf (ignoredIn (frame .rules)) table (levelsIn (frame .rules)) depth) (kindFrom (enums table) kind)) total (within bytes frame) at (marksOf (frame .area) holds₀ marks₀))) ≡ after sum (count (itemsR width (itemR (innerOf (ignoredIn (frame .rules)) table (levelsIn (frame .rules))) (staticOf (ignoredIn (frame .rules)) table (levelsIn (frame .rules)) depth) (kindFrom (enums table) kind)) (total - i) (within bytes frame) place (marksOf (frame .area) holds marks))))
+check-items-Inv-loop table index bytes occupied₀ frame depth kind width total at taken before i₀ place₀ sum₀ holds₀ occupied i place sum holds =
+    (i ≤ total) × (length occupied ≡ length occupied₀) × (place + (total - i) * width ≤ length bytes) × (sum < 2 ^ 64)
+    × (after before (count (itemsR width (itemR (innerOf (ignoredIn (frame .rules)) table (levelsIn (frame .rules))) (staticOf (ignoredIn (frame .rules)) table (levelsIn (frame .rules)) depth) (kindFrom (enums table) kind)) total (within bytes frame) at (occupancyOf (frame .area) holds₀ occupied₀))) ≡ after sum (count (itemsR width (itemR (innerOf (ignoredIn (frame .rules)) table (levelsIn (frame .rules))) (staticOf (ignoredIn (frame .rules)) table (levelsIn (frame .rules)) depth) (kindFrom (enums table) kind)) (total - i) (within bytes frame) place (occupancyOf (frame .area) holds occupied))))
 
 abbrev check-items-μ-loop : check-items-lts.MeasureT-loop
-check-items-μ-loop table index bytes marks₀ frame depth kind width total at taken before i₀ place₀ sum₀ holds₀ marks i place sum holds =
+check-items-μ-loop table index bytes occupied₀ frame depth kind width total at taken before i₀ place₀ sum₀ holds₀ occupied i place sum holds =
     total - i
 
 abbrev check-items-claims : ℕ → check-items-lts.Claims
@@ -595,7 +595,7 @@ check-items-mul-longer : (t : ℕ) → check-items-lts.Need-mul-longer (check-it
 check-items-mul-longer t c = omega (arith, mul-le-mul-right {m = c .before .before .before .before .before .before .before .before .args .total} {n = 4294967296} (2 + c .wide .result) (omega (arith, c .before .before .before .before .before .before .before .before .pre .1 .2)), c .wide .ensures .1)
 
 check-items-returns : (t : ℕ) → check-items-lts.Need-returns (check-items-claims t) (check-items-at t) check-items.Post check-items-Inv-loop check-items-μ-loop
-check-items-returns t c = let a = c .before .before .before .before .before .before .before .before .before .args in let t = a .table .now in counts _ _ _ _ _ _ (items-plain _ (innerOf (ignoredIn (a .frame .rules)) t (levelsIn (a .frame .rules))) (staticOf (ignoredIn (a .frame .rules)) t (levelsIn (a .frame .rules)) (a .depth)) (a .bytes .now) (a .frame .base) (a .frame .area) (marksOf (a .frame .area) (a .taken) (a .marks .now)) (enums t) (a .kind) (widthOf t (a .depth)) _ (a .width) (a .total) (a .at) (c .before .before .before .kind .given .1) (c .before .before .before .before .before .before .before .before .before .pre .1 .4) (c .before .before .before .before .before .before .before .before .before .pre .1 .1)) (c .longer .ensures ∙ rw (c .before .wide .ensures .0))
+check-items-returns t c = let a = c .before .before .before .before .before .before .before .before .before .args in let t = a .table .now in counts _ _ _ _ _ _ (items-plain _ (innerOf (ignoredIn (a .frame .rules)) t (levelsIn (a .frame .rules))) (staticOf (ignoredIn (a .frame .rules)) t (levelsIn (a .frame .rules)) (a .depth)) (a .bytes .now) (a .frame .base) (a .frame .area) (occupancyOf (a .frame .area) (a .taken) (a .occupied .now)) (enums t) (a .kind) (widthOf t (a .depth)) _ (a .width) (a .total) (a .at) (c .before .before .before .kind .given .1) (c .before .before .before .before .before .before .before .before .before .pre .1 .4) (c .before .before .before .before .before .before .before .before .before .pre .1 .1)) (c .longer .ensures ∙ rw (c .before .wide .ensures .0))
 
 check-items-check-texts-requires : (t : ℕ) → check-items-lts.Need-check-texts-requires (check-items-claims t) (check-items-at t) check-items.Post check-items-Inv-loop check-items-μ-loop
 check-items-check-texts-requires t c κs = let a = c .before .before .before .before .before .before .before .before .before .args in let t = a .table .now in let q : a .width ≡ 4 = c .before .before .before .before .before .before .before .before .before .pre .1 .4 ∙ wide-indirect (widthOf t (a .depth)) (enums t) (a .kind) _ (c .before .before .kind2 .given .1) in
@@ -603,7 +603,7 @@ check-items-check-texts-requires t c κs = let a = c .before .before .before .be
 
 check-items-returns-2 : (t : ℕ) → check-items-lts.Need-returns-2 (check-items-claims t) (check-items-at t) check-items.Post check-items-Inv-loop check-items-μ-loop
 check-items-returns-2 t c = let a = c .before .before .before .before .before .before .before .before .before .before .before .before .args in let t = a .table .now in
-    c .before .before .check-texts .ensures ∙ ap (λ x. after (a .before) (count x)) (sym (items-indirect _ (innerOf (ignoredIn (a .frame .rules)) t (levelsIn (a .frame .rules))) (staticOf (ignoredIn (a .frame .rules)) t (levelsIn (a .frame .rules)) (a .depth)) (a .bytes .now) (a .frame .base) (a .frame .area) (marksOf (a .frame .area) (a .taken) (a .marks .now)) (enums t) (a .kind) (widthOf t (a .depth)) (a .width) (a .total) (a .at) (c .before .before .before .before .before .before .before .before .before .before .before .before .pre .1 .4) _ (c .before .before .before .before .before .kind2 .given .1)))
+    c .before .before .check-texts .ensures ∙ ap (λ x. after (a .before) (count x)) (sym (items-indirect _ (innerOf (ignoredIn (a .frame .rules)) t (levelsIn (a .frame .rules))) (staticOf (ignoredIn (a .frame .rules)) t (levelsIn (a .frame .rules)) (a .depth)) (a .bytes .now) (a .frame .base) (a .frame .area) (occupancyOf (a .frame .area) (a .taken) (a .occupied .now)) (enums t) (a .kind) (widthOf t (a .depth)) (a .width) (a .total) (a .at) (c .before .before .before .before .before .before .before .before .before .before .before .before .pre .1 .4) _ (c .before .before .before .before .before .kind2 .given .1)))
 
 check-items-check-numbers-requires : (t : ℕ) → check-items-lts.Need-check-numbers-requires (check-items-claims t) (check-items-at t) check-items.Post check-items-Inv-loop check-items-μ-loop
 check-items-check-numbers-requires t c κs = let a = c .before .before .before .before .before .before .before .before .before .args in let p = c .before .before .before .before .before .before .before .before .before .pre .1 in let t = a .table .now in
@@ -616,7 +616,7 @@ check-items-returns-3 t c = let a = c .before .before .before .before .before .b
     let w = wide-number (widthIn (a .index .now)) (enums t) (a .kind) _ (c .before .before .kind3 .given .1) in
     let v = wide-kind t (a .index .now) (p .0 .layout) (a .depth) (kindFrom (enums t) (a .kind)) (p .5) in
     let x = ignoredIn (a .frame .rules) in let I = innerOf x t (levelsIn (a .frame .rules)) in let S = staticOf x t (levelsIn (a .frame .rules)) (a .depth) in
-    c .check-numbers .ensures x I S (a .frame .area) (λ s. marksOf (a .frame .area) s (a .marks .now)) ∙ ap (λ x. after (a .before) (count x)) (sym (items-number _ I S (a .bytes .now) (a .frame .base) (a .frame .area) (marksOf (a .frame .area) (a .taken) (a .marks .now)) (enums t) (a .kind) (a .width) _ (a .total) (a .at) (p .4 ∙ sym v ∙ w) _ (c .before .before .kind3 .given .1)))
+    c .check-numbers .ensures x I S (a .frame .area) (λ s. occupancyOf (a .frame .area) s (a .occupied .now)) ∙ ap (λ x. after (a .before) (count x)) (sym (items-number _ I S (a .bytes .now) (a .frame .base) (a .frame .area) (occupancyOf (a .frame .area) (a .taken) (a .occupied .now)) (enums t) (a .kind) (a .width) _ (a .total) (a .at) (p .4 ∙ sym v ∙ w) _ (c .before .before .kind3 .given .1)))
 
 check-items-loop-holds : (t : ℕ) → check-items-lts.Need-loop-holds (check-items-claims t) (check-items-at t) check-items.Post check-items-Inv-loop check-items-μ-loop
 check-items-loop-holds t c = let a = c .before .before .before .before .before .before .before .args in (search needs, search needs, rw sub-zero (c .before .before .before .before .before .before .before .pre .1 .1), search needs, rw sub-zero refl)
@@ -627,7 +627,7 @@ check-items-check-item-requires t c κs = let a = c .before .before .before .bef
 
 check-items-returns-4 : (t : ℕ) → check-items-lts.Need-returns-4 (check-items-claims t) (check-items-at t) check-items.Post check-items-Inv-loop check-items-μ-loop
 check-items-returns-4 t c = let a = c .before .before .before .before .before .before .before .before .before .before .before .before .before .before .before .before .args in
-    items-stopped (a .width) _ (within (a .bytes .now) (a .frame)) (a .total) (c .before .before .before .before .before .before .before .before .loop .i) (c .before .before .before .before .before .before .before .before .loop .place) (c .before .before .before .before .before .before .before .before .loop .length) (marksOf (a .frame .area) (c .before .before .before .before .before .before .before .before .loop .holds) (c .before .before .before .before .before .before .before .before .loop .marks)) _ _ (c .before .before .before .before .before .check-item .ensures) (c .before .before .before .before .before .before .before .loop-test .taken) _ _ _ (c .before .item2 .given .1) ∙ sym (c .before .before .before .before .before .before .before .before .loop .inv .4)
+    items-stopped (a .width) _ (within (a .bytes .now) (a .frame)) (a .total) (c .before .before .before .before .before .before .before .before .loop .i) (c .before .before .before .before .before .before .before .before .loop .place) (c .before .before .before .before .before .before .before .before .loop .length) (occupancyOf (a .frame .area) (c .before .before .before .before .before .before .before .before .loop .holds) (c .before .before .before .before .before .before .before .before .loop .occupied)) _ _ (c .before .before .before .before .before .check-item .ensures) (c .before .before .before .before .before .before .before .loop-test .taken) _ _ _ (c .before .item2 .given .1) ∙ sym (c .before .before .before .before .before .before .before .before .loop .inv .4)
 
 check-items-loop-again : (t : ℕ) → check-items-lts.Need-loop-again (check-items-claims t) (check-items-at t) check-items.Post check-items-Inv-loop check-items-μ-loop
 check-items-loop-again t c = let a = c .before .before .before .before .before .before .before .before .before .before .before .before .before .before .before .before .args in let i = c .before .before .before .before .before .before .before .before .loop .inv in let w = items-left (a .total) (c .before .before .before .before .before .before .before .before .loop .i) (a .width) (c .before .before .before .before .before .before .before .loop-test .taken) in (
@@ -635,12 +635,12 @@ check-items-loop-again t c = let a = c .before .before .before .before .before .
   search needs,
   omega (arith, i .2, w),
   bounded _ _ _ _ (c .before .before .before .before .before .check-item .ensures) _ _ (c .before .item .given .1),
-  i .4 ∙ items-passed (a .width) _ (within (a .bytes .now) (a .frame)) (a .total) (c .before .before .before .before .before .before .before .before .loop .i) (c .before .before .before .before .before .before .before .before .loop .place) (c .before .before .before .before .before .before .before .before .loop .length) (marksOf (a .frame .area) (c .before .before .before .before .before .before .before .before .loop .holds) (c .before .before .before .before .before .before .before .before .loop .marks)) _ _ (c .before .before .before .before .before .check-item .ensures) (c .before .before .before .before .before .before .before .loop-test .taken) _ _ (c .before .item .given .1),
+  i .4 ∙ items-passed (a .width) _ (within (a .bytes .now) (a .frame)) (a .total) (c .before .before .before .before .before .before .before .before .loop .i) (c .before .before .before .before .before .before .before .before .loop .place) (c .before .before .before .before .before .before .before .before .loop .length) (occupancyOf (a .frame .area) (c .before .before .before .before .before .before .before .before .loop .holds) (c .before .before .before .before .before .before .before .before .loop .occupied)) _ _ (c .before .before .before .before .before .check-item .ensures) (c .before .before .before .before .before .before .before .loop-test .taken) _ _ (c .before .item .given .1),
 )
 
 check-items-returns-5 : (t : ℕ) → check-items-lts.Need-returns-5 (check-items-claims t) (check-items-at t) check-items.Post check-items-Inv-loop check-items-μ-loop
 check-items-returns-5 t c = let a = c .before .before .before .before .before .before .before .before .before .args in
-    items-end (a .width) _ (within (a .bytes .now) (a .frame)) (a .total) (c .before .loop .i) (c .before .loop .place) (c .before .loop .length) (marksOf (a .frame .area) (c .before .loop .holds) (c .before .loop .marks)) _ _ refl (c .loop-test .left) (c .before .loop .inv .3) ∙ sym (c .before .loop .inv .4)
+    items-end (a .width) _ (within (a .bytes .now) (a .frame)) (a .total) (c .before .loop .i) (c .before .loop .place) (c .before .loop .length) (occupancyOf (a .frame .area) (c .before .loop .holds) (c .before .loop .occupied)) _ _ refl (c .loop-test .left) (c .before .loop .inv .3) ∙ sym (c .before .loop .inv .4)
 
 abbrev check-nested-claims : ℕ → check-nested-lts.Claims
 check-nested-claims t = (check-group-below t, check-group.Post, retake-reads.Asked, retake-reads.Learnt)
@@ -649,10 +649,10 @@ check-nested-check-group-requires : (t : ℕ) → check-nested-lts.Need-check-gr
 check-nested-check-group-requires t c κs = let a = c .before .before .before .before .before .before .before .args in (search needs, (record { layout = c .before .before .before .before .before .before .before .pre .1 .0 .layout; same = search needs; small = search needs; room = search needs }, (refl, refl)))
 
 check-nested-returns : (t : ℕ) → check-nested-lts.Need-returns (check-nested-claims t) (check-nested-at t) check-nested.Post
-check-nested-returns t c = let a = c .before .before .before .before .before .before .before .before .before .before .before .before .before .before .before .before .before .args in nested-passed _ (a .before) _ _ _ _ (a .taken) (marksOf (a .frame .area) (a .taken) (a .marks .now)) (rw add-sub-cancel-left at (c .before .before .before .before .before .before .before .before .before .check-group .ensures)) (c .before .before .before .before .before .group .given .1) (retaken (a .frame .area) (a .taken) (a .marks .now) _ _ (c .before .before .before .before .before .before .before .before .before .check-group .last .1 .1 .1 .0) (a .start) (a .size) (omega (arith, c .before .before .before .before .before .before .before .before .before .before .before .before .before .before .before .before .before .pre .1 .0 .room, c .before .before .before .before .before .before .before .before .before .before .before .before .before .before .before .before .before .pre .1 .0 .same)) (search needs) (search needs) refl (rw add-sub-cancel-left at (c .before .before .retake .ensures)) (c .before .before .before .before .before .before .before .before .before .before .before .before .before .before .before .before .before .pre .1 .2))
+check-nested-returns t c = let a = c .before .before .before .before .before .before .before .before .before .before .before .before .before .before .before .before .before .args in nested-passed _ (a .before) _ _ _ _ (a .taken) (occupancyOf (a .frame .area) (a .taken) (a .occupied .now)) (rw add-sub-cancel-left at (c .before .before .before .before .before .before .before .before .before .check-group .ensures)) (c .before .before .before .before .before .group .given .1) (retaken (a .frame .area) (a .taken) (a .occupied .now) _ _ (c .before .before .before .before .before .before .before .before .before .check-group .last .1 .1 .1 .0) (a .start) (a .size) (omega (arith, c .before .before .before .before .before .before .before .before .before .before .before .before .before .before .before .before .before .pre .1 .0 .room, c .before .before .before .before .before .before .before .before .before .before .before .before .before .before .before .before .before .pre .1 .0 .same)) (search needs) (search needs) refl (rw add-sub-cancel-left at (c .before .before .retake .ensures)) (c .before .before .before .before .before .before .before .before .before .before .before .before .before .before .before .before .before .pre .1 .2))
 
 check-nested-returns-2 : (t : ℕ) → check-nested-lts.Need-returns-2 (check-nested-claims t) (check-nested-at t) check-nested.Post
-check-nested-returns-2 t c = let a = c .before .before .before .before .before .before .before .before .before .before .before .before .before .args in stopped (λ _. []) (a .before) _ _ (rw add-sub-cancel-left at (c .before .before .before .before .before .check-group .ensures)) _ _ _ (λ _. counted 0 (marksOf (a .frame .area) (a .taken) (a .marks .now))) (c .before .group2 .given .1)
+check-nested-returns-2 t c = let a = c .before .before .before .before .before .before .before .before .before .before .before .before .before .args in stopped (λ _. []) (a .before) _ _ (rw add-sub-cancel-left at (c .before .before .before .before .before .check-group .ensures)) _ _ _ (λ _. counted 0 (occupancyOf (a .frame .area) (a .taken) (a .occupied .now))) (c .before .group2 .given .1)
 
 abbrev check-rest-claims : ℕ → check-rest-lts.Claims
 check-rest-claims t = (check-extension-below t, check-extension.Post, check-pads-reads.Asked, check-pads-reads.Learnt)
@@ -689,10 +689,10 @@ check-value-returns t c = let s = c .before .before .before .before .before .bef
 -- where the ways meet: the items that the value is
 check-value-joined : (t : ℕ) (c : check-value-lts.Joined1 (check-value-claims t) (check-value-at t) check-value.Post)
     → let s = c .before .before .before .before .before .before .before .before in let a = s .args in let t = a .table .now in let j = c .if1 in
-    (length (j .marks) ≡ length (a .bytes .now))
+    (length (j .occupied) ≡ length (a .bytes .now))
     × ItemsAt (c .before .before .kind-width .result) (itemR (innerOf (ignoredIn (a .frame .rules)) t (levelsIn (a .frame .rules))) (staticOf (ignoredIn (a .frame .rules)) t (levelsIn (a .frame .rules)) (a .depth)) (kindFrom (enums t) (c .before .before .before .kind-at .result))) (within (a .bytes .now) (a .frame))
-    (after (a .before) (count (markedValueR (innerOf (ignoredIn (a .frame .rules)) t (levelsIn (a .frame .rules))) (widthOf t (a .depth)) (staticOf (ignoredIn (a .frame .rules)) t (levelsIn (a .frame .rules)) (a .depth)) (fieldAt (enums t) (drop (a .field) t)) (within (a .bytes .now) (a .frame)) (a .at) (marksOf (a .frame .area) (a .taken) (a .marks .now)))))
-    (j .total) (j .start) (j .length) (marksOf (a .frame .area) (j .holds) (j .marks))
+    (after (a .before) (count (markedValueR (innerOf (ignoredIn (a .frame .rules)) t (levelsIn (a .frame .rules))) (widthOf t (a .depth)) (staticOf (ignoredIn (a .frame .rules)) t (levelsIn (a .frame .rules)) (a .depth)) (fieldAt (enums t) (drop (a .field) t)) (within (a .bytes .now) (a .frame)) (a .at) (occupancyOf (a .frame .area) (a .taken) (a .occupied .now)))))
+    (j .total) (j .start) (j .length) (occupancyOf (a .frame .area) (j .holds) (j .occupied))
 check-value-joined t c = let s = c .before .before .before .before .before .before .before .before in let a = s .args in let t = a .table .now in
     let k = c .before .before .before .kind-at .ensures (enums t) in
     let w = c .before .before .kind-width in
@@ -724,7 +724,7 @@ close-group-read-u32-requires t c κs = let l = c .before .before .before .befor
 
 close-group-returns : (t : ℕ) → close-group-lts.Need-returns (close-group-claims t) (close-group-at t) close-group.Post
 close-group-returns t c = let a = c .before .before .before .before .before .before .before .before .before .before .before .args in let t = a .table .now in let R = c .before .before .before .before .before .before .before .before .before .before .before .pre .1 .0 in
-    closes-dynamic t (levelsIn (a .frame .rules)) (within (a .bytes .now) (a .frame)) _ (a .frame .area) _ (a .before) (a .scope) _ (c .before .before .before .before .before .scope .given .1) _ (counts _ _ _ _ _ _ (rest-plain _ (schema t) (innerOf (ignoredIn (a .frame .rules)) t (levelsIn (a .frame .rules))) (a .bytes .now) (a .frame .base) (a .frame .area) _ (sym (c .before .before .before .read-u32 .ensures .0) ∙ c .before .before .if1 .taken) ∙ closing-filled _ (a .bytes .now) (a .frame .base) (a .frame .area) _ (pads-none (a .frame .area) _ (a .marks .now) (a .bytes .now) (R .same) (R .room) (c .before .if2 .taken) (omega (arith, c .before .if2 .taken, R .small)))) (c .longer .ensures))
+    closes-dynamic t (levelsIn (a .frame .rules)) (within (a .bytes .now) (a .frame)) _ (a .frame .area) _ (a .before) (a .scope) _ (c .before .before .before .before .before .scope .given .1) _ (counts _ _ _ _ _ _ (rest-plain _ (schema t) (innerOf (ignoredIn (a .frame .rules)) t (levelsIn (a .frame .rules))) (a .bytes .now) (a .frame .base) (a .frame .area) _ (sym (c .before .before .before .read-u32 .ensures .0) ∙ c .before .before .if1 .taken) ∙ closing-filled _ (a .bytes .now) (a .frame .base) (a .frame .area) _ (pads-none (a .frame .area) _ (a .occupied .now) (a .bytes .now) (R .same) (R .room) (c .before .if2 .taken) (omega (arith, c .before .if2 .taken, R .small)))) (c .longer .ensures))
 
 close-group-check-pads-requires : (t : ℕ) → close-group-lts.Need-check-pads-requires (close-group-claims t) (close-group-at t) close-group.Post
 close-group-check-pads-requires t c κs = let R = c .before .before .before .before .before .before .before .before .before .before .before .pre .1 .0 in (R .same, R .small, R .room)

@@ -2,7 +2,7 @@ use mathlib.Core.Path.{_∙_}
 use native.Mathlib.Nat.{sub-zero}
 use lib.ListN.{length, replicate}
 use borrow.Author.Needs.{needs}
-use Rattle.message.proofs.CheckMarks.{splice-over}
+use Rattle.message.proofs.CheckOccupancy.{splice-over}
 use Rattle.message.proofs.check.Statement.{statement}
 use Rattle.message.proofs.check.Tie as tie
 

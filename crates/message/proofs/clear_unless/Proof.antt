@@ -1,6 +1,6 @@
 use mathlib.Core.Path.{_∙_}
 use borrow.Author.Needs.{needs}
-use Rattle.message.proofs.CheckMarks.{is-scattered, not-scattered}
+use Rattle.message.proofs.CheckOccupancy.{is-scattered, not-scattered}
 use Rattle.message.proofs.clear_unless.Statement.{statement}
 use Rattle.message.proofs.clear_unless.Tie as tie
 

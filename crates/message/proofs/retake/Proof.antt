@@ -1,6 +1,6 @@
 use mathlib.Core.Path.{_∙_}
 use borrow.Author.Needs.{needs}
-use Rattle.message.proofs.CheckMarks.{is-scattered, not-scattered}
+use Rattle.message.proofs.CheckOccupancy.{is-scattered, not-scattered}
 use Rattle.message.proofs.retake.Statement.{statement}
 use Rattle.message.proofs.retake.Tie as tie
 

@@ -10,17 +10,17 @@ use lib.Seq.{getD-drop}
 use lib.Dec.{leb}
 use borrow.Author.Tests.{eq-eqb, le-leb, leb-true, eqb-true}
 use Rattle.schema.specs.Schema.{Group, width, find}
-use Rattle.message.specs.Marks.{padsZero}
+use Rattle.message.specs.Occupancy.{padsZero}
 use Rattle.settings.specs.declared.Ignored.{Ignored}
 use Rattle.message.specs.Walk.{Here, here, Reading, refused, done, word, padded, bodyR, headR, groupR, walk, messageR}
-use Rattle.message.specs.Conforms.{Value, number, presence, inlineText, text, list, group, extension, extending, valuesOf, areaOf, size, typeId, Extent, extentOf, extents, Apart, Pad, Good, Each, Allowed, GroupConforms, ConformsAt, Conforms}
-use Rattle.message.specs.Proper.{Proper}
+use Rattle.meaning.specs.Conforms.{Value, number, presence, inlineText, text, list, group, extension, extending, subgroup, valuesOf, areaOf, size, typeId, Extent, extentOf, extents, Apart, Pad, Good, Each, Allowed, GroupConforms, ConformsAt, Conforms}
+use Rattle.meaning.specs.Proper.{Proper}
 use Rattle.message.proofs.Tests.{or-unless, unless-or}
-use Rattle.message.proofs.Lookups.{known-names, names-known, allows-allowed, allowed-allows, names-once}
-use Rattle.message.proofs.Judged.{Judged, wrong, right, judge-need, judge-prefixed, judge-next, judge-iff}
-use Rattle.message.proofs.Extents.{marks, Clear}
-use Rattle.message.proofs.Holders.{holders, pad-none, none-pad, once-apart, apart-once, Fits, marks-get, marks-length, clear-apart, apart-clear, pads-get, get-pads, zeros-get}
-use Rattle.message.proofs.Agree.{agree-behind, agree-static}
+use Rattle.meaning.proofs.Lookups.{known-names, names-known, allows-allowed, allowed-allows, names-once}
+use Rattle.meaning.proofs.Judged.{Judged, wrong, right, judge-need, judge-prefixed, judge-next, judge-iff}
+use Rattle.meaning.proofs.Extents.{occupied, Clear}
+use Rattle.meaning.proofs.Holders.{holders, pad-none, none-pad, once-apart, apart-once, Fits, occupied-get, occupied-length, clear-apart, apart-clear, pads-get, get-pads, zeros-get}
+use Rattle.meaning.proofs.Agree.{agree-behind, agree-static}
 
 -- NO BYTE IS TAKEN AT FIRST: WHAT IS FREE IN TURN IS APART, AND WHAT IS LEFT ARE THE PADS
 
@@ -37,20 +37,20 @@ module _ (b : List ℕ) (a : ℕ) (es : List Extent) (f : Fits es (length b)) wh
   apart-free : Apart es → Clear es zs
   apart-free g = apart-clear es zs fit (λ i. omega (arith, zeros-get (length b) i, apart-once es g i))
 
-  marked : Clear es zs → (j : ℕ) → getD (drop a (marks es zs)) j 0 ≡ holders (a + j) es
-  marked c j = getD-drop a (marks es zs) j 0 ∙ omega (arith, marks-get es zs fit c (a + j), zeros-get (length b) (a + j))
+  marked : Clear es zs → (j : ℕ) → getD (drop a (occupied es zs)) j 0 ≡ holders (a + j) es
+  marked c j = getD-drop a (occupied es zs) j 0 ∙ omega (arith, occupied-get es zs fit c (a + j), zeros-get (length b) (a + j))
 
-  long : length (drop a (marks es zs)) ≡ length b - a
-  long = rw (length-drop a (marks es zs), marks-length es zs fit, length-replicate {A = ℕ} (length b) 0)
+  long : length (drop a (occupied es zs)) ≡ length b - a
+  long = rw (length-drop a (occupied es zs), occupied-length es zs fit, length-replicate {A = ℕ} (length b) 0)
 
-  pads-w6 : Clear es zs → padsZero (drop a (marks es zs)) (drop a b) ≡ true → (i : ℕ) → a ≤ i → i < length b → Pad i es → getD b i 0 ≡ 0
+  pads-w6 : Clear es zs → padsZero (drop a (occupied es zs)) (drop a b) ≡ true → (i : ℕ) → a ≤ i → i < length b → Pad i es → getD b i 0 ≡ 0
   pads-w6 c e i l h z =
       let j : ℕ = i - a in
       let q : a + j ≡ i = omega arith in
-      rw (← q, ← getD-drop a b j 0) (pads-get (drop a (marks es zs)) (drop a b) e j (omega (arith, long)) (marked c j ∙ rw q (pad-none i es z)))
+      rw (← q, ← getD-drop a b j 0) (pads-get (drop a (occupied es zs)) (drop a b) e j (omega (arith, long)) (marked c j ∙ rw q (pad-none i es z)))
 
-  w6-pads : Clear es zs → ((i : ℕ) → a ≤ i → i < length b → Pad i es → getD b i 0 ≡ 0) → padsZero (drop a (marks es zs)) (drop a b) ≡ true
-  w6-pads c g = get-pads (drop a (marks es zs)) (drop a b) (λ j l z.
+  w6-pads : Clear es zs → ((i : ℕ) → a ≤ i → i < length b → Pad i es → getD b i 0 ≡ 0) → padsZero (drop a (occupied es zs)) (drop a b) ≡ true
+  w6-pads c g = get-pads (drop a (occupied es zs)) (drop a b) (λ j l z.
       getD-drop a b j 0 ∙ g (a + j) (omega arith) (omega (arith, long, l)) (none-pad (a + j) es (sym (marked c j) ∙ z)))
 
 -- GOOD VALUES LIE IN THE GROUP
@@ -70,6 +70,7 @@ module _ (I : Ignored) (gs : List Group) (C : ℕ → List ℕ → Type 0) (a : 
   fits-one (group g at) x = (x .whole, tt)
   fits-one (extension at) x = (x .w13, tt)
   fits-one (extending at) x = (x .whole, tt)
+  fits-one subgroup x = tt
 
   fits-each : (vs : List Value) → Each (Good I gs C a b) vs → Fits (extents b vs) (length b)
   unfolding extents

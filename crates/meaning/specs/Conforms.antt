@@ -11,8 +11,8 @@ use lib.Dec.{eqb}
 use Rattle.wire.specs.Bytes.{part, le}
 use Rattle.schema.specs.Schema.{Test, any, flag, below, symbol, Kind, plain, inline, indirect, static, dynamic, Field, Group, kindWidth, valueWidth, fieldWidth, fieldsOf, superOf, width}
 use Rattle.settings.specs.declared.Ignored.{Ignored}
 use Rattle.message.specs.Walk.{word, byte}
-use Rattle.message.specs.Text.{Utf8}
+use Rattle.meaning.specs.Text.{Utf8}
 
 -- THE VALUES OF A GROUP
 -- Those of its fields, of its static groups' fields, of its sequences' items, and its extension.
@@ -27,6 +27,7 @@ pub data Value : Type 0 where
   group : ℕ → ℕ → Value  -- a dynamic group; the kind's number says which is named
   extension : ℕ → Value
   extending : ℕ → Value  -- a group of the extension
+  subgroup : Value  -- a static group begins here: it takes no byte of its own
 
 -- "An offset counts from its own first byte": where it leads, and the count or size word there.
 abbrev pub target : List ℕ → ℕ → ℕ
@@ -49,7 +50,7 @@ unfoldable pub kindV : (ℕ → Values) → Kind → Values
 kindV S (plain w t) b at = number w t at ∷ []
 kindV S (inline u c) b at = inlineText u c at ∷ []
 kindV S (indirect u) b at = text u at ∷ []
-kindV S (static g) b at = S g b at
+kindV S (static g) b at = subgroup ∷ S g b at
 kindV S (dynamic g) b at = group g at ∷ []
 
 unfoldable pub valueV : (ℕ → ℕ) → (ℕ → Values) → Field → Values
@@ -113,6 +114,7 @@ extentOf b (list w at) = extentAt (countAt b at * w) b at
 extentOf b (group g at) = extentAt (countAt b at) b at
 extentOf b (extension at) = extentAt (countAt b at * 4) b at
 extentOf b (extending at) = extentAt (countAt b at) b at
+extentOf b subgroup = []
 
 unfoldable pub extents : List ℕ → List Value → List Extent
 extents b [] = []
@@ -228,6 +230,7 @@ Good x gs C a b (list w at) = Sequence a b w at
 Good x gs C a b (group g at) = Dynamic C a b g at
 Good x gs C a b (extension at) = Extension a b at
 Good x gs C a b (extending at) = Extending gs C a b at
+Good x gs C a b subgroup = Unit
 
 abbrev pub Each : (Value → Type 0) → List Value → Type 0
 Each P [] = Unit

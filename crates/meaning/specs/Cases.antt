@@ -14,9 +14,9 @@ use Rattle.schema.specs.Symbols.{rank}
 use Rattle.schema.specs.Table.{groupMarked, scalarWidth, kindOf, fieldAt, fieldsAt, valuesAt, groupAt, enumsFrom, groupsFrom, placesFrom, enums, schema, places, isEnum, isGroup, isDue, dueAfter, shapeFrom, shapeVerdict, enumVerdict, symbolVerdict, groupVerdict, sizeOk, referenceOk, fieldVerdict, recordVerdict, recordsFrom, recordsVerdict, anyId, idVerdict, eachGroup, inBounds, widthsVerdict, beginsWith, inherits, supersVerdict, storesOwn, storedVerdict, tableVerdict}
 use Rattle.schema.specs.Cases.{group, field}
 use Rattle.settings.specs.Store.{strict}
-use Rattle.message.specs.Marks.{free, mark, padsZero, padsBefore}
+use Rattle.message.specs.Occupancy.{free, occupy, padsZero, padsBefore}
 use Rattle.message.specs.Sheet.{markBytes, kindMark, fieldMark}
 use Rattle.message.specs.Walk.{Reading, refused, done, prefixed, next, noneR, thenR, markedR, optionalR, plainR, inlineR, inArea, locate, onward, indirectR, textR, innerR, itemsR, listR, kindR, valueR, fieldR, fieldsR, staticR, extendingR, groupsR, extensionR, extensionIn, behindR, padded, bodyR, headR, groupR, walk, messageR}
 
 -- TABLES
 
@@ -341,5 +341,5 @@ expected [] = []
 expected (c ∷ cs) = c .reading ∷ expected cs
 
 pub twelve-cases : readings cases ≡ expected cases
-unfolding le bytesOf same allZero zeros after begins follow lowest highest textFrom isValid utf8 need also member passes testFault textOk kindWidth valueWidth fieldWidth fieldsWidth fieldsOf superOf width shallowKind shallowFields shallow find known under allows groupMarked scalarWidth kindOf fieldAt fieldsAt valuesAt groupAt enumsFrom groupsFrom placesFrom enums schema places isEnum isGroup isDue dueAfter shapeFrom shapeVerdict rank enumVerdict symbolVerdict groupVerdict sizeOk referenceOk fieldVerdict recordVerdict recordsFrom recordsVerdict anyId idVerdict eachGroup inBounds widthsVerdict beginsWith inherits supersVerdict storesOwn storedVerdict tableVerdict free mark padsZero padsBefore markBytes kindMark fieldMark prefixed next noneR thenR markedR optionalR plainR inlineR inArea locate onward indirectR textR innerR itemsR listR kindR valueR fieldR fieldsR staticR extendingR groupsR extensionR extensionIn behindR padded bodyR headR groupR walk messageR under20 readings expected
+unfolding le bytesOf same allZero zeros after begins follow lowest highest textFrom isValid utf8 need also member passes testFault textOk kindWidth valueWidth fieldWidth fieldsWidth fieldsOf superOf width shallowKind shallowFields shallow find known under allows groupMarked scalarWidth kindOf fieldAt fieldsAt valuesAt groupAt enumsFrom groupsFrom placesFrom enums schema places isEnum isGroup isDue dueAfter shapeFrom shapeVerdict rank enumVerdict symbolVerdict groupVerdict sizeOk referenceOk fieldVerdict recordVerdict recordsFrom recordsVerdict anyId idVerdict eachGroup inBounds widthsVerdict beginsWith inherits supersVerdict storesOwn storedVerdict tableVerdict free occupy padsZero padsBefore markBytes kindMark fieldMark prefixed next noneR thenR markedR optionalR plainR inlineR inArea locate onward indirectR textR innerR itemsR listR kindR valueR fieldR fieldsR staticR extendingR groupsR extensionR extensionIn behindR padded bodyR headR groupR walk messageR under20 readings expected
 twelve-cases = refl

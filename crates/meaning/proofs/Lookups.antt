@@ -8,9 +8,9 @@ use lib.ListN.{length, take, drop}
 use lib.Dec.{ltb, eqb}
 use borrow.Author.Tests.{lt-ltb, eq-eqb, ltb-true, ltb-false, eqb-true}
 use Rattle.schema.specs.Schema.{Group, superOf, under, allows, find, known}
-use Rattle.message.specs.Conforms.{Names, here, there, Below, itself, higher, Allowed}
-use Rattle.message.specs.Proper.{Proper}
+use Rattle.meaning.specs.Conforms.{Names, here, there, Below, itself, higher, Allowed}
+use Rattle.meaning.specs.Proper.{Proper}
 use Rattle.message.proofs.Tests.{true-false, or-right, or-cases}
 
 -- BELOW
 

@@ -10,10 +10,10 @@ use lib.Dec.{eqb}
 use borrow.Author.Tests.{eq-eqb, lt-ltb, ltb-true, eqb-true}
 use Rattle.wire.specs.Bytes.{part, le}
 use Rattle.schema.specs.Schema.{Test, any, flag, below, symbol, member, passes, textOk}
 use Rattle.message.specs.Walk.{word}
-use Rattle.message.specs.Conforms.{W9, W10, first, later, Number}
+use Rattle.meaning.specs.Conforms.{W9, W10, first, later, Number}
 use Rattle.message.proofs.Tests.{true-false, or-right, or-cases}
-use Rattle.message.proofs.Utf8.{utf8-iff}
+use Rattle.meaning.proofs.Utf8.{utf8-iff}
 
 member-w10 : (x : ℕ) (vs : List ℕ) → member x vs ≡ true → W10 vs x
 unfolding member

@@ -1,4 +1,4 @@
--- The marks after a list of extents, each of which was free when its turn came.
+-- The occupancy after a list of extents, each of which was free when its turn came.
 use mathlib.Core.Path.{_≡_, refl, sym}
 use mathlib.Core.Logic.{_↔_}
 use mathlib.Core.Bool.{true, and-eq-true-iff}
@@ -10,8 +10,8 @@ use lib.Seq.{getD-take, getD-drop}
 use lib.Dec.{eqb}
 use borrow.Author.Tests.{eq-eqb, eqb-true}
 use Rattle.wire.specs.Bytes.{part, allZero}
-use Rattle.message.specs.Marks.{free, mark}
-use Rattle.message.specs.Conforms.{Value, Extent, extentOf, extents, Zero, Each}
+use Rattle.message.specs.Occupancy.{free, occupy}
+use Rattle.meaning.specs.Conforms.{Value, Extent, extentOf, extents, Zero, Each}
 
 -- ZERO BYTES
 
@@ -39,32 +39,32 @@ part-zero b p n f = get-zero (part n p b) (λ i l.
 
 -- THE MARKS AFTER A LIST OF EXTENTS
 
-unfoldable pub marks : List Extent → List ℕ → List ℕ
-marks [] m = m
-marks (e ∷ es) m = marks es (mark (e .from) (e .long) m)
+unfoldable pub occupied : List Extent → List ℕ → List ℕ
+occupied [] m = m
+occupied (e ∷ es) m = occupied es (occupy (e .from) (e .long) m)
 
 abbrev pub Clear : List Extent → List ℕ → Type 0
 Clear [] m = Unit
-Clear (e ∷ es) m = (free (e .from) (e .long) m ≡ true) × Clear es (mark (e .from) (e .long) m)
+Clear (e ∷ es) m = (free (e .from) (e .long) m ≡ true) × Clear es (occupy (e .from) (e .long) m)
 
-marks-append : (es fs : List Extent) (m : List ℕ) → marks (es ++ fs) m ≡ marks fs (marks es m)
-unfolding marks
-marks-append [] fs m = refl
-marks-append (e ∷ es) fs m = marks-append es fs (mark (e .from) (e .long) m)
+occupied-append : (es fs : List Extent) (m : List ℕ) → occupied (es ++ fs) m ≡ occupied fs (occupied es m)
+unfolding occupied
+occupied-append [] fs m = refl
+occupied-append (e ∷ es) fs m = occupied-append es fs (occupy (e .from) (e .long) m)
 
 extents-append : (b : List ℕ) (vs ws : List Value) → extents b (vs ++ ws) ≡ extents b vs ++ extents b ws
 unfolding extents
 extents-append b [] ws = refl
 extents-append b (v ∷ vs) ws = rw (extents-append b vs ws) (sym (append-assoc (extentOf b v) (extents b vs) (extents b ws)))
 
-pub marks-both : (b : List ℕ) (vs ws : List Value) (m : List ℕ) → marks (extents b (vs ++ ws)) m ≡ marks (extents b ws) (marks (extents b vs) m)
-marks-both b vs ws m = rw (extents-append b vs ws) (marks-append (extents b vs) (extents b ws) m)
+pub occupied-both : (b : List ℕ) (vs ws : List Value) (m : List ℕ) → occupied (extents b (vs ++ ws)) m ≡ occupied (extents b ws) (occupied (extents b vs) m)
+occupied-both b vs ws m = rw (extents-append b vs ws) (occupied-append (extents b vs) (extents b ws) m)
 
-clear-append : (es fs : List Extent) (m : List ℕ) → Clear (es ++ fs) m ↔ (Clear es m × Clear fs (marks es m))
-unfolding marks
+clear-append : (es fs : List Extent) (m : List ℕ) → Clear (es ++ fs) m ↔ (Clear es m × Clear fs (occupied es m))
+unfolding occupied
 clear-append [] fs m = (λ x. (tt, x), λ x. x .1)
 clear-append (e ∷ es) fs m =
-    let r = clear-append es fs (mark (e .from) (e .long) m) in
+    let r = clear-append es fs (occupy (e .from) (e .long) m) in
     (λ x. ((x .0, r .0 (x .1) .0), r .0 (x .1) .1), λ x. (x .0 .0, r .1 (x .0 .1, x .1)))
 
 pub each-append : (P : Value → Type 0) (vs ws : List Value) → Each P (vs ++ ws) ↔ (Each P vs × Each P ws)
@@ -82,8 +82,8 @@ module _ (P : Value → Type 0) (b : List ℕ) (vs ws : List Value) (m : List �
   pub pass-left : Pass P b (vs ++ ws) m → Pass P b vs m
   pass-left x = record { each = each-append P vs ws .0 (x .each) .0; clear = clear-append (extents b vs) (extents b ws) m .0 (rw (extents-append b vs ws) at (x .clear)) .0 }
 
-  pub pass-right : Pass P b (vs ++ ws) m → Pass P b ws (marks (extents b vs) m)
+  pub pass-right : Pass P b (vs ++ ws) m → Pass P b ws (occupied (extents b vs) m)
   pass-right x = record { each = each-append P vs ws .0 (x .each) .1; clear = clear-append (extents b vs) (extents b ws) m .0 (rw (extents-append b vs ws) at (x .clear)) .1 }
 
-  pub pass-both : Pass P b vs m → Pass P b ws (marks (extents b vs) m) → Pass P b (vs ++ ws) m
+  pub pass-both : Pass P b vs m → Pass P b ws (occupied (extents b vs) m) → Pass P b (vs ++ ws) m
   pass-both x y = record { each = each-append P vs ws .1 (x .each, y .each); clear = rw (extents-append b vs ws) (clear-append (extents b vs) (extents b ws) m .1 (x .clear, y .clear)) }

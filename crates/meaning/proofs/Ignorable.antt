@@ -11,11 +11,11 @@ use Rattle.wire.proofs.Laws.{part-part}
 use Rattle.schema.specs.Faults.{need}
 use Rattle.schema.specs.Schema.{Test, Kind, plain, inline, indirect, static, dynamic, Field, Group, valueWidth, fieldWidth, fieldsOf, width, find, known}
 use Rattle.settings.specs.Store.{lax}
 use Rattle.message.specs.Sheet.{Mark, NO, GB, XU, fieldMark, markBytes}
 use Rattle.message.specs.Walk.{Here, here, Reading, refused, done, prefixed, next, Reader, Inner, lost, found, word, byte, noneR, thenR, markedR, optionalR, plainR, inlineR, inArea, locate, onward, indirectR, textR, innerR, itemsR, listR, kindR, valueR, fieldR, fieldsR, staticR, extendingR, groupsR, extensionR, extensionIn, behindR, padded, bodyR, headR, groupR, walk}
-use Rattle.message.specs.Conforms.{Value, number, presence, inlineText, text, list, group, extending, Values, target, countAt, itemsV, kindV, valueV, fieldV, fieldsV, staticV, groupsV, extensionV, Each}
-use Rattle.message.specs.Ignorable.{Same, SamePlace, SameExtending, SameValue, SameAt, SameValues}
-use Rattle.message.proofs.Extents.{each-append}
+use Rattle.meaning.specs.Conforms.{Value, number, presence, inlineText, text, list, group, extending, Values, target, countAt, itemsV, kindV, valueV, fieldV, fieldsV, staticV, groupsV, extensionV, Each}
+use Rattle.meaning.specs.Ignorable.{Same, SamePlace, SameExtending, SameValue, SameAt, SameValues}
+use Rattle.meaning.proofs.Extents.{each-append}
 
 next-same : (r : Reading) (f g : List ℕ → Reading) → ((m : List ℕ) → f m ≡ g m) → next r f ≡ next r g
 unfolding next
@@ -124,7 +124,7 @@ module _ (gs : List Group) (I : Inner) (C : List ℕ → List ℕ → Type 0) (i
     keeps-kind (plain w t) = record { says = keeps-plain w t .says }
     keeps-kind (inline u c) = record { says = keeps-inline u c .says }
     keeps-kind (indirect u) = record { says = keeps-text u .says }
-    keeps-kind (static g) = record { says = st g .says }
+    keeps-kind (static g) = record { says = λ base area at m x. st g .says base area at m (x .1) }
     keeps-kind (dynamic g) = record { says = keeps-inner g .says }
 
     keeps-value : (f : Field) → Keeps (valueR I sw S f) (valueV sw T f)

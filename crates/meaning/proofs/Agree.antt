@@ -12,14 +12,14 @@ use borrow.Author.Tests.{eq-eqb, le-leb, leb-true, eqb-true, eqb-false}
 use Rattle.wire.specs.Bytes.{part, allZero, zeros}
 use Rattle.schema.specs.Faults.{need}
 use Rattle.schema.specs.Schema.{Test, Kind, plain, inline, indirect, static, dynamic, Field, Group, valueWidth, fieldWidth, fieldsOf, width}
 use Rattle.message.specs.Sheet.{Mark, NO, fieldMark}
 use Rattle.message.specs.Walk.{Here, Reading, refused, done, Reader, Inner, word, byte, next, noneR, thenR, markedR, optionalR, plainR, inlineR, inArea, indirectR, textR, innerR, itemsR, listR, kindR, valueR, fieldR, fieldsR, staticR, extendingR, groupsR, extensionR, extensionIn, behindR}
-use Rattle.message.specs.Conforms.{Value, number, presence, inlineText, text, list, group, extending, Values, target, countAt, itemsV, kindV, valueV, fieldV, fieldsV, staticV, groupsV, extensionV, extents, extentOf, Good, Each}
+use Rattle.meaning.specs.Conforms.{Value, number, presence, inlineText, text, list, group, extending, Values, target, countAt, itemsV, kindV, valueV, fieldV, fieldsV, staticV, groupsV, extensionV, extents, extentOf, Good, Each}
 use Rattle.message.proofs.Tests.{true-false, or-unless, unless-or}
-use Rattle.message.proofs.Lookups.{known-names, names-known}
-use Rattle.message.proofs.Values.{test-pass, pass-test, text-w9, w9-text, sized}
-use Rattle.message.proofs.Judged.{Judged, right, judge-need, judge-cond, judge-prefixed, judge-next, judge-iff, judge-indirect, in-area}
-use Rattle.message.proofs.Extents.{zero-part, part-zero, marks, marks-both, Pass, pass-left, pass-right, pass-both}
+use Rattle.meaning.proofs.Lookups.{known-names, names-known}
+use Rattle.meaning.proofs.Values.{test-pass, pass-test, text-w9, w9-text, sized}
+use Rattle.meaning.proofs.Judged.{Judged, right, judge-need, judge-cond, judge-prefixed, judge-next, judge-iff, judge-indirect, in-area}
+use Rattle.meaning.proofs.Extents.{zero-part, part-zero, occupied, occupied-both, Pass, pass-left, pass-right, pass-both}
 
 -- I reads a dynamic group that is named by n, and C says what such a group must be.
 module _ (gs : List Group) (I : Inner) (C : ℕ → List ℕ → Type 0) (inner : (n base : ℕ) (b : List ℕ) → length b ≡ 4 + word 0 b → Judged (C n b) [] (I n base b)) where
@@ -27,20 +27,20 @@ module _ (gs : List Group) (I : Inner) (C : ℕ → List ℕ → Type 0) (inner 
   Passes h vs m = Pass (Good (h .ignored) gs C (h .area) (h .bytes)) (h .bytes) vs m
 
   abbrev pub after : Here → List Value → List ℕ → List ℕ
-  after h vs m = marks (extents (h .bytes) vs) m
+  after h vs m = occupied (extents (h .bytes) vs) m
 
   pub record Agree (R : Reader) (v : Values) : Type 0 where
     pub says : (h : Here) (at : ℕ) (m : List ℕ) → Judged (Passes h (v (h .bytes) at) m) (after h (v (h .bytes) at) m) (R h at m)
 
   -- nothing, and one after the other
   nothing : (h : Here) (m s : List ℕ) → Judged (Passes h [] m) (after h [] m) (done s m)
-  unfolding extents marks
+  unfolding extents occupied
   nothing h m s = right (record { each = tt; clear = tt })
 
   after-next : (h : Here) (vs ws : List Value) (m : List ℕ) {r : Reading} (f : List ℕ → Reading) → Judged (Passes h vs m) (after h vs m) r
       → Judged (Passes h ws (after h vs m)) (after h ws (after h vs m)) (f (after h vs m)) → Judged (Passes h (vs ++ ws) m) (after h (vs ++ ws) m) (next r f)
   after-next h vs ws m f x y =
-      rw (marks-both (h .bytes) vs ws m) (judge-next f x (λ p. pass-left _ (h .bytes) vs ws m p) (λ p.
+      rw (occupied-both (h .bytes) vs ws m) (judge-next f x (λ p. pass-left _ (h .bytes) vs ws m p) (λ p.
       judge-iff (λ q. pass-both _ (h .bytes) vs ws m p q) (λ q. pass-right _ (h .bytes) vs ws m q) y))
 
   agree-items : (w : ℕ) (R : Reader) (v : Values) → Agree R v → (n : ℕ) → Agree (itemsR w R n) (itemsV w v n)
@@ -55,14 +55,14 @@ module _ (gs : List Group) (I : Inner) (C : ℕ → List ℕ → Type 0) (inner 
   -- VALUES IN PLACE
 
   agree-plain : (w : ℕ) (t : Test) → Agree (plainR w t) (λ b at. number w t at ∷ [])
-  unfolding plainR extents extentOf marks
+  unfolding plainR extents extentOf occupied
   agree-plain w t = record {
     says = λ h at m.
         judge-need _ _ _ (λ x. pass-test t _ (x .each .0)) (λ e. right (record { each = (test-pass t _ e, tt); clear = tt }));
   }
 
   agree-inline : (u : Bool) (c : ℕ) → Agree (inlineR u c) (λ b at. inlineText u c at ∷ [])
-  unfolding inlineR extents extentOf marks
+  unfolding inlineR extents extentOf occupied
   agree-inline u c = record {
     says = λ h at m.
         judge-need _ 7 _ (λ x. le-leb _ _ (x .each .0 .w7)) (λ e₁.
@@ -76,7 +76,7 @@ module _ (gs : List Group) (I : Inner) (C : ℕ → List ℕ → Type 0) (inner 
       → Judged (Passes h (presence w at ∷ cond c (v (h .bytes) (at + 1)) []) m) (after h (presence w at ∷ cond c (v (h .bytes) (at + 1)) []) m)
       (cond c (markedR k R h (at + 1) m) (need (eqb (byte at (h .bytes)) 0) (refused 11 (h .base + at))
       (need (h .ignored .absent || allZero (part w (at + 1) (h .bytes))) (refused 4 (h .base + (at + 1) + zeros (part w (at + 1) (h .bytes)))) (done NO m))))
-  unfolding extents extentOf marks
+  unfolding extents extentOf occupied
   judge-optional k w R v A h at m true e =
       let q : byte at (h .bytes) ≡ 1 = eqb-true _ _ e in
       judge-iff (λ x. record { each = (record { w11 = omega arith; w4 = λ y z. absurd (omega arith) }, x .each); clear = x .clear })
@@ -96,7 +96,7 @@ module _ (gs : List Group) (I : Inner) (C : ℕ → List ℕ → Type 0) (inner 
   -- VALUES IN THE DATA AREA
 
   agree-text : (u : Bool) → Agree (indirectR 26 1 (textR u)) (λ b at. text u at ∷ [])
-  unfolding textR extents extentOf marks
+  unfolding textR extents extentOf occupied
   agree-text u = record {
     says = λ h at m.
         judge-indirect 26 1 (textR u) h at m (target (h .bytes) at) (countAt (h .bytes) at) (countAt (h .bytes) at) refl refl (mul-one _)
@@ -106,7 +106,7 @@ module _ (gs : List Group) (I : Inner) (C : ℕ → List ℕ → Type 0) (inner 
   }
 
   agree-inner : (g : ℕ) → Agree (indirectR 26 1 (innerR I g)) (λ b at. group g at ∷ [])
-  unfolding innerR extents extentOf marks
+  unfolding innerR extents extentOf occupied
   agree-inner g = record {
     says = λ h at m.
         judge-indirect 26 1 (innerR I g) h at m (target (h .bytes) at) (countAt (h .bytes) at) (countAt (h .bytes) at) refl refl (mul-one _)
@@ -117,7 +117,7 @@ module _ (gs : List Group) (I : Inner) (C : ℕ → List ℕ → Type 0) (inner 
 
   agree-list : (w : ℕ) (R : Reader) (v : Values) → Agree R v
       → Agree (indirectR 13 w (listR w R)) (λ b at. list w at ∷ itemsV w v (countAt b at) b (target b at + 4))
-  unfolding listR extents extentOf marks
+  unfolding listR extents extentOf occupied
   agree-list w R v A = record {
     says = λ h at m.
         judge-indirect 13 w (listR w R) h at m (target (h .bytes) at) (countAt (h .bytes) at) (countAt (h .bytes) at * w) refl refl refl
@@ -136,11 +136,13 @@ module _ (gs : List Group) (I : Inner) (C : ℕ → List ℕ → Type 0) (inner 
 
   module _ (sw : ℕ → ℕ) (S : ℕ → Reader) (T : ℕ → Values) (st : (g : ℕ) → Agree (S g) (T g)) where
     agree-kind : (k : Kind) → Agree (kindR I S k) (kindV T k)
-    unfolding kindR kindV
+    unfolding kindR kindV extents extentOf
     agree-kind (plain w t) = record { says = λ h at m. agree-plain w t .says h at m }
     agree-kind (inline u c) = record { says = λ h at m. agree-inline u c .says h at m }
     agree-kind (indirect u) = record { says = λ h at m. agree-text u .says h at m }
-    agree-kind (static g) = record { says = λ h at m. st g .says h at m }
+    agree-kind (static g) = record {
+      says = λ h at m. judge-iff (λ x. record { each = (tt, x .each); clear = x .clear }) (λ x. record { each = x .each .1; clear = x .clear }) (st g .says h at m);
+    }
     agree-kind (dynamic g) = record { says = λ h at m. agree-inner g .says h at m }
 
     agree-value : (f : Field) → Agree (valueR I sw S f) (valueV sw T f)
@@ -169,7 +171,7 @@ module _ (gs : List Group) (I : Inner) (C : ℕ → List ℕ → Type 0) (inner 
   -- THE EXTENSION
 
   agree-extending : Agree (indirectR 26 1 (extendingR gs I)) (λ b at. extending at ∷ [])
-  unfolding extendingR markedR innerR textR extents extentOf marks
+  unfolding extendingR markedR innerR textR extents extentOf occupied
   agree-extending = record {
     says = λ h at m.
         judge-indirect 26 1 (extendingR gs I) h at m (target (h .bytes) at) (countAt (h .bytes) at) (countAt (h .bytes) at) refl refl (mul-one _)
@@ -191,7 +193,7 @@ module _ (gs : List Group) (I : Inner) (C : ℕ → List ℕ → Type 0) (inner 
   -- c: whether there is none
   judge-extension : (h : Here) (at : ℕ) (m : List ℕ) (c : Bool)
       → Judged (Passes h (cond c [] (groupsV (h .bytes) at)) m) (after h (cond c [] (groupsV (h .bytes) at)) m) (cond c (done [] m) (indirectR 13 4 (groupsR gs I) h at m))
-  unfolding extents extentOf marks
+  unfolding extents extentOf occupied
   judge-extension h at m true = nothing h m []
   judge-extension h at m false =
       judge-indirect 13 4 (groupsR gs I) h at m (target (h .bytes) at) (countAt (h .bytes) at) (countAt (h .bytes) at * 4) refl refl refl

@@ -1,4 +1,4 @@
--- Which bytes of a dynamic group are taken by the values of its data area: a list as long as the group, 0 where a byte is free.
+-- The occupancy of a dynamic group: which of its bytes the values of its data area take, as a list as long as the group, 0 where a byte is free.
 -- It is what the check keeps in the caller's scratch.
 use mathlib.Core.Bool.{Bool, true, _&&_}
 use mathlib.Core.List.{List, [], _∷_}
@@ -7,14 +7,14 @@ use lib.ListN.{replicate}
 use lib.Dec.{eqb}
 use Rattle.wire.specs.Bytes.{part, splice, allZero}
 
--- "Values of one data area share no byte": whether the n bytes from p on are free, and the marks with them taken.
+-- "Values of one data area share no byte": whether the n bytes from p on are free, and the occupancy with them taken.
 unfoldable pub free : ℕ → ℕ → List ℕ → Bool
 free p n m = allZero (part n p m)
 
-unfoldable pub mark : ℕ → ℕ → List ℕ → List ℕ
-mark p n m = splice n p (replicate n 1) m
+unfoldable pub occupy : ℕ → ℕ → List ℕ → List ℕ
+occupy p n m = splice n p (replicate n 1) m
 
--- 6: whether every pad byte, one that no value took, is zero; and how many bytes stand before the first that is not. Marks, bytes.
+-- 6: whether every pad byte, one that no value took, is zero; and how many bytes stand before the first that is not. Occupancy, bytes.
 unfoldable pub padsZero : List ℕ → List ℕ → Bool
 padsZero [] bs = true
 padsZero (m ∷ ms) [] = true

@@ -9,8 +9,8 @@ use lib.ListN.{length}
 use lib.Dec.{leb, ltb, eqb}
 use borrow.Author.Tests.{ne-eqb, lt-ltb, le-ltb, le-leb, leb-true, ltb-true, ltb-false, eqb-true, eqb-false}
 use Rattle.wire.specs.Utf8.{Text, valid, broken, after, begins, follow, lowest, highest, textFrom, isValid, utf8}
-use Rattle.message.specs.Text.{In, Utf8, empty, x00-7F, xC2-DF, xE0, xE1-EF, xF0, xF1-F3, xF4}
+use Rattle.meaning.specs.Text.{In, Utf8, empty, x00-7F, xC2-DF, xE0, xE1-EF, xF0, xF1-F3, xF4}
 use Rattle.message.proofs.Tests.{true-false}
 
 -- ONE TURN OF THE SCAN
 

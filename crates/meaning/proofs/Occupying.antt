@@ -10,11 +10,11 @@ use lib.Dec.{eqb}
 use borrow.Author.Tests.{eqb-true}
 use Rattle.wire.specs.Bytes.{allZero}
 use Rattle.wire.proofs.Laws.{length-splice}
-use Rattle.message.specs.Marks.{free, mark}
+use Rattle.message.specs.Occupancy.{free, occupy}
 
-pub mark-length : (p n : ℕ) (m : List ℕ) → p + n ≤ length m → length (mark p n m) ≡ length m
-unfolding mark
-mark-length p n m l = length-splice n p (replicate n 1) m l (length-replicate {A = ℕ} n 1)
+pub occupy-length : (p n : ℕ) (m : List ℕ) → p + n ≤ length m → length (occupy p n m) ≡ length m
+unfolding occupy
+occupy-length p n m l = length-splice n p (replicate n 1) m l (length-replicate {A = ℕ} n 1)
 
 ones : List ℕ → ℕ
 ones [] = 0
@@ -53,8 +53,8 @@ unfolding taken
 taken-le a m = omega (arith, ones-le (drop a m), length-drop a m)
 
 -- to mark free bytes takes as many more
-pub taken-more : (a p n : ℕ) (m : List ℕ) → free p n m ≡ true → a ≤ p → p + n ≤ length m → taken a m + n ≤ taken a (mark p n m)
-unfolding mark free taken
+pub taken-more : (a p n : ℕ) (m : List ℕ) → free p n m ≡ true → a ≤ p → p + n ≤ length m → taken a m + n ≤ taken a (occupy p n m)
+unfolding occupy free taken
 taken-more a p n m e l h =
     let q : p ≤ length m = omega arith in
     let k : length (take p m) ≡ p = length-take-le p m q in

@@ -7,8 +7,8 @@ use Prim.Native.Nat.{ℕ, zero, suc, _+_}
 use lib.ListN.{length}
 use Rattle.wire.specs.Bytes.{part, le}
 use Rattle.schema.specs.Schema.{Group, find, known}
 use Rattle.message.specs.Walk.{byte}
-use Rattle.message.specs.Conforms.{Value, number, presence, inlineText, text, list, group, extension, extending, target, countAt, Each, valuesOf, typeId}
+use Rattle.meaning.specs.Conforms.{Value, number, presence, inlineText, text, list, group, extension, extending, subgroup, target, countAt, Each, valuesOf, typeId}
 
 -- The n bytes from p on.
 abbrev pub Same : ℕ → ℕ → List ℕ → List ℕ → Type 0
@@ -50,6 +50,7 @@ SameValue gs C b d (list w at) = SamePlace b d at
 SameValue gs C b d (group g at) = SameInner C b d at
 SameValue gs C b d (extension at) = SamePlace b d at
 SameValue gs C b d (extending at) = SameExtending gs C b d at
+SameValue gs C b d subgroup = Unit
 
 pub record SameGroup (gs : List Group) (C : List ℕ → List ℕ → Type 0) (b d : List ℕ) : Type 0 where
   pub long : length b ≡ length d

@@ -7,11 +7,11 @@ use native.Mathlib.Nat.{zero-add, mod-eq-of-lt}
 use lib.ListN.{length}
 use Rattle.schema.specs.Schema.{Group}
 use Rattle.settings.specs.declared.Ignored.{Ignored}
 use Rattle.message.specs.Walk.{Reading, refused, done, walk}
 use Rattle.message.specs.Count.{count, counted}
 use Rattle.message.specs.Check.{after}
-use Rattle.message.specs.Proper.{Sized}
-use Rattle.message.proofs.Eleven.{eleven}
+use Rattle.meaning.specs.Proper.{Sized}
+use Rattle.meaning.proofs.Eleven.{eleven}
 
 pub after-exact : (y : Ignored) (gs : List Group) → Sized gs → (b : List ℕ) → length b ≤ 65536 → after 0 (count (walk y gs b)) ≡ count (walk y gs b)
 unfolding after count

@@ -8,11 +8,11 @@ use native.Mathlib.Omega.{arith}
 use lib.ListN.{length}
 use borrow.Author.Tests.{lt-ltb, le-leb, leb-true, ltb-true}
 use Rattle.schema.specs.Faults.{need}
-use Rattle.message.specs.Marks.{free, mark}
+use Rattle.message.specs.Occupancy.{free, occupy}
 use Rattle.message.specs.Walk.{Here, Reading, refused, done, Reader, word, prefixed, next, inArea, Place, lost, found, locate, onward, indirectR}
 use Rattle.message.proofs.Tests.{true-false}
 
--- M: the marks that a reading leaves.
+-- M: the occupancy that a reading leaves.
 pub data Judged (P : Type 0) (M : List ℕ) : Reading → Type 0 where
   wrong : {n p : ℕ} → (P → ⊥) → Judged P M (refused n p)
   right : {s : List ℕ} → P → Judged P M (done s M)
@@ -64,7 +64,7 @@ module _ {P : Type 0} {M : List ℕ} where
   pub judge-indirect : (past w : ℕ) (inside : ℕ → Reader) (h : Here) (at : ℕ) (m : List ℕ) (p n k : ℕ)
       → p ≡ at + word at (h .bytes) → n ≡ word p (h .bytes) → n * w ≡ k
       → (P → h .area ≤ p) → (P → p < length (h .bytes)) → (P → p + (4 + k) ≤ length (h .bytes)) → (P → free p (4 + k) m ≡ true)
-      → (h .area ≤ p → p < length (h .bytes) → p + (4 + k) ≤ length (h .bytes) → free p (4 + k) m ≡ true → Judged P M (inside n h p (mark p (4 + k) m)))
+      → (h .area ≤ p → p < length (h .bytes) → p + (4 + k) ≤ length (h .bytes) → free p (4 + k) m ≡ true → Judged P M (inside n h p (occupy p (4 + k) m)))
       → Judged P M (indirectR past w inside h at m)
   unfolding indirectR locate
   judge-indirect past w inside h at m p n k ep en ek a e l f c =

@@ -12,13 +12,13 @@ use borrow.Author.Tests.{leb-true}
 use Rattle.wire.specs.Bytes.{part, le, bytesOf}
 use Rattle.wire.proofs.Laws.{length-bytes}
 use Rattle.schema.specs.Schema.{Test, Kind, plain, inline, indirect, static, dynamic, Field, Group, kindWidth, valueWidth, fieldWidth, fieldsWidth, fieldsOf, width, shallowKind, shallowFields, shallow, find, known}
 use Rattle.message.specs.Sheet.{Mark, GB, XT, XU, markBytes, NO, GE}
 use Rattle.settings.specs.declared.Ignored.{Ignored}
 use Rattle.message.specs.Walk.{Here, here, done, Reader, Inner, word, byte, noneR, thenR, markedR, optionalR, plainR, inlineR, indirectR, textR, innerR, itemsR, listR, kindR, valueR, fieldR, fieldsR, staticR, extendingR, groupsR, extensionR, behindR, bodyR, headR, groupR, walk}
-use Rattle.message.specs.Proper.{SizedKind, SizedFields, Sized}
-use Rattle.message.proofs.Marking.{taken, taken-le, taken-more}
+use Rattle.meaning.specs.Proper.{SizedKind, SizedFields, Sized}
+use Rattle.meaning.proofs.Occupying.{taken, taken-le, taken-more}
 use Rattle.message.proofs.Count.{length-mark}
-use Rattle.message.proofs.Sat.{Sat, unsaid, said, sat-is, sat-need, sat-cond, sat-prefixed, sat-next, sat-map, sat-padded, sat-indirect}
+use Rattle.meaning.proofs.Sat.{Sat, unsaid, said, sat-is, sat-need, sat-cond, sat-prefixed, sat-next, sat-map, sat-padded, sat-indirect}
 
 -- READERS
 

@@ -1,4 +1,4 @@
--- How many extents hold a byte: what joins marks, which are made in turn, with "share no byte" and with pad bytes, which know no order.
+-- How many extents hold a byte: what joins an occupancy, which is made in turn, with "share no byte" and with pad bytes, which know no order.
 use mathlib.Core.Path.{_≡_, refl, _∙_}
 use mathlib.Core.Bool.{Bool, true, false, cond, _&&_, and-eq-true-iff}
 use mathlib.Core.List.{List, [], _∷_, _++_}
@@ -8,10 +8,10 @@ use lib.ListN.{length, take, drop, getD, replicate, length-take, length-replicat
 use lib.Seq.{getD-append-add, getD-take, getD-drop, length-take-le}
 use lib.Dec.{leb, ltb, eqb}
 use borrow.Author.Tests.{eq-eqb, lt-ltb, le-ltb, le-leb, lt-leb, ltb-true, ltb-false, eqb-true}
-use Rattle.message.specs.Marks.{free, mark, padsZero}
-use Rattle.message.specs.Conforms.{Extent, Holds, DisjointAll, Apart, Pad}
-use Rattle.message.proofs.Marking.{mark-length}
-use Rattle.message.proofs.Extents.{zero-part, part-zero, marks, Clear}
+use Rattle.message.specs.Occupancy.{free, occupy, padsZero}
+use Rattle.meaning.specs.Conforms.{Extent, Holds, DisjointAll, Apart, Pad}
+use Rattle.meaning.proofs.Occupying.{occupy-length}
+use Rattle.meaning.proofs.Extents.{zero-part, part-zero, occupied, Clear}
 
 -- HOW MANY HOLD A BYTE
 
@@ -37,24 +37,24 @@ side i p n = go (ltb i p) (ltb i (p + n)) refl refl
     go false false e f = over (ltb-false _ _ f)
 
 module _ (p n : ℕ) (m : List ℕ) (l : p + n ≤ length m) (i : ℕ) where
-  mark-under : i < p → getD (mark p n m) i 0 ≡ getD m i 0
-  unfolding mark
-  mark-under h = List·getD-append (take p m) (replicate n 1 ++ drop n (drop p m)) 0 i (simp length-take (omega arith)) ∙ getD-take p m i 0 h
+  occupy-under : i < p → getD (occupy p n m) i 0 ≡ getD m i 0
+  unfolding occupy
+  occupy-under h = List·getD-append (take p m) (replicate n 1 ++ drop n (drop p m)) 0 i (simp length-take (omega arith)) ∙ getD-take p m i 0 h
 
-  behind : (j : ℕ) → i ≡ p + j → getD (mark p n m) i 0 ≡ getD (replicate n 1 ++ drop n (drop p m)) j 0
-  unfolding mark
+  behind : (j : ℕ) → i ≡ p + j → getD (occupy p n m) i 0 ≡ getD (replicate n 1 ++ drop n (drop p m)) j 0
+  unfolding occupy
   behind j e =
       let k : length (take p m) ≡ p = length-take-le p m (omega arith) in
       let q : i ≡ length (take p m) + j = omega arith in
       rw q (getD-append-add (take p m) (replicate n 1 ++ drop n (drop p m)) j 0)
 
-  mark-inside : p ≤ i → i < p + n → getD (mark p n m) i 0 ≡ 1
+  mark-inside : p ≤ i → i < p + n → getD (occupy p n m) i 0 ≡ 1
   mark-inside a h =
       let j : ℕ = i - p in
       behind j (omega arith) ∙ List·getD-append (replicate n 1) (drop n (drop p m)) 0 j (rw (length-replicate {A = ℕ} n 1) (omega arith)) ∙ getD-replicate n j 1 0 (omega arith)
 
-  mark-over : p + n ≤ i → getD (mark p n m) i 0 ≡ getD m i 0
-  mark-over a =
+  occupy-over : p + n ≤ i → getD (occupy p n m) i 0 ≡ getD m i 0
+  occupy-over a =
       let j : ℕ = i - (p + n) in
       let k = length-replicate {A = ℕ} n 1 in
       let q : n + j ≡ length (replicate {A = ℕ} n 1) + j = omega arith in
@@ -99,44 +99,44 @@ Fits [] n = Unit
 Fits (e ∷ es) n = (e .from + e .long ≤ n) × Fits es n
 
 module _ (e : Extent) (m : List ℕ) (l : e .from + e .long ≤ length m) where
-  mark-bits : Bits m → Bits (mark (e .from) (e .long) m)
-  mark-bits f i = go (side i (e .from) (e .long))
+  occupy-bits : Bits m → Bits (occupy (e .from) (e .long) m)
+  occupy-bits f i = go (side i (e .from) (e .long))
     where
-      go : Where i (e .from) (e .long) → getD (mark (e .from) (e .long) m) i 0 ≤ 1
-      go (under h) = omega (arith, f i, mark-under (e .from) (e .long) m l i h)
+      go : Where i (e .from) (e .long) → getD (occupy (e .from) (e .long) m) i 0 ≤ 1
+      go (under h) = omega (arith, f i, occupy-under (e .from) (e .long) m l i h)
       go (inside a h) = omega (arith, mark-inside (e .from) (e .long) m l i a h)
-      go (over h) = omega (arith, f i, mark-over (e .from) (e .long) m l i h)
+      go (over h) = omega (arith, f i, occupy-over (e .from) (e .long) m l i h)
 
   -- an extent that is free: marking it adds it
-  mark-held : free (e .from) (e .long) m ≡ true → (i : ℕ) → getD (mark (e .from) (e .long) m) i 0 ≡ getD m i 0 + held i e
+  occupy-held : free (e .from) (e .long) m ≡ true → (i : ℕ) → getD (occupy (e .from) (e .long) m) i 0 ≡ getD m i 0 + held i e
   unfolding free
-  mark-held f i = go (side i (e .from) (e .long))
+  occupy-held f i = go (side i (e .from) (e .long))
     where
-      go : Where i (e .from) (e .long) → getD (mark (e .from) (e .long) m) i 0 ≡ getD m i 0 + held i e
-      go (under h) = omega (arith, held-under e i h, mark-under (e .from) (e .long) m l i h)
+      go : Where i (e .from) (e .long) → getD (occupy (e .from) (e .long) m) i 0 ≡ getD m i 0 + held i e
+      go (under h) = omega (arith, held-under e i h, occupy-under (e .from) (e .long) m l i h)
       go (inside a h) = omega (arith, held-in e i a h, mark-inside (e .from) (e .long) m l i a h, zero-part m (e .from) (e .long) f i a h)
-      go (over h) = omega (arith, held-over e i h, mark-over (e .from) (e .long) m l i h)
+      go (over h) = omega (arith, held-over e i h, occupy-over (e .from) (e .long) m l i h)
 
-  fits-on : (es : List Extent) → Fits es (length m) → Fits es (length (mark (e .from) (e .long) m))
-  fits-on es f = rw (mark-length (e .from) (e .long) m l) f
+  fits-on : (es : List Extent) → Fits es (length m) → Fits es (length (occupy (e .from) (e .long) m))
+  fits-on es f = rw (occupy-length (e .from) (e .long) m l) f
 
-pub marks-get : (es : List Extent) (m : List ℕ) → Fits es (length m) → Clear es m → (i : ℕ) → getD (marks es m) i 0 ≡ getD m i 0 + holders i es
-unfolding marks holders
-marks-get [] m f c i = omega arith
-marks-get (e ∷ es) m f c i = omega (arith, mark-held e m (f .0) (c .0) i, marks-get es (mark (e .from) (e .long) m) (fits-on e m (f .0) es (f .1)) (c .1) i)
+pub occupied-get : (es : List Extent) (m : List ℕ) → Fits es (length m) → Clear es m → (i : ℕ) → getD (occupied es m) i 0 ≡ getD m i 0 + holders i es
+unfolding occupied holders
+occupied-get [] m f c i = omega arith
+occupied-get (e ∷ es) m f c i = omega (arith, occupy-held e m (f .0) (c .0) i, occupied-get es (occupy (e .from) (e .long) m) (fits-on e m (f .0) es (f .1)) (c .1) i)
 
-pub marks-length : (es : List Extent) (m : List ℕ) → Fits es (length m) → length (marks es m) ≡ length m
-unfolding marks
-marks-length [] m f = refl
-marks-length (e ∷ es) m f = marks-length es (mark (e .from) (e .long) m) (fits-on e m (f .0) es (f .1)) ∙ mark-length (e .from) (e .long) m (f .0)
+pub occupied-length : (es : List Extent) (m : List ℕ) → Fits es (length m) → length (occupied es m) ≡ length m
+unfolding occupied
+occupied-length [] m f = refl
+occupied-length (e ∷ es) m f = occupied-length es (occupy (e .from) (e .long) m) (fits-on e m (f .0) es (f .1)) ∙ occupy-length (e .from) (e .long) m (f .0)
 
 pub clear-apart : (es : List Extent) (m : List ℕ) → Fits es (length m) → Bits m → Clear es m → (i : ℕ) → getD m i 0 + holders i es ≤ 1
 unfolding holders
 clear-apart [] m f b c i = omega (arith, b i)
 clear-apart (e ∷ es) m f b c i = omega (
   arith,
-  mark-held e m (f .0) (c .0) i,
-  clear-apart es (mark (e .from) (e .long) m) (fits-on e m (f .0) es (f .1)) (mark-bits e m (f .0) b) (c .1) i,
+  occupy-held e m (f .0) (c .0) i,
+  clear-apart es (occupy (e .from) (e .long) m) (fits-on e m (f .0) es (f .1)) (occupy-bits e m (f .0) b) (c .1) i,
 )
 
 pub apart-clear : (es : List Extent) (m : List ℕ) → Fits es (length m) → ((i : ℕ) → getD m i 0 + holders i es ≤ 1) → Clear es m
@@ -144,7 +144,7 @@ unfolding holders free
 apart-clear [] m f a = tt
 apart-clear (e ∷ es) m f a =
     let z : free (e .from) (e .long) m ≡ true = part-zero m (e .from) (e .long) (λ i l h. omega (arith, a i, held-in e i l h)) in
-    (z, apart-clear es (mark (e .from) (e .long) m) (fits-on e m (f .0) es (f .1)) (λ i. omega (arith, a i, mark-held e m (f .0) z i)))
+    (z, apart-clear es (occupy (e .from) (e .long) m) (fits-on e m (f .0) es (f .1)) (λ i. omega (arith, a i, occupy-held e m (f .0) z i)))
 
 -- extents are apart where no byte is held twice
 

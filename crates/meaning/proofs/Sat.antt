@@ -7,9 +7,9 @@ use native.Mathlib.Omega.{arith}
 use lib.ListN.{length}
 use borrow.Author.Tests.{leb-true}
 use Rattle.schema.specs.Faults.{need}
-use Rattle.message.specs.Marks.{free, mark}
+use Rattle.message.specs.Occupancy.{free, occupy}
 use Rattle.message.specs.Walk.{Here, Reading, refused, done, Reader, word, prefixed, next, inArea, Place, lost, found, locate, onward, indirectR, padded}
-use Rattle.message.proofs.Marking.{mark-length}
+use Rattle.meaning.proofs.Occupying.{occupy-length}
 
 pub data Sat (Q : List ℕ → List ℕ → Type 0) : Reading → Type 0 where
   unsaid : {n p : ℕ} → Sat Q (refused n p)
@@ -72,10 +72,10 @@ pub record Lies (h : Here) (m : List ℕ) (p n : ℕ) : Type 0 where
   pub behind : h .area ≤ p
   pub whole : p + n ≤ length (h .bytes)
   pub clear : free p n m ≡ true
-  pub same : length (mark p n m) ≡ length (h .bytes)
+  pub same : length (occupy p n m) ≡ length (h .bytes)
 
 pub sat-indirect : {Q : List ℕ → List ℕ → Type 0} (past w : ℕ) (inside : ℕ → Reader) (h : Here) (at : ℕ) (m : List ℕ) → length m ≡ length (h .bytes)
-    → ((p : ℕ) → Lies h m p (4 + word p (h .bytes) * w) → Sat Q (inside (word p (h .bytes)) h p (mark p (4 + word p (h .bytes) * w) m)))
+    → ((p : ℕ) → Lies h m p (4 + word p (h .bytes) * w) → Sat Q (inside (word p (h .bytes)) h p (occupy p (4 + word p (h .bytes) * w) m)))
     → Sat Q (indirectR past w inside h at m)
 unfolding indirectR locate inArea
 sat-indirect past w inside h at m e f =
@@ -83,4 +83,4 @@ sat-indirect past w inside h at m e f =
     let n : ℕ = 4 + word p (h .bytes) * w in
     sat-onward h inside (satp-need _ 5 _ (λ t₁. satp-need _ 26 _ (λ t₂. satp-need _ past _ (λ t₃. satp-need _ 27 _ (λ t₄.
     let l : p + n ≤ length (h .bytes) = leb-true _ _ t₃ in
-    saidP (f p (record { behind = leb-true _ _ (and-eq-true-iff _ _ .0 t₁ .0); whole = l; clear = t₄; same = mark-length p n m (omega (arith, l, e)) ∙ e })))))))
+    saidP (f p (record { behind = leb-true _ _ (and-eq-true-iff _ _ .0 t₁ .0); whole = l; clear = t₄; same = occupy-length p n m (omega (arith, l, e)) ∙ e })))))))

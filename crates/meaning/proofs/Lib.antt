@@ -1,0 +1,14 @@
+pub mod Occupying
+pub mod Sat
+pub mod Utf8
+pub mod Lookups
+pub mod Values
+pub mod Judged
+pub mod Extents
+pub mod Holders
+pub mod Agree
+pub mod Accepted
+pub mod Lists
+pub mod Ignorable
+pub mod Eleven
+pub mod CheckExact

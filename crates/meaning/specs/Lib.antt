@@ -1,0 +1,6 @@
+pub mod Text
+pub mod Conforms
+pub mod Lists
+pub mod Proper
+pub mod Ignorable
+pub mod Cases

@@ -1,4 +1,7 @@
 // The faults' words.
+ghost use mathlib.Core.Path.{_≡_};
+ghost use mathlib.Core.Bool.{not};
+ghost use Rattle.blink.specs.Questions.{placeless};
 use printing::dump;
 use printing::lines;
 use printing::print;
@@ -86,8 +89,10 @@ fn print_refusal(number: u8, place: usize) {
     print::end_line();
 }
 
-// Whether the fault's place is a byte to look at. The others' place is 0 and says nothing.
-pub fn has_place(number: u8) -> bool {
+// Whether the fault's place is a byte to look at.
+fn has_place(number: u8) -> bool
+    ensures { λ r. ⌜ r ≡ not (placeless number) ⌝ }
+{
     match number {
         20 | 21 | 22 | 23 => false,
         28 | 29 | 30 => false,

@@ -1,4 +1,4 @@
-// The command `blink`: the public questions, asked of files.
+// The command `blink`: the public questions, asked of files. What it prints, loads and saves has no contract.
 mod answer;
 mod faults;
 mod help;

@@ -1,4 +1,8 @@
 // One field's value on one line: its kind, and the value.
+ghost use mathlib.Core.Path.{_≡_};
+ghost use lib.ListN.{length};
+ghost use Rattle.codec.specs.Answers.{under, bytesVerdict};
+ghost use Rattle.blink.specs.Questions.{fieldVerdict};
 use codec::Number;
 use codec::Verdict;
 use printing::print;
@@ -14,7 +18,9 @@ pub fn print_field(
     scratch: &mut [u8],
     field: usize,
     item: usize,
-) -> Verdict {
+) -> Verdict
+    ensures { λ r. ⌜ r ≡ fieldVerdict (now (table .entry)) (now (message .entry)) (under (now (store .entry)) customer (length (now (scratch .entry)))) field item ⌝ }
+{
     let n = codec::read_number(table, store, customer, message, scratch, field, item);
     match n {
         Number::Refused { number, place } => {
@@ -46,15 +52,14 @@ fn print_bytes(
     scratch: &mut [u8],
     field: usize,
     item: usize,
-) -> Verdict {
+) -> Verdict
+    ensures { λ r. ⌜ r ≡ bytesVerdict (now (table .entry)) (now (message .entry)) (under (now (store .entry)) customer (length (now (scratch .entry)))) field item ⌝ }
+{
     let v = codec::read_bytes_verdict(table, store, customer, message, scratch, field, item);
     match v {
         Verdict::Accepted => {
             let bytes = codec::read_bytes(table, store, customer, message, scratch, field, item);
-            print_part(
-                rows::field_type(table, rows::message_field(table, message, field)),
-                bytes,
-            );
+            print_part(rows::message_type(table, message, field), bytes);
             Verdict::Accepted
         }
         Verdict::Refused { number, place } => Verdict::Refused { number, place },

@@ -1,6 +1,8 @@
 // The rooms for the files and the answers. A file stands at the start of its room. A length that is more than the room says that the
 // file could not be read.
 use crate::answer;
+ghost use mathlib.Core.Path.{_≡_};
+ghost use Rattle.blink.specs.Questions.{longest};
 use inputs::arguments;
 use inputs::command;
 use inputs::command::Question;
@@ -30,7 +32,9 @@ fn load_store(room: &mut [u8; MESSAGE]) -> usize {
 }
 
 // How long the input may be: it is a sheet or a message.
-fn longest_input(question: Question) -> usize {
+fn longest_input(question: Question) -> usize
+    ensures { λ r. ⌜ r ≡ longest question ⌝ }
+{
     match question {
         Question::Write => SHEET,
         _ => MESSAGE,

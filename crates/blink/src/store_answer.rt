@@ -1,5 +1,7 @@
 // The questions on a settings store, asked and answered.
 use crate::faults;
+ghost use mathlib.Core.Path.{_≡_};
+ghost use Rattle.blink.specs.Questions.{storeAt};
 use codec::Ignored;
 use codec::Setting;
 use codec::Verdict;
@@ -24,7 +26,9 @@ fn load(question: StoreQuestion, room: &mut [u8; STORE]) {
 }
 
 // Which plain argument names the store.
-fn place(question: StoreQuestion) -> usize {
+fn place(question: StoreQuestion) -> usize
+    ensures { λ r. ⌜ r ≡ storeAt question ⌝ }
+{
     match question {
         StoreQuestion::List => store_command::LISTED,
         _ => store_command::STORE,

@@ -1,6 +1,6 @@
 -- The demands of specs/Demands.antt, shown.
 use Prim.Native.Nat.{ℕ, _+_, _≤_}
-use mathlib.Core.Path.{_≡_, refl, sym, ap, _∙_}
+use mathlib.Core.Path.{_≡_, refl, sym, ap, _∙_, subst}
 use mathlib.Core.Logic.{_↔_}
 use mathlib.Core.Bool.{Bool, true, false, _&&_, and-eq-true-iff}
 use mathlib.Core.List.{List, []}
@@ -17,25 +17,31 @@ use Rattle.schema.specs.Schema.{Group}
 use Rattle.schema.specs.Table.{schema, tableVerdict}
 use Rattle.table.proofs.Accepted as table
 use Rattle.settings.specs.declared.Ignored.{Ignored}
-use Rattle.settings.specs.Store.{strict, storeVerdict, governing}
+use Rattle.settings.specs.Store.{strict, sound, storeVerdict, governing}
 use Rattle.store.proofs.Claims.{claims, sound-of}
 use Rattle.message.specs.Walk.{Reading, refused, done, walk, messageR}
 use Rattle.meaning.specs.Proper.{Proper}
 use Rattle.meaning.specs.Conforms.{Conforms}
 use Rattle.meaning.proofs.Accepted.{accepted-conforms}
 use Rattle.meaning.proofs.Sat.{Sat, sat-is, sat-all, sat-need}
+use Rattle.meaning.specs.Packed.{Packed}
+use Rattle.meaning.proofs.Lists.{walk-lists}
+use Rattle.meaning.proofs.Packed.{no-pad}
 use Rattle.meaning.proofs.Eleven.{eleven}
 use Rattle.reading.specs.declared.Part.{Part}
 use Rattle.reading.specs.declared.Part.the-variants.{Refusal, Lies}
 use Rattle.reading.specs.Part.{bytesIn}
 use Rattle.reading.specs.Part as part
 use Rattle.reading.proofs.Alike.{walk-laxer}
-use Rattle.sheet.specs.Written.{Writing, stopped, wrote, fitted, written}
-use Rattle.sheet.specs.Rewritten.{Rooms, Enough, sheetIn, rewritten}
+use Rattle.reading.proofs.Done.{need-done}
+use Rattle.reading.proofs.Listed as reads
+use Rattle.sheet.specs.Written.{Writing, stopped, wrote, sheetW, fitted, written}
+use Rattle.sheet.specs.Rewritten.{Rooms, Enough, sheetIn, onward, rewritten}
 use Rattle.sheet.specs.Canonical as canonical
 use Rattle.sheet.proofs.RoundTrip as trip
 use Rattle.codec.specs.Answers.{accepted, Under, under, messageReading, verdictOf, messageVerdict, roomAfter, toSheet, toMessage, rewriting, numberUnder, numberAnswer, partUnder, partAnswer, bytesVerdict}
 use Rattle.codec.specs.Demands.{Demand1, Means, Makes, Demand2, OneForm, Demand3, Demands}
+use Rattle.codec.proofs.Numbered.{numbered}
 use Rattle.codec.proofs.Laws.{sized, reading-under, message-under, strictest}
 
 -- DEMAND 1
@@ -50,6 +56,48 @@ no-part Accepted (Refusal k) b n p e = refl
 no-part Accepted (Lies q k) b n p e = let z : _≡_ {A = ℕ} 0 1 = cc in absurd (omega arith)
 no-part (Refused k q) x b n p e = refl
 
+-- a message that was read: its table passes, and so does the store
+opened : (t b : List ℕ) (u : Under) (s m : List ℕ) → messageReading t b u ≡ done s m → (tableVerdict t ≡ Accepted) × (sound (u .store) ≡ true)
+unfolding messageReading
+opened t b u s m e =
+    let q = need-done _ _ _ _ e in
+    let r = need-done _ _ _ _ (need-done _ _ _ _ (need-done _ _ _ _ (q .1) .1) .1) in
+    (is-accepted _ (q .0), r .0)
+  where
+    is-accepted : (v : Verdict) → accepted v ≡ true → v ≡ Accepted
+    is-accepted Accepted e = refl
+    is-accepted (Refused n p) e = unfold accepted in let z : _≡_ {A = ℕ} 0 1 = cc in absurd (omega arith)
+
+sheet-done : (room : ℕ) (x : Reading) (s D r : List ℕ) → sheetIn room x ≡ wrote s D r → (m : List ℕ) × (x ≡ done s m)
+unfolding sheetIn
+sheet-done room (refused n p) s D r e = let z : _≡_ {A = ℕ} 0 1 = cc in absurd (omega arith)
+sheet-done room (done s′ m) s D r e = go (leb (length s′) room) e
+  where
+    go : (c : Bool) → need c (stopped 46 0) (wrote s′ [] []) ≡ wrote s D r → (m′ : List ℕ) × (done s′ m ≡ done s m′)
+    go true e = unfold need in let q : s′ ≡ s = cc in (m, ap (λ (y : List ℕ). done y m) q)
+    go false e = unfold need in let z : _≡_ {A = ℕ} 0 1 = cc in absurd (omega arith)
+
+-- an allowed sheet is refused for room alone
+only-47 : (gs : List Group) (s X : List ℕ) → sheetW gs s ≡ wrote X [] [] → (room n p : ℕ) → written gs room s ≡ stopped n p → (n ≡ 47) × (p ≡ 0)
+unfolding written fitted
+only-47 gs s X m room n p w = go (leb (length X) room && leb (length X) 65536) (rw m at w)
+  where
+    go : (c : Bool) → need c (stopped 47 0) (wrote X [] []) ≡ stopped n p → (n ≡ 47) × (p ≡ 0)
+    go true q = unfold need in let z : _≡_ {A = ℕ} 0 1 = cc in absurd (omega arith)
+    go false q = unfold need in let a : n ≡ 47 = cc in let b : p ≡ 0 = cc in (a, b)
+
+then-room : (t b st : List ℕ) (c n p : ℕ) (rooms : Rooms) (s D r : List ℕ) → toSheet t b (under st c (rooms .scratch)) (rooms .sheet) ≡ wrote s D r
+    → rewriting t b st c rooms ≡ stopped n p → (n ≡ 47) × (p ≡ 0)
+unfolding rewriting onward toSheet
+then-room t b st c n p rooms s D r e f =
+    let u = under st c (rooms .scratch) in
+    let (m, d) = sheet-done (rooms .sheet) (messageReading t b u) s D r e in
+    let (a, g) = opened t b u s m d in
+    let x = governing st c in
+    let M = trip.message-means x (schema t) (rooms .scratch) b s m (sym (reading-under t a u g b) ∙ d) in
+    let (X, made, l) = trip.read-write (schema t) (sized t a) x b s M in
+    only-47 (schema t) s X made (rooms .output) n p (rw e at f)
+
 demand1 : (t b s : List ℕ) (u : Under) → Demand1 t b s u
 unfolding numberAnswer numberUnder bytesVerdict partAnswer
 demand1 t b s u = record {
@@ -58,6 +106,9 @@ demand1 t b s u = record {
   no-sheet = λ n p room e. refused-room _ n p room e;
   no-message = λ n p output e. refused-room _ n p output e;
   no-rewriting = λ st c n p rooms output e. refused-room _ n p output e;
+  numbered = numbered t b s u;
+  as-the-sheet = λ st c n p rooms e. unfold rewriting onward in rw e;
+  then-room = then-room t b;
 }
 
 -- WHAT AN ACCEPTED TABLE GIVES
@@ -121,12 +172,7 @@ module _ (t st : List ℕ) (c : ℕ) (e : tableVerdict t ≡ Accepted) (pass : s
   reads-back s X Y r room w = let (l, M) = trip.written-means gs (sized t e) x room s X Y r (sym (message-under t e s room) ∙ w) in (l, back X s M)
 
   only-room : (s X : List ℕ) → Makes t s X → (room n p : ℕ) → toMessage t s room ≡ stopped n p → (n ≡ 47) × (p ≡ 0)
-  unfolding written fitted need
-  only-room s X m room n p w = go (leb (length X) room && leb (length X) 65536) (rw m at (sym (message-under t e s room) ∙ w))
-    where
-      go : (c : Bool) → need c (stopped 47 0) (wrote X [] []) ≡ stopped n p → (n ≡ 47) × (p ≡ 0)
-      go true q = unfold need in let z : _≡_ {A = ℕ} 0 1 = cc in absurd (omega arith)
-      go false q = unfold need in let a : n ≡ 47 = cc in let b : p ≡ 0 = cc in (a, b)
+  only-room s X m room n p w = only-47 gs s X m room n p (sym (message-under t e s room) ∙ w)
 
   room-exactly : (s X : List ℕ) → Makes t s X → (room : ℕ) → (toMessage t s room ≡ stopped 47 0) ↔ ((d : List ℕ) → Means t st c d s → length d ≤ room → ⊥)
   room-exactly s X m room =
@@ -143,8 +189,11 @@ module _ (t st : List ℕ) (c : ℕ) (e : tableVerdict t ≡ Accepted) (pass : s
   demand2 = record {
     accepted-exactly = accepted-exactly;
     sheet = λ b scratch h v. sheet b scratch v;
+    lists = λ b s M. walk-lists x gs b s [] (trip.means-walk x gs b s (there b s M) .1);
     sheet-written = sheet-written;
     sheet-short = λ b s M. eleven gs (sized t e) x b s [] (trip.means-walk x gs b s (there b s M) .1);
+    listed = λ b s M. reads.listed x t b s [] (trip.means-walk x gs b s (there b s M) .1);
+    unlisted = reads.own-cases gs;
     reads-back = reads-back;
     only-room = only-room;
     room-exactly = room-exactly;
@@ -173,6 +222,7 @@ module _ (t st : List ℕ) (c : ℕ) (e : tableVerdict t ≡ Accepted) (pass : s
             ∙ part-splice (length (f .form)) 0 (f .form) output (omega (arith, l, R .output, f .least a (there a s M))) refl;
         size = sat-is (rw (trip.means-walk x gs (f .form) s (f .means-here) .1) at (sat-size x gs (f .form)));
         in-order = f .made;
+        packed = f .packed;
         keeps = back (f .form) s (f .means-here);
         keeps-strictly = anywhere (f .form) s (f .means) [] 0 (claims .none 0);
         keeps-anywhere = anywhere (f .form) s (f .means);
@@ -185,6 +235,7 @@ module _ (t st : List ℕ) (c : ℕ) (e : tableVerdict t ≡ Accepted) (pass : s
   demand3 = record {
     one-form = one-form;
     same-form = λ a b s s′ A B. trip.same-form gs (sized t e) x a b s s′ (there a s A) (there b s′ B);
+    never-copied = λ a s A i u q. no-pad gs a (subst (Packed gs) q (one-form a s A .packed)) i u;
   }
 
 -- All of it.

@@ -1,13 +1,24 @@
 // Runs the stored questions through the codec and prints one answer a line, to be compared with what the second
-// program answered. README.md describes the files.
+// program answered. README.md describes the files. What is read of them and printed has no contract.
 mod print;
 mod record;
 mod room;
 
+ghost use mathlib.Core.Path.{_≡_};
+ghost use Prim.Native.Nat.{_%_, _^_};
+ghost use Rattle.conformance.specs.Vectors.{heldAfter, writes};
 use record::Record;
 
 // A file has fewer records than this.
 const MOST: usize = 100000;
+
+// Rooms are as long as the longest that a record asks for.
+
+const SCRATCH: usize = 65600;
+
+const SHEET: usize = 786432;
+
+const OUTPUT: usize = 65600;
 
 // What is in force: the lengths of the table and of the settings store, and whose messages are asked about.
 struct Held {
@@ -23,11 +34,15 @@ struct Step {
 }
 
 // The lowest bytes of a record's number.
-fn low_two(x: u64) -> u16 {
+fn low_two(x: u64) -> u16
+    ensures { λ r. ⌜ r ≡ x % 2 ^ 16 ⌝ }
+{
     (x % 65536) as u16
 }
 
-fn low_one(x: u64) -> u8 {
+fn low_one(x: u64) -> u8
+    ensures { λ r. ⌜ r ≡ x % 2 ^ 8 ⌝ }
+{
     (x % 256) as u8
 }
 
@@ -179,68 +194,108 @@ fn ask_writing(
     }
 }
 
-// Cuts the rooms to the lengths that the record asks for.
-fn answer(
+// Cuts the scratch to the length that the record asks for.
+fn lend_scratch(
     r: Record,
     table: &[u8],
     store: &[u8],
     customer: u16,
     input: &mut [u8],
     scratch: &mut [u8],
-    sheet: &mut [u8],
-    output: &mut [u8],
 ) {
-    let length = r.length;
     let lent = r.scratch;
-    let room = r.sheet;
-    let written = r.output;
-    if input.len() < length || scratch.len() < lent {
+    if scratch.len() < lent {
         return;
     }
-    if sheet.len() < room || output.len() < written {
-        return;
-    }
-    if is_writing(r.kind) {
-        ask_writing(
-            r.kind,
-            table,
-            store,
-            customer,
-            &input[0..length],
-            &mut scratch[0..lent],
-            &mut sheet[0..room],
-            &mut output[0..written],
-        );
-        return;
-    }
-    ask(
-        r,
-        table,
-        store,
-        customer,
-        &mut input[0..length],
-        &mut scratch[0..lent],
-    );
+    ask(r, table, store, customer, input, &mut scratch[0..lent]);
 }
 
-fn is_writing(kind: usize) -> bool {
-    3 <= kind && kind <= 5
-}
-
-// Under what is in force.
-fn answer_under(
+// Cuts all rooms.
+fn lend_rooms(
     r: Record,
     table: &[u8],
     store: &[u8],
-    held: Held,
-    input: &mut [u8],
+    customer: u16,
+    input: &[u8],
     scratch: &mut [u8],
     sheet: &mut [u8],
     output: &mut [u8],
 ) {
+    let lent = r.scratch;
+    let room = r.sheet;
+    let written = r.output;
+    if scratch.len() < lent || sheet.len() < room || output.len() < written {
+        return;
+    }
+    ask_writing(
+        r.kind,
+        table,
+        store,
+        customer,
+        input,
+        &mut scratch[0..lent],
+        &mut sheet[0..room],
+        &mut output[0..written],
+    );
+}
+
+// The rooms are arrays up to here, and slices from here on.
+fn hand_rooms(
+    r: Record,
+    table: &[u8],
+    store: &[u8],
+    customer: u16,
+    input: &[u8],
+    scratch: &mut [u8; SCRATCH],
+    sheet: &mut [u8; SHEET],
+    output: &mut [u8; OUTPUT],
+) {
+    lend_rooms(r, table, store, customer, input, scratch, sheet, output);
+}
+
+// Makes the rooms that a question takes.
+
+fn make_scratch(r: Record, table: &[u8], store: &[u8], customer: u16, input: &mut [u8]) {
+    let mut scratch = [0u8; SCRATCH];
+    lend_scratch(r, table, store, customer, input, &mut scratch);
+}
+
+fn make_rooms(r: Record, table: &[u8], store: &[u8], customer: u16, input: &[u8]) {
+    let mut scratch = [0u8; SCRATCH];
+    let mut sheet = [0u8; SHEET];
+    let mut output = [0u8; OUTPUT];
+    hand_rooms(
+        r,
+        table,
+        store,
+        customer,
+        input,
+        &mut scratch,
+        &mut sheet,
+        &mut output,
+    );
+}
+
+fn answer(r: Record, table: &[u8], store: &[u8], customer: u16, input: &mut [u8]) {
+    if is_writing(r.kind) {
+        make_rooms(r, table, store, customer, input);
+    } else {
+        make_scratch(r, table, store, customer, input);
+    }
+}
+
+fn is_writing(kind: usize) -> bool
+    ensures { λ r. ⌜ r ≡ writes kind ⌝ }
+{
+    3 <= kind && kind <= 5
+}
+
+// Under what is in force.
+fn answer_under(r: Record, table: &[u8], store: &[u8], held: Held, input: &mut [u8]) {
     let tabled = held.table;
     let stored = held.store;
-    if table.len() < tabled || store.len() < stored {
+    let length = r.length;
+    if table.len() < tabled || store.len() < stored || input.len() < length {
         return;
     }
     answer(
@@ -248,35 +303,28 @@ fn answer_under(
         &table[0..tabled],
         &store[0..stored],
         held.customer,
-        input,
-        scratch,
-        sheet,
-        output,
+        &mut input[0..length],
     );
     print::end_line();
 }
 
-fn hold_table(fd: i32, r: Record, table: &mut [u8], held: Held) -> Step {
-    record::load(fd, table, r.stored, r.length);
-    Step {
-        more: true,
-        held: Held {
+// What is in force behind a record that is not the last.
+fn held_after(r: Record, held: Held) -> Held
+    ensures { λ h. ⌜ h ≡ heldAfter r held ⌝ }
+{
+    let kind = r.kind;
+    match kind {
+        0 | 1 => Held {
             table: r.length,
             store: held.store,
             customer: held.customer,
         },
-    }
-}
-
-fn hold_store(fd: i32, r: Record, store: &mut [u8], held: Held) -> Step {
-    record::load(fd, store, r.stored, r.length);
-    Step {
-        more: true,
-        held: Held {
+        8 => Held {
             table: held.table,
             store: r.length,
             customer: low_two(r.field),
         },
+        _ => held,
     }
 }
 
@@ -287,9 +335,6 @@ fn take(
     store: &mut [u8; 65568],
     held: Held,
     input: &mut [u8; 1048592],
-    scratch: &mut [u8; 65600],
-    sheet: &mut [u8; 786432],
-    output: &mut [u8; 65600],
 ) -> Step {
     let r = record::next(fd);
     if r.last {
@@ -297,18 +342,20 @@ fn take(
     }
     let kind = r.kind;
     match kind {
-        0 => hold_table(fd, r, table, held),
+        0 => record::load(fd, table, r.stored, r.length),
         1 => {
-            let step = hold_table(fd, r, table, held);
+            record::load(fd, table, r.stored, r.length);
             answer_table(table, r.length);
-            step
         }
-        8 => hold_store(fd, r, store, held),
+        8 => record::load(fd, store, r.stored, r.length),
         _ => {
             record::load(fd, input, r.stored, r.length);
-            answer_under(r, table, store, held, input, scratch, sheet, output);
-            Step { more: true, held }
+            answer_under(r, table, store, held, input);
         }
+    }
+    Step {
+        more: true,
+        held: held_after(r, held),
     }
 }
 
@@ -316,9 +363,6 @@ fn answer_all(fd: i32) {
     let mut table = [0u8; 65568];
     let mut store = [0u8; 65568];
     let mut input = [0u8; 1048592];
-    let mut scratch = [0u8; 65600];
-    let mut sheet = [0u8; 786432];
-    let mut output = [0u8; 65600];
     let mut held = Held {
         table: 0,
         store: 0,
@@ -326,16 +370,7 @@ fn answer_all(fd: i32) {
     };
     let mut left = MOST;
     while 0 < left {
-        let s = take(
-            fd,
-            &mut table,
-            &mut store,
-            held,
-            &mut input,
-            &mut scratch,
-            &mut sheet,
-            &mut output,
-        );
+        let s = take(fd, &mut table, &mut store, held, &mut input);
         if !s.more {
             return;
         }

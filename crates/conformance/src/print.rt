@@ -1,4 +1,5 @@
 // Answers as text.
+ghost use mathlib.Core.Path.{_≡_};
 use codec::Number;
 use codec::Setting;
 use codec::Span;
@@ -105,7 +106,9 @@ pub fn sum(room: &[u8]) {
     number(crate::room::adler32(room));
 }
 
-fn wide(x: i8) -> i64 {
+fn wide(x: i8) -> i64
+    ensures { λ r. ⌜ r ≡ x ⌝ }
+{
     x as i64
 }
 

@@ -1,4 +1,7 @@
 // The records of a file of questions: a header of 40 bytes, then what is stored of the input.
+ghost use mathlib.Core.Path.{_≡_};
+ghost use lib.ListN.{drop};
+ghost use Rattle.conformance.specs.Vectors.{recordOf, behind};
 
 pub struct Record {
     pub last: bool,
@@ -19,7 +22,9 @@ pub fn next(fd: i32) -> Record {
     parse(got < 40, &header)
 }
 
-fn parse(last: bool, header: &[u8; 40]) -> Record {
+fn parse(last: bool, header: &[u8; 40]) -> Record
+    ensures { λ r. ⌜ r ≡ recordOf last (now (header .entry)) ⌝ }
+{
     Record {
         last: last,
         kind: wire::read_u32(header, 0),
@@ -33,8 +38,10 @@ fn parse(last: bool, header: &[u8; 40]) -> Record {
     }
 }
 
-// Puts the input at the start of `room`: the stored bytes, then zeros.
-pub fn load(fd: i32, room: &mut [u8], stored: usize, length: usize) {
+// Puts the input at the start of `room`: the stored bytes, which no contract knows, then zeros.
+pub fn load(fd: i32, room: &mut [u8], stored: usize, length: usize)
+    ensures { λ _. ⌜ drop stored (now (room .exit)) ≡ behind stored length (now (room .entry)) ⌝ }
+{
     if room.len() < length {
         return;
     }

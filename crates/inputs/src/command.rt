@@ -4,6 +4,9 @@ use crate::numbers;
 use crate::numbers::Count;
 use crate::store_command;
 use crate::words;
+ghost use mathlib.Core.Path.{_≡_};
+ghost use Rattle.inputs.specs.declared.command.Command.the-variants.{Message};
+ghost use Rattle.inputs.specs.Commands.{alone, onTwo, onThree, onFour, reading, commandOf};
 
 pub enum Command {
     Help,
@@ -56,28 +59,37 @@ const ITEM: usize = 5;
 pub fn read() -> Command {
     let mut word = [0u8; 8];
     let n = os::arg(arguments::plain(1), &mut word);
-    named(&word[..n], arguments::count_plain())
-}
-
-// The command of this name with `count` plain arguments, its own name and the program's among them.
-fn named(word: &[u8], count: usize) -> Command {
-    if words::is_word(word, b"settings") {
+    let count = arguments::count_plain();
+    if words::is_word(&word[..n], b"settings") {
         return store_command::named(count);
     }
+    let field = numbers::decimal(arguments::plain(FIELD));
+    let item = numbers::decimal(arguments::plain(ITEM));
+    named(&word[..n], count, field, item)
+}
+
+// The command of this name with `count` plain arguments, its own name and the program's among them. Only `read` takes numbers.
+fn named(word: &[u8], count: usize, field: Count, item: Count) -> Command
+    ensures { λ r. ⌜ r ≡ commandOf (now (word .entry)) count field item ⌝ }
+{
     match count {
         2 => alone(word),
         4 => on_two_files(word),
-        5 => on_three(word),
-        6 => on_four(word),
+        5 => on_three(word, field),
+        6 => on_four(word, field, item),
         _ => Command::Wrong,
     }
 }
 
-fn about(question: Question) -> Command {
+fn about(question: Question) -> Command
+    ensures { λ r. ⌜ r ≡ Message question ⌝ }
+{
     Command::Message { question }
 }
 
-fn alone(word: &[u8]) -> Command {
+fn alone(word: &[u8]) -> Command
+    ensures { λ r. ⌜ r ≡ alone (now (word .entry)) ⌝ }
+{
     if words::is_word(word, b"help") {
         return Command::Help;
     }
@@ -87,7 +99,9 @@ fn alone(word: &[u8]) -> Command {
     Command::Wrong
 }
 
-fn on_two_files(word: &[u8]) -> Command {
+fn on_two_files(word: &[u8]) -> Command
+    ensures { λ r. ⌜ r ≡ onTwo (now (word .entry)) ⌝ }
+{
     if words::is_word(word, b"check") {
         return about(Question::Check);
     }
@@ -97,9 +111,11 @@ fn on_two_files(word: &[u8]) -> Command {
     Command::Wrong
 }
 
-fn on_three(word: &[u8]) -> Command {
+fn on_three(word: &[u8], field: Count) -> Command
+    ensures { λ r. ⌜ r ≡ onThree (now (word .entry)) field ⌝ }
+{
     if words::is_word(word, b"read") {
-        return reading(Count::Is(0));
+        return reading(field, Count::Is(0));
     }
     if words::is_word(word, b"sheet") {
         return about(Question::Sheet);
@@ -113,15 +129,18 @@ fn on_three(word: &[u8]) -> Command {
     Command::Wrong
 }
 
-fn on_four(word: &[u8]) -> Command {
+fn on_four(word: &[u8], field: Count, item: Count) -> Command
+    ensures { λ r. ⌜ r ≡ onFour (now (word .entry)) field item ⌝ }
+{
     if words::is_word(word, b"read") {
-        return reading(numbers::decimal(arguments::plain(ITEM)));
+        return reading(field, item);
     }
     Command::Wrong
 }
 
-fn reading(item: Count) -> Command {
-    let field = numbers::decimal(arguments::plain(FIELD));
+fn reading(field: Count, item: Count) -> Command
+    ensures { λ r. ⌜ r ≡ reading field item ⌝ }
+{
     match field {
         Count::Is(field) => match item {
             Count::Is(item) => about(Question::Read { field, item }),

@@ -1,4 +1,6 @@
 // Files that an argument names. Where one cannot be read or written, standard output says `error` and standard error why.
+ghost use mathlib.Core.Path.{_≡_};
+ghost use Rattle.inputs.specs.Files.{contentsOf};
 use libc::STDERR_FILENO;
 use printing::print;
 
@@ -69,7 +71,9 @@ fn load_open(fd: i32, name: &[u8], room: &mut [u8]) -> usize {
 }
 
 // A file of this length, which stands at the start of its room; nothing where the room is shorter.
-pub fn contents(room: &[u8], length: usize) -> &[u8] {
+pub fn contents(room: &[u8], length: usize) -> &[u8]
+    ensures { λ r. ⌜ now r ≡ contentsOf (now (room .entry)) length ⌝ }
+{
     if room.len() < length {
         return &room[0..0];
     }

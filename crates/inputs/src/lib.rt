@@ -1,5 +1,5 @@
-// What the command is given: what its arguments and options ask for, and the files that they name. The functions are proved safe; what
-// they read and write has no contract.
+// What the command is given: what its arguments and options ask for, and the files that they name. What is worked out of words, numbers
+// and flags has its definition in specs/. No contract knows what the system hands in: a function that asks it is proved safe.
 pub mod arguments;
 pub mod command;
 pub mod file;

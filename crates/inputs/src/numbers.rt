@@ -1,5 +1,8 @@
 // Arguments that are numbers.
 use crate::words;
+ghost use mathlib.Core.Path.{_≡_};
+ghost use Rattle.inputs.specs.declared.numbers.Short.the-variants.{Wrong};
+ghost use Rattle.inputs.specs.Numbers.{decimalOf, shortOf};
 
 pub enum Count {
     Is(usize),
@@ -22,7 +25,9 @@ pub fn decimal(i: usize) -> Count {
     decimal_of(&digits[..n])
 }
 
-fn decimal_of(digits: &[u8]) -> Count {
+fn decimal_of(digits: &[u8]) -> Count
+    ensures { λ r. ⌜ r ≡ decimalOf (now (digits .entry)) ⌝ }
+{
     if digits.len() == 0 {
         return Count::Wrong;
     }
@@ -47,21 +52,27 @@ fn decimal_of(digits: &[u8]) -> Count {
 
 // Argument `i`, which the command's help calls by this name, as a number of at most 65535.
 pub fn read_short(i: usize, name: &[u8]) -> Short {
-    let n = decimal(i);
+    short_of(decimal(i), name)
+}
+
+// Where it is no such number, standard error says so.
+fn short_of(n: Count, name: &[u8]) -> Short
+    ensures { λ r. ⌜ r ≡ shortOf n ⌝ }
+{
     match n {
-        Count::Is(n) => short_of(n, name),
+        Count::Is(n) => {
+            if 65535 < n {
+                return no_short(name);
+            }
+            Short::Is(n as u16)
+        }
         Count::Wrong => no_short(name),
     }
 }
 
-fn short_of(n: usize, name: &[u8]) -> Short {
-    if 65535 < n {
-        return no_short(name);
-    }
-    Short::Is(n as u16)
-}
-
-fn no_short(name: &[u8]) -> Short {
+fn no_short(name: &[u8]) -> Short
+    ensures { λ r. ⌜ r ≡ Wrong ⌝ }
+{
     words::complain(name, b"must be a number from 0 to 65535");
     Short::Wrong
 }

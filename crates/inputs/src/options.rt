@@ -3,7 +3,10 @@ use crate::arguments;
 use crate::numbers;
 use crate::numbers::Short;
 use crate::words;
+ghost use mathlib.Core.Path.{_≡_};
 ghost use Prim.Native.Nat.{_<_};
+ghost use Rattle.inputs.specs.declared.options.Options.the-variants.{Wrong};
+ghost use Rattle.inputs.specs.Commands.{isKnown, optionsOf};
 
 pub enum Options {
     Missing,
@@ -20,7 +23,9 @@ fn customer() -> usize {
     arguments::value_of(b"--customer")
 }
 
-fn is_known(option: &[u8]) -> bool {
+fn is_known(option: &[u8]) -> bool
+    ensures { λ r. ⌜ r ≡ isKnown (now (option .entry)) ⌝ }
+{
     words::is_word(option, b"--settings") || words::is_word(option, b"--customer")
 }
 
@@ -42,17 +47,20 @@ fn read_both(store: usize, customer: usize) -> Options {
     if customer == 0 {
         return one_alone(b"--settings", b"goes with --customer N");
     }
-    read_customer(customer)
+    given_by(numbers::read_short(customer, b"--customer"))
 }
 
-fn one_alone(option: &[u8], reason: &[u8]) -> Options {
+fn one_alone(option: &[u8], reason: &[u8]) -> Options
+    ensures { λ r. ⌜ r ≡ Wrong ⌝ }
+{
     words::complain(option, reason);
     Options::Wrong
 }
 
-fn read_customer(i: usize) -> Options {
-    let n = numbers::read_short(i, b"--customer");
-    match n {
+fn given_by(customer: Short) -> Options
+    ensures { λ r. ⌜ r ≡ optionsOf customer ⌝ }
+{
+    match customer {
         Short::Is(customer) => Options::Given { customer },
         Short::Wrong => Options::Wrong,
     }
@@ -60,13 +68,14 @@ fn read_customer(i: usize) -> Options {
 
 // Whether each option is known, has its value, and comes once.
 fn are_right() -> bool {
+    let flags = arguments::options();
     let end = arguments::count();
     let mut i = 1;
     while i < end {
         if !is_right(i) {
             return false;
         }
-        i = arguments::next(i);
+        i = arguments::next(&flags, i);
     }
     true
 }

@@ -6,7 +6,10 @@ use crate::numbers;
 use crate::numbers::Count;
 use crate::numbers::Short;
 use crate::words;
+ghost use mathlib.Core.Path.{_≡_};
 ghost use Prim.Native.Nat.{_≤_};
+ghost use Rattle.inputs.specs.declared.command.Command.the-variants.{Store, Wrong};
+ghost use Rattle.inputs.specs.Commands.{getting, adding, making};
 
 // Which plain arguments are what.
 
@@ -30,7 +33,9 @@ pub fn named(count: usize) -> Command {
     chosen(&word[..n], count)
 }
 
-fn about(question: StoreQuestion) -> Command {
+fn about(question: StoreQuestion) -> Command
+    ensures { λ r. ⌜ r ≡ Store question ⌝ }
+{
     Command::Store { question }
 }
 
@@ -69,7 +74,9 @@ fn getting(count: usize) -> Command {
     }
 }
 
-fn getting_version(customer: u16, version: Short) -> Command {
+fn getting_version(customer: u16, version: Short) -> Command
+    ensures { λ r. ⌜ r ≡ getting customer version ⌝ }
+{
     match version {
         Short::Is(version) => about(StoreQuestion::Get { customer, version }),
         Short::Wrong => Command::Wrong,
@@ -117,7 +124,9 @@ fn adding_flags(absent: u8, pads: u8, unused: u8) -> Command {
     }
 }
 
-fn adding_version(customer: u16, version: Short, absent: u8, pads: u8, unused: u8) -> Command {
+fn adding_version(customer: u16, version: Short, absent: u8, pads: u8, unused: u8) -> Command
+    ensures { λ r. ⌜ r ≡ adding customer version absent pads unused ⌝ }
+{
     match version {
         Short::Is(version) => about(StoreQuestion::Add {
             customer,
@@ -141,7 +150,9 @@ fn making(count: usize) -> Command {
     }
 }
 
-fn making_room(records: usize) -> Command {
+fn making_room(records: usize) -> Command
+    ensures { λ r. ⌜ r ≡ making records ⌝ }
+{
     if records == 0 {
         return no_room();
     }
@@ -151,7 +162,9 @@ fn making_room(records: usize) -> Command {
     Command::NewStore { records }
 }
 
-fn no_room() -> Command {
+fn no_room() -> Command
+    ensures { λ r. ⌜ r ≡ Wrong ⌝ }
+{
     words::complain(b"RECORDS", b"must be a number from 1 to 7281");
     Command::Wrong
 }

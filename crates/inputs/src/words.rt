@@ -1,27 +1,29 @@
 // Words, and what standard error says of them.
+ghost use mathlib.Core.Path.{_≡_};
+ghost use Rattle.wire.specs.Bytes.{same};
+ghost use Rattle.inputs.specs.Words.{isOption};
 use libc::STDERR_FILENO;
 
+const HYPHENS: [u8; 2] = *b"--";
+
 // Whether an argument is this word.
-pub fn is_word(argument: &[u8], word: &[u8]) -> bool {
+pub fn is_word(argument: &[u8], word: &[u8]) -> bool
+    ensures { λ r. ⌜ r ≡ same (now (argument .entry)) (now (word .entry)) ⌝ }
+{
     if argument.len() != word.len() {
         return false;
     }
-    let mut i = 0;
-    while i < word.len() {
-        if argument[i] != word[i] {
-            return false;
-        }
-        i += 1;
-    }
-    true
+    wire::same(argument, 0, word, 0, word.len())
 }
 
 // An option begins with two hyphens.
-pub fn is_option(argument: &[u8]) -> bool {
+pub fn is_option(argument: &[u8]) -> bool
+    ensures { λ r. ⌜ r ≡ isOption (now (argument .entry)) ⌝ }
+{
     if argument.len() < 2 {
         return false;
     }
-    argument[0] == b'-' && argument[1] == b'-'
+    wire::has_mark(argument, 0, HYPHENS)
 }
 
 // Why the arguments are wrong: which of them, and the reason.

@@ -52,7 +52,7 @@ unfolding occupied
 occupied-append [] fs m = refl
 occupied-append (e ∷ es) fs m = occupied-append es fs (occupy (e .from) (e .long) m)
 
-extents-append : (b : List ℕ) (vs ws : List Value) → extents b (vs ++ ws) ≡ extents b vs ++ extents b ws
+pub extents-append : (b : List ℕ) (vs ws : List Value) → extents b (vs ++ ws) ≡ extents b vs ++ extents b ws
 unfolding extents
 extents-append b [] ws = refl
 extents-append b (v ∷ vs) ws = rw (extents-append b vs ws) (sym (append-assoc (extentOf b v) (extents b vs) (extents b ws)))

@@ -48,8 +48,8 @@ module _ (p n : ℕ) (m : List ℕ) (l : p + n ≤ length m) (i : ℕ) where
       let q : i ≡ length (take p m) + j = omega arith in
       rw q (getD-append-add (take p m) (replicate n 1 ++ drop n (drop p m)) j 0)
 
-  mark-inside : p ≤ i → i < p + n → getD (occupy p n m) i 0 ≡ 1
-  mark-inside a h =
+  occupy-inside : p ≤ i → i < p + n → getD (occupy p n m) i 0 ≡ 1
+  occupy-inside a h =
       let j : ℕ = i - p in
       behind j (omega arith) ∙ List·getD-append (replicate n 1) (drop n (drop p m)) 0 j (rw (length-replicate {A = ℕ} n 1) (omega arith)) ∙ getD-replicate n j 1 0 (omega arith)
 
@@ -104,7 +104,7 @@ module _ (e : Extent) (m : List ℕ) (l : e .from + e .long ≤ length m) where
     where
       go : Where i (e .from) (e .long) → getD (occupy (e .from) (e .long) m) i 0 ≤ 1
       go (under h) = omega (arith, f i, occupy-under (e .from) (e .long) m l i h)
-      go (inside a h) = omega (arith, mark-inside (e .from) (e .long) m l i a h)
+      go (inside a h) = omega (arith, occupy-inside (e .from) (e .long) m l i a h)
       go (over h) = omega (arith, f i, occupy-over (e .from) (e .long) m l i h)
 
   -- an extent that is free: marking it adds it
@@ -114,7 +114,7 @@ module _ (e : Extent) (m : List ℕ) (l : e .from + e .long ≤ length m) where
     where
       go : Where i (e .from) (e .long) → getD (occupy (e .from) (e .long) m) i 0 ≡ getD m i 0 + held i e
       go (under h) = omega (arith, held-under e i h, occupy-under (e .from) (e .long) m l i h)
-      go (inside a h) = omega (arith, held-in e i a h, mark-inside (e .from) (e .long) m l i a h, zero-part m (e .from) (e .long) f i a h)
+      go (inside a h) = omega (arith, held-in e i a h, occupy-inside (e .from) (e .long) m l i a h, zero-part m (e .from) (e .long) f i a h)
       go (over h) = omega (arith, held-over e i h, occupy-over (e .from) (e .long) m l i h)
 
   fits-on : (es : List Extent) → Fits es (length m) → Fits es (length (occupy (e .from) (e .long) m))

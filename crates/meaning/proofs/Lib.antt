@@ -9,6 +9,8 @@ pub mod Holders
 pub mod Agree
 pub mod Accepted
 pub mod Lists
+pub mod Packed
 pub mod Ignorable
 pub mod Eleven
 pub mod CheckExact
+pub mod Numbered

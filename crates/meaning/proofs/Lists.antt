@@ -2,20 +2,19 @@
 use mathlib.Core.Path.{_≡_, refl, sym, ap, _∙_}
 use mathlib.Core.Bool.{Bool, true, false, cond, _||_}
 use mathlib.Core.List.{List, [], _∷_, _++_, append-nil, append-assoc}
-use Prim.Native.Nat.{ℕ, zero, suc, _+_, _*_}
-use native.Mathlib.Omega.{arith}
+use Prim.Native.Nat.{ℕ, zero, suc, _+_}
 use lib.ListN.{length, replicate}
 use lib.Dec.{eqb}
 use borrow.Author.Tests.{eqb-true}
-use Rattle.wire.specs.Bytes.{part, le, bytesOf, allZero, zeros}
+use Rattle.wire.specs.Bytes.{part, le, allZero, zeros}
 use Rattle.schema.specs.Faults.{need}
 use Rattle.schema.specs.Schema.{Test, Kind, plain, inline, indirect, static, dynamic, Field, Group, kindWidth, valueWidth, fieldWidth, fieldsOf, width, find, known}
 use Rattle.message.specs.Sheet.{Mark, VA, ST, SG, SQ, GB, XT, XU, markBytes, NO, GE, kindMark, fieldMark}
 use Rattle.settings.specs.declared.Ignored.{Ignored}
 use Rattle.message.specs.Walk.{Here, here, Reading, refused, done, Reader, Inner, Place, lost, word, byte, next, noneR, thenR, markedR, optionalR, plainR, inlineR, locate, onward, indirectR, textR, innerR, itemsR, listR, kindR, valueR, fieldR, fieldsR, staticR, extendingR, groupsR, extensionR, behindR, bodyR, headR, groupR, walk}
-use Rattle.meaning.specs.Conforms.{Value, number, presence, inlineText, text, list, group, extension, extending, subgroup, Values, target, countAt, itemsV, kindV, valueV, fieldV, fieldsV, staticV, groupsV, extensionV, valuesOf, typeId}
+use Rattle.meaning.specs.Conforms.{Value, number, presence, inlineText, text, list, group, extending, Values, target, countAt, itemsV, kindV, valueV, fieldV, fieldsV, staticV, groupsV, extensionV, typeId}
 use Rattle.meaning.specs.Lists.{recordOf, records, groupRecords, sheetOf}
-use Rattle.meaning.proofs.Sat.{Sat, unsaid, said, sat-is, sat-need, sat-cond, sat-prefixed, sat-next, sat-map, sat-padded}
+use Rattle.meaning.proofs.Sat.{Sat, unsaid, said, sat-is, sat-need, sat-prefixed, sat-next, sat-map, sat-padded}
 
 onward-sat : {Q : List ℕ → List ℕ → Type 0} (c : Bool) (n p : ℕ) (x : Place) (h : Here) (inside : ℕ → Reader) → Sat Q (onward x h inside) → Sat Q (onward (need c (lost n p) x) h inside)
 unfolding need onward
@@ -27,14 +26,14 @@ sat-leads : {Q : List ℕ → List ℕ → Type 0} (past w : ℕ) (inside : ℕ 
 unfolding indirectR locate onward
 sat-leads past w inside h at m f = onward-sat _ 5 _ _ h inside (onward-sat _ 26 _ _ h inside (onward-sat _ past _ _ h inside (onward-sat _ 27 _ _ h inside (f _))))
 
+pub records-both : (G : List ℕ → List ℕ) (gs : List Group) (b : List ℕ) (vs ws : List Value) → records G gs b vs ++ records G gs b ws ≡ records G gs b (vs ++ ws)
+unfolding records
+records-both G gs b [] ws = refl
+records-both G gs b (v ∷ vs) ws = append-assoc (recordOf G gs b v) (records G gs b vs) (records G gs b ws) ∙ ap (λ y. recordOf G gs b v ++ y) (records-both G gs b vs ws)
+
 module _ (gs : List Group) (G : List ℕ → List ℕ) (I : Inner) (inner : (n base : ℕ) (b : List ℕ) → Sat (λ s m. s ≡ G b) (I n base b)) where
   abbrev shown : Here → List Value → List ℕ
   shown h vs = records G gs (h .bytes) vs
-
-  shown-both : (h : Here) (vs ws : List Value) → shown h vs ++ shown h ws ≡ shown h (vs ++ ws)
-  unfolding records
-  shown-both h [] ws = refl
-  shown-both h (v ∷ vs) ws = append-assoc (recordOf G gs (h .bytes) v) (shown h vs) (shown h ws) ∙ ap (λ y. recordOf G gs (h .bytes) v ++ y) (shown-both h vs ws)
 
   record Lists (R : Reader) (v : Values) : Type 0 where
     says : (h : Here) (at : ℕ) (m : List ℕ) → Sat (λ s m′. s ≡ shown h (v (h .bytes) at)) (R h at m)
@@ -45,7 +44,7 @@ module _ (gs : List Group) (G : List ℕ → List ℕ) (I : Inner) (inner : (n b
 
   both : (h : Here) (vs ws : List Value) {r : Reading} {f : List ℕ → Reading} → Sat (λ s m. s ≡ shown h vs) r
       → ((m : List ℕ) → Sat (λ s m′. s ≡ shown h ws) (f m)) → Sat (λ s m. s ≡ shown h (vs ++ ws)) (next r f)
-  both h vs ws x y = sat-next (sat-map (λ s m p. sat-map (λ t m′ q. ap (λ y. y ++ t) p ∙ ap (λ y. shown h vs ++ y) q ∙ shown-both h vs ws) (y m)) x)
+  both h vs ws x y = sat-next (sat-map (λ s m p. sat-map (λ t m′ q. ap (λ y. y ++ t) p ∙ ap (λ y. shown h vs ++ y) q ∙ records-both G gs (h .bytes) vs ws) (y m)) x)
 
   lists-items : (w : ℕ) (R : Reader) (v : Values) → Lists R v → (n : ℕ) → Lists (itemsR w R n) (itemsV w v n)
   unfolding itemsR itemsV noneR records
@@ -178,6 +177,10 @@ module _ (x : Ignored) (gs : List Group) where
   lists-walk : (b : List ℕ) → Sat (λ s m. s ≡ sheetOf gs b) (walk x gs b)
   unfolding walk sheetOf
   lists-walk b = sat-need _ 22 _ (λ _. sat-prefixed (markBytes GB) (sat-map (λ s m p. ap (λ y. markBytes GB ++ y) p) (lists-group 8 0 0 b)))
+
+  -- The records of a group that is read are those of its values.
+  pub group-lists : (l n base : ℕ) (b s m : List ℕ) → groupR x gs l n base b ≡ done s m → s ≡ groupRecords gs l b
+  group-lists l n base b s m e = sat-is (rw e at (lists-group l n base b))
 
   -- The sheet of an accepted message lists its values, and nothing else.
   pub walk-lists : (b s m : List ℕ) → walk x gs b ≡ done s m → s ≡ sheetOf gs b

@@ -1,1 +1,6 @@
 pub mod Widths
+pub mod Numbers
+pub mod Places
+pub mod Texts
+pub mod Frames
+pub mod Last

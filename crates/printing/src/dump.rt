@@ -1,6 +1,8 @@
 // The bytes around a place.
 use crate::print;
-ghost use Prim.Native.Nat.{_≤_};
+use crate::rows;
+ghost use mathlib.Core.Path.{_≡_};
+ghost use Prim.Native.Nat.{_-_};
 
 // Sixteen bytes in hex, the one at `place` in brackets.
 pub fn print_around(bytes: &[u8], place: usize) {
@@ -8,8 +10,7 @@ pub fn print_around(bytes: &[u8], place: usize) {
         return;
     }
     let start = before(place);
-    let count = least(bytes.len() - start, 16);
-    print_line(&bytes[start..start + count], start, place - start);
+    print_line(rows::part(bytes, start, 16), start, place - start);
 }
 
 // Bytes from `start` on, of which one is marked, or the end.
@@ -26,18 +27,12 @@ fn print_line(bytes: &[u8], start: usize, marked: usize) {
 
 // Eight less, or 0.
 fn before(place: usize) -> usize
-    ensures { λ r. ⌜ r ≤ place ⌝ }
+    ensures { λ r. ⌜ r ≡ place - 8 ⌝ }
 {
     if place < 8 {
         return 0;
     }
     place - 8
-}
-
-fn least(a: usize, b: usize) -> usize
-    ensures { λ r. ⌜ (r ≤ a) × (r ≤ b) ⌝ }
-{
-    if a < b { a } else { b }
 }
 
 fn print_bytes(bytes: &[u8], marked: usize) {

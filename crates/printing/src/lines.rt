@@ -1,35 +1,34 @@
 // Text whose lines begin with a number: two digits, the first a space below 10, and a space.
 use crate::print;
-ghost use Prim.Native.Nat.{_<_, _≤_};
-ghost use lib.ListN.{length};
+use crate::rows;
+ghost use mathlib.Core.Path.{_≡_};
+ghost use Prim.Native.Nat.{_+_, _<_, _≤_};
+ghost use lib.ListN.{length, drop};
+ghost use Rattle.printing.specs.Text.{lineLength, digits};
 
 // Prints the words of the line of this number; nothing where there is none.
 pub fn print_words(text: &[u8], number: u8) {
-    let at = find(text, number);
-    if at < text.len() {
+    let mut at = 0;
+    while at < text.len() {
         let end = next(text, at);
-        if at + 4 <= end {
-            print::text(&text[at + 3..end - 1]);
+        if rows::has_mark(&text[at..end], digits(number)) {
+            print_line(&text[at..end]);
+            return;
         }
+        at = end;
     }
 }
 
-// Where the line of this number begins, or the text's end.
-fn find(text: &[u8], number: u8) -> usize {
-    let mut at = 0;
-    while at < text.len() {
-        if is_numbered(text, at, number) {
-            return at;
-        }
-        at = next(text, at);
+fn print_line(line: &[u8]) {
+    if 4 <= line.len() {
+        print::text(&line[3..line.len() - 1]);
     }
-    at
 }
 
 // Where the line after the one at `at` begins.
 fn next(text: &[u8], at: usize) -> usize
     requires { ⌜ at < length (now text) ⌝ }
-    ensures { λ r. ⌜ (at < r) × (r ≤ length (now (text .entry))) ⌝ }
+    ensures { λ r. ⌜ (r ≡ at + lineLength (drop at (now (text .entry)))) × (at < r) × (r ≤ length (now (text .entry))) ⌝ }
 {
     let mut i = at;
     while i < text.len() {
@@ -41,18 +40,11 @@ fn next(text: &[u8], at: usize) -> usize
     i
 }
 
-fn is_numbered(text: &[u8], at: usize, number: u8) -> bool
-    requires { ⌜ at < length (now text) ⌝ }
+fn digits(number: u8) -> [u8; 2]
+    ensures { λ r. ⌜ r ≡ digits number ⌝ }
 {
-    if at + 1 < text.len() {
-        return text[at] == tens(number) && text[at + 1] == 48 + number % 10;
-    }
-    false
-}
-
-fn tens(number: u8) -> u8 {
     if number < 10 {
-        return 32;
+        return [b' ', 48 + number % 10];
     }
-    48 + number / 10
+    [48 + number / 10, 48 + number % 10]
 }

@@ -1,130 +1,175 @@
-// Records of an accepted table, and bytes, found with no index. Each question has an answer at every place: past the end there are zeros.
-ghost use Prim.Native.Nat.{_<_, _^_};
+// Bytes, and records of an accepted table, found with no index. Each question has an answer at every place: past the end there are no
+// bytes, and the bytes that a number lacks are zeros.
+use table::GR;
+use table::GW;
+ghost use mathlib.Core.Path.{_≡_};
+ghost use mathlib.Core.Bool.{_&&_};
+ghost use Prim.Native.Nat.{_+_, _*_, _<_, _^_};
+ghost use lib.ListN.{take, drop, getD};
+ghost use lib.Dec.{eqb};
+ghost use Rattle.wire.specs.Bytes.{part, le, same};
+ghost use Rattle.schema.specs.Table.{groupMarked, typeId, idFlag, fieldCount, fieldType, fieldSize, reference};
+ghost use Rattle.printing.specs.Rows.{placeOf, placeNamed};
 
-// A sum that stops at the greatest number.
-pub fn sum(a: usize, b: usize) -> usize {
-    if 0xffff_ffff_ffff_ffff - a < b {
-        return 0xffff_ffff_ffff_ffff;
+// BYTES
+
+// What is left at `at`.
+pub fn rest(s: &[u8], at: usize) -> &[u8]
+    ensures { λ r. ⌜ now r ≡ drop at (now (s .entry)) ⌝ }
+{
+    if s.len() < at {
+        return &s[0..0];
     }
-    a + b
+    &s[at..]
 }
 
-pub fn byte_at(s: &[u8], at: usize) -> u8 {
+// The n bytes at `at`, or as many as there are.
+pub fn part(s: &[u8], at: usize, n: usize) -> &[u8]
+    ensures { λ r. ⌜ now r ≡ part n at (now (s .entry)) ⌝ }
+{
+    if s.len() < at {
+        return &s[0..0];
+    }
+    if s.len() - at < n {
+        return &s[at..];
+    }
+    &s[at..at + n]
+}
+
+pub fn byte_at(s: &[u8], at: usize) -> u8
+    ensures { λ r. ⌜ r ≡ getD (now (s .entry)) at 0 ⌝ }
+{
     if at < s.len() {
         return s[at];
     }
     0
 }
 
-pub fn u16_at(s: &[u8], at: usize) -> usize
-    ensures { λ r. ⌜ r < 2 ^ 16 ⌝ }
+// The number of the first two, four or eight bytes.
+
+fn first_u16(s: &[u8]) -> usize
+    ensures { λ r. ⌜ (r ≡ le (take 2 (now (s .entry)))) × (r < 2 ^ 16) ⌝ }
 {
-    if s.len() < at {
-        return 0;
-    }
-    if s.len() - at < 2 {
-        return 0;
-    }
-    wire::read_u16(s, at)
+    wire::wide(byte_at(s, 0)) + 256 * wire::wide(byte_at(s, 1))
 }
 
-pub fn u32_at(s: &[u8], at: usize) -> usize
-    ensures { λ r. ⌜ r < 2 ^ 32 ⌝ }
+pub fn first_u32(s: &[u8]) -> usize
+    ensures { λ r. ⌜ (r ≡ le (take 4 (now (s .entry)))) × (r < 2 ^ 32) ⌝ }
 {
-    if s.len() < at {
-        return 0;
-    }
-    if s.len() - at < 4 {
-        return 0;
-    }
-    wire::read_u32(s, at)
+    first_u16(s) + 65536 * first_u16(rest(s, 2))
 }
 
-pub fn u64_at(s: &[u8], at: usize) -> u64 {
-    if s.len() < at {
-        return 0;
-    }
-    if s.len() - at < 8 {
-        return 0;
-    }
-    wire::read_u64(s, at)
+pub fn first_u64(s: &[u8]) -> u64
+    ensures { λ r. ⌜ r ≡ le (take 8 (now (s .entry))) ⌝ }
+{
+    (first_u32(s) + 4294967296 * first_u32(rest(s, 4))) as u64
 }
 
-// The n bytes from `at` on; none where they are not all there.
-pub fn part(s: &[u8], at: usize, n: usize) -> &[u8] {
-    if s.len() < at {
-        return &s[0..0];
+// Whether a mark stands first.
+pub fn has_mark(s: &[u8], mark: [u8; 2]) -> bool
+    ensures { λ r. ⌜ r ≡ same (take 2 (now (s .entry))) mark ⌝ }
+{
+    if s.len() < 2 {
+        return false;
     }
-    if s.len() - at < n {
-        return &s[0..0];
-    }
-    &s[at..at + n]
+    wire::has_mark(s, 0, mark)
 }
 
-// Whether the record at `at` is a group's.
-fn is_group(table: &[u8], at: usize) -> bool {
-    u16_at(table, at) == 0x5247
+// A GROUP'S RECORD
+
+// Whether the table's next record is that of a group; and of the group with this type id.
+
+fn is_group(row: &[u8]) -> bool
+    ensures { λ r. ⌜ r ≡ groupMarked (now (row .entry)) ⌝ }
+{
+    has_mark(row, GR) | has_mark(row, GW)
 }
 
-// Whether the record at `at` is that of the group with this type id.
-fn is_named(table: &[u8], at: usize, id: u64) -> bool {
-    is_group(table, at) && byte_at(table, sum(at, 10)) == 1 && u64_at(table, sum(at, 2)) == id
+fn is_named(row: &[u8], id: u64) -> bool
+    ensures { λ r. ⌜ r ≡ groupMarked (now (row .entry)) && (eqb (idFlag (now (row .entry))) 1 && eqb (typeId (now (row .entry))) id) ⌝ }
+{
+    is_group(row) & ((byte_at(row, 10) == 1) & (first_u64(rest(row, 2)) == id))
 }
 
 // The place of the record of the group with this type id, or the end of the table.
-pub fn group_named(table: &[u8], id: u64) -> usize {
-    let mut at = 0;
-    while 16 <= table.len() - at {
-        if is_named(table, at, id) {
-            return at;
+pub fn group_named(table: &[u8], id: u64) -> usize
+    ensures { λ r. ⌜ r ≡ placeNamed (now (table .entry)) id ⌝ }
+{
+    let n = table.len() / 16;
+    let mut i = 0;
+    while i < n {
+        if is_named(rest(table, 16 * i), id) {
+            return 16 * i;
         }
-        at += 16;
+        i += 1;
     }
     table.len()
 }
 
 // The place of the record of group `number`, or the end of the table.
-pub fn group_numbered(table: &[u8], number: usize) -> usize {
-    let mut at = 0;
+fn group_numbered(table: &[u8], number: usize) -> usize
+    ensures { λ r. ⌜ r ≡ placeOf (now (table .entry)) number ⌝ }
+{
+    let n = table.len() / 16;
+    let mut i = 0;
     let mut left = number;
-    while 16 <= table.len() - at {
-        if is_group(table, at) {
+    while i < n {
+        if is_group(rest(table, 16 * i)) {
             if left == 0 {
-                return at;
+                return 16 * i;
             }
             left -= 1;
         }
-        at += 16;
+        i += 1;
     }
     table.len()
 }
 
-// How many fields the group whose record stands at `at` has.
-pub fn field_count(table: &[u8], at: usize) -> usize {
-    byte_at(table, sum(at, 13)) as usize
-}
-
-// Of the field whose record stands at `row`.
-
-pub fn field_type(table: &[u8], row: usize) -> u8 {
-    byte_at(table, sum(row, 2))
-}
-
-pub fn field_size(table: &[u8], row: usize) -> usize
-    ensures { λ r. ⌜ r < 256 ⌝ }
+// How many fields the group has.
+pub fn field_count(row: &[u8]) -> usize
+    ensures { λ r. ⌜ r ≡ fieldCount (now (row .entry)) ⌝ }
 {
-    wire::wide(byte_at(table, sum(row, 5)))
+    wire::wide(byte_at(row, 13))
 }
 
-pub fn field_group(table: &[u8], row: usize) -> usize {
-    group_numbered(table, u16_at(table, sum(row, 6)))
-}
+// A FIELD'S RECORD
 
-// The record of field `field` of the message's group.
-pub fn message_field(table: &[u8], message: &[u8], field: usize) -> usize {
-    let group = group_named(table, u64_at(message, 4));
-    if 63 < field {
-        return table.len();
+// That of field `field` of the group whose record stands at `group`.
+pub fn field_record(table: &[u8], group: usize, field: usize) -> &[u8]
+    ensures { λ r. ⌜ now r ≡ drop (16 + 16 * field) (drop group (now (table .entry))) ⌝ }
+{
+    if table.len() / 16 < field {
+        return &table[0..0];
     }
-    sum(group, 16 + 16 * field)
+    rest(rest(table, group), 16 + 16 * field)
+}
+
+pub fn field_type(row: &[u8]) -> u8
+    ensures { λ r. ⌜ r ≡ fieldType (now (row .entry)) ⌝ }
+{
+    byte_at(row, 2)
+}
+
+pub fn field_size(row: &[u8]) -> u8
+    ensures { λ r. ⌜ r ≡ fieldSize (now (row .entry)) ⌝ }
+{
+    byte_at(row, 5)
+}
+
+// The place of the record of the group that the field names.
+pub fn field_group(table: &[u8], row: &[u8]) -> usize
+    ensures { λ r. ⌜ r ≡ placeOf (now (table .entry)) (reference (now (row .entry))) ⌝ }
+{
+    group_numbered(table, first_u16(rest(row, 6)))
+}
+
+// The type of a field of the message's group.
+pub fn message_type(table: &[u8], message: &[u8], field: usize) -> u8
+    ensures { λ r. ⌜ r ≡ fieldType (drop (16 + 16 * field) (drop (placeNamed (now (table .entry)) (le (part 8 4 (now (message .entry))))) (now (table .entry)))) ⌝ }
+{
+    field_type(field_record(
+        table,
+        group_named(table, first_u64(rest(message, 4))),
+        field,
+    ))
 }

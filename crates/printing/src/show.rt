@@ -5,137 +5,268 @@
 use crate::print;
 use crate::rows;
 use crate::value;
-ghost use Prim.Native.Nat.{_<_};
+use sheet::GB;
+use sheet::GE;
+use sheet::NO;
+use sheet::SG;
+use sheet::SQ;
+use sheet::ST;
+use sheet::VA;
+use sheet::XT;
+use sheet::XU;
+ghost use mathlib.Core.Path.{_≡_};
+ghost use Prim.Native.Nat.{_*_, _<_};
+ghost use lib.ListN.{length, take};
+ghost use Rattle.wire.specs.Bytes.{splice};
+ghost use Rattle.printing.specs.Show.{kindOf, valueLength, recordLength, frameAt, numbersOf, nextField, advanced, inSequence, after, opened, closed, groups, entered, stepped};
 
 // Eight levels of groups, each with static groups up to four deep.
 const DEEPEST: usize = 40;
 
-// Six numbers for each open group.
-const NUMBERS: usize = 240;
+// Six numbers for each frame: that of no group, those of the open groups, and that of one that a record opens.
+const NUMBERS: usize = 252;
 
-// A group that is open: the record of its next field in the table, how many fields are left and the next one's number; in a sequence,
-// how many items are left and the next one's number. A static group has no record that closes it.
+// A group that is open: where its record stands in the table, how many fields it has and the next one's number; in a sequence, how many
+// items there are and the next one's number. A static group is embedded: it has no record that closes it.
 struct Frame {
-    row: usize,
+    group: usize,
     fields: usize,
     field: usize,
     items: usize,
     item: usize,
-    is_static: bool,
+    embedded: bool,
 }
 
-// How long a record is, 0 where it is none, and how many groups are open after it.
-struct Step {
-    length: usize,
-    depth: usize,
+// RECORDS
+
+enum Record {
+    Group,
+    End,
+    Value,
+    Bytes,
+    Sequence,
+    Static,
+    Absent,
+    Extension,
+    Unknown,
+    Other,
 }
 
-fn opened(row: usize, fields: usize, is_static: bool) -> Frame {
+// What the first of the records is, by its mark.
+fn kind_of(left: &[u8]) -> Record
+    ensures { λ r. ⌜ r ≡ kindOf (take 2 (now (left .entry))) ⌝ }
+{
+    if rows::has_mark(left, GB) {
+        return Record::Group;
+    }
+    if rows::has_mark(left, GE) {
+        return Record::End;
+    }
+    if rows::has_mark(left, VA) {
+        return Record::Value;
+    }
+    if rows::has_mark(left, ST) {
+        return Record::Bytes;
+    }
+    if rows::has_mark(left, SQ) {
+        return Record::Sequence;
+    }
+    if rows::has_mark(left, SG) {
+        return Record::Static;
+    }
+    if rows::has_mark(left, NO) {
+        return Record::Absent;
+    }
+    if rows::has_mark(left, XT) {
+        return Record::Extension;
+    }
+    if rows::has_mark(left, XU) {
+        return Record::Unknown;
+    }
+    Record::Other
+}
+
+// The scalars' widths, by their types.
+const WIDTHS: [u8; 17] = [1, 1, 1, 2, 2, 4, 4, 8, 8, 8, 9, 1, 4, 8, 8, 4, 8];
+
+// How many bytes a value of this field has.
+fn value_length(field: &[u8]) -> usize
+    ensures { λ r. ⌜ (r ≡ valueLength (now (field .entry))) × (r < 256) ⌝ }
+{
+    let number = wire::wide(rows::field_type(field));
+    if number == 19 {
+        return wire::wide(rows::field_size(field));
+    }
+    if number < 17 {
+        let widths = WIDTHS;
+        return wire::wide(widths[number]);
+    }
+    4
+}
+
+// How long a record of this field is; 0 where it is none.
+fn record_length(left: &[u8], field: &[u8], kind: Record) -> usize
+    ensures { λ r. ⌜ r ≡ recordLength (now (left .entry)) (now (field .entry)) kind ⌝ }
+{
+    match kind {
+        Record::Group => 10,
+        Record::End => 2,
+        Record::Value => 2 + value_length(field),
+        Record::Bytes => 6 + rows::first_u32(rows::rest(left, 2)),
+        Record::Sequence => 6,
+        Record::Static => 2,
+        Record::Absent => 2,
+        Record::Extension => 6,
+        Record::Unknown => 6 + rows::first_u32(rows::rest(left, 2)),
+        Record::Other => 0,
+    }
+}
+
+// FRAMES
+
+fn opened(group: usize, fields: usize, embedded: bool) -> Frame
+    ensures { λ r. ⌜ r ≡ opened group fields embedded ⌝ }
+{
     Frame {
-        row,
+        group,
         fields,
         field: 0,
         items: 0,
         item: 0,
-        is_static,
+        embedded,
     }
 }
 
-// The frame of the innermost of `depth` groups; of no group, one with no fields.
-fn top(frames: &[usize; NUMBERS], depth: usize) -> Frame {
-    if depth == 0 {
+// The frame of the innermost of `depth` groups.
+fn top(frames: &[usize], depth: usize) -> Frame
+    requires { ⌜ length (now frames) ≡ 252 ⌝ }
+    ensures { λ r. ⌜ r ≡ frameAt (now (frames .entry)) depth ⌝ }
+{
+    if DEEPEST + 1 < depth {
         return opened(0, 0, false);
     }
-    if DEEPEST < depth {
-        return opened(0, 0, false);
-    }
-    let at = 6 * (depth - 1);
+    let at = 6 * depth;
     Frame {
-        row: frames[at],
+        group: frames[at],
         fields: frames[at + 1],
         field: frames[at + 2],
         items: frames[at + 3],
         item: frames[at + 4],
-        is_static: frames[at + 5] == 1,
+        embedded: frames[at + 5] == 1,
     }
 }
 
-fn put(frames: &mut [usize; NUMBERS], depth: usize, f: Frame) {
-    if depth == 0 {
-        return;
-    }
-    if DEEPEST < depth {
-        return;
-    }
-    let at = 6 * (depth - 1);
-    frames[at] = f.row;
+fn put(frames: &mut [usize], depth: usize, f: Frame)
+    requires { ⌜ (length (now frames) ≡ 252) × (depth < 42) ⌝ }
+    ensures { λ _. ⌜ now (frames .exit) ≡ splice 6 (6 * depth) (numbersOf f) (now (frames .entry)) ⌝ }
+{
+    let at = 6 * depth;
+    frames[at] = f.group;
     frames[at + 1] = f.fields;
     frames[at + 2] = f.field;
     frames[at + 3] = f.items;
     frames[at + 4] = f.item;
-    frames[at + 5] = f.is_static as usize;
+    frames[at + 5] = f.embedded as usize;
 }
 
-// The frame after one more item, or after the field.
-fn advanced(f: Frame) -> Frame {
-    if 1 < f.items {
-        return Frame {
-            row: f.row,
-            fields: f.fields,
-            field: f.field,
-            items: f.items - 1,
-            item: rows::sum(f.item, 1),
-            is_static: f.is_static,
-        };
-    }
-    if f.fields == 0 {
+// The frame after the field.
+fn next_field(f: Frame) -> Frame
+    ensures { λ r. ⌜ r ≡ nextField f ⌝ }
+{
+    if f.fields <= f.field {
         return f;
     }
     Frame {
-        row: rows::sum(f.row, 16),
-        fields: f.fields - 1,
-        field: rows::sum(f.field, 1),
+        group: f.group,
+        fields: f.fields,
+        field: f.field + 1,
         items: 0,
         item: 0,
-        is_static: f.is_static,
+        embedded: f.embedded,
+    }
+}
+
+// The frame after one more item, or after the field.
+fn advanced(f: Frame) -> Frame
+    ensures { λ r. ⌜ r ≡ advanced f ⌝ }
+{
+    if f.items == 0 {
+        return next_field(f);
+    }
+    if f.items - 1 <= f.item {
+        return next_field(f);
+    }
+    Frame {
+        group: f.group,
+        fields: f.fields,
+        field: f.field,
+        items: f.items,
+        item: f.item + 1,
+        embedded: f.embedded,
     }
 }
 
 // The frame at the start of a sequence.
-fn in_sequence(f: Frame, count: usize) -> Frame {
+fn in_sequence(f: Frame, count: usize) -> Frame
+    ensures { λ r. ⌜ r ≡ inSequence f count ⌝ }
+{
     if count == 0 {
         return advanced(f);
     }
     Frame {
-        row: f.row,
+        group: f.group,
         fields: f.fields,
         field: f.field,
         items: count,
         item: 0,
-        is_static: f.is_static,
+        embedded: f.embedded,
+    }
+}
+
+// The frame after a record.
+fn after(left: &[u8], kind: Record, f: Frame) -> Frame
+    ensures { λ r. ⌜ r ≡ after (now (left .entry)) kind f ⌝ }
+{
+    let further = advanced(f);
+    match kind {
+        Record::Group => further,
+        Record::End => f,
+        Record::Value => further,
+        Record::Bytes => further,
+        Record::Sequence => in_sequence(f, rows::first_u32(rows::rest(left, 2))),
+        Record::Static => further,
+        Record::Absent => further,
+        Record::Extension => f,
+        Record::Unknown => f,
+        Record::Other => f,
     }
 }
 
 // How many groups are open once the static groups with no field left are closed.
-fn closed(frames: &[usize; NUMBERS], depth: usize) -> usize {
-    let mut left = depth;
-    while 0 < left {
-        let f = top(frames, left);
-        if !f.is_static {
-            return left;
+fn closed(frames: &[usize], depth: usize) -> usize
+    requires { ⌜ length (now frames) ≡ 252 ⌝ }
+    ensures { λ r. ⌜ r ≡ closed (now (frames .entry)) depth ⌝ }
+{
+    let mut n = depth;
+    while 0 < n {
+        let f = top(frames, n);
+        if !f.embedded {
+            return n;
         }
-        if 0 < f.fields {
-            return left;
+        if f.field < f.fields {
+            return n;
         }
-        left -= 1;
+        n -= 1;
     }
     0
 }
 
+// LINES
+
 // The start of a line: the field's number, and the item's in a sequence.
 fn print_label(f: Frame, depth: usize) {
     print::indent(depth);
-    if f.fields == 0 {
+    if f.fields <= f.field {
         return;
     }
     print::number(f.field);
@@ -147,241 +278,167 @@ fn print_label(f: Frame, depth: usize) {
     print::space();
 }
 
-// The start of the line of a field or an item of this type.
-fn print_start(f: Frame, depth: usize, number: u8) {
+// The start of the line of a field or an item.
+fn print_start(f: Frame, depth: usize, field: &[u8]) {
     print_label(f, depth);
-    value::print_type(number);
+    value::print_type(rows::field_type(field));
     print::space();
 }
 
-// Passes on to the innermost group's next item or field.
-fn advance(frames: &mut [usize; NUMBERS], depth: usize) {
-    put(frames, depth, advanced(top(frames, depth)));
-}
-
-// Ends the line of a field or an item.
-fn done(frames: &mut [usize; NUMBERS], depth: usize, length: usize) -> Step {
-    print::end_line();
-    advance(frames, depth);
-    Step { length, depth }
-}
-
-// Ends the line that opens a group, whose record in the table stands at `at`.
-fn entered(
-    table: &[u8],
-    at: usize,
-    frames: &mut [usize; NUMBERS],
-    depth: usize,
-    is_static: bool,
-    length: usize,
-) -> Step {
-    print::end_line();
-    if DEEPEST <= depth {
-        return Step { length: 0, depth };
-    }
-    advance(frames, depth);
-    put(
-        frames,
-        depth + 1,
-        opened(rows::sum(at, 16), rows::field_count(table, at), is_static),
-    );
-    Step {
-        length,
-        depth: depth + 1,
-    }
-}
-
-fn print_group(table: &[u8], record: &[u8], frames: &mut [usize; NUMBERS], depth: usize) -> Step {
-    let id = rows::u64_at(record, 2);
-    print_label(top(frames, depth), depth);
+fn print_group(left: &[u8], f: Frame, depth: usize) {
+    print_label(f, depth);
     print::text(b"group ");
-    print::wide(id);
-    entered(
-        table,
-        rows::group_named(table, id),
-        frames,
-        depth,
-        false,
-        10,
-    )
+    print::wide(rows::first_u64(rows::rest(left, 2)));
 }
 
-fn print_static(table: &[u8], frames: &mut [usize; NUMBERS], depth: usize) -> Step {
-    let f = top(frames, depth);
+fn print_static(f: Frame, depth: usize) {
     print_label(f, depth);
     value::print_type(21);
-    entered(
-        table,
-        rows::field_group(table, f.row),
-        frames,
-        depth,
-        true,
-        2,
-    )
-}
-
-// How many bytes a value has.
-fn width(number: u8, size: usize) -> usize
-    requires { ⌜ size < 256 ⌝ }
-    ensures { λ r. ⌜ r < 256 ⌝ }
-{
-    match number {
-        1 => 1,
-        2 => 1,
-        3 => 2,
-        4 => 2,
-        5 => 4,
-        6 => 4,
-        10 => 9,
-        11 => 1,
-        12 => 4,
-        15 => 4,
-        19 => size,
-        20 => 4,
-        _ => 8,
-    }
 }
 
 // The number that follows a record's mark.
-fn print_number(record: &[u8], number: u8) {
-    if record.len() < 11 {
+fn print_number(left: &[u8], number: u8) {
+    if left.len() < 11 {
         return;
     }
-    value::print_number(reading::number_at(record, 2, number));
+    value::print_number(reading::number_at(left, 2, number));
 }
 
 // The value after the mark. That of type 19, fixed, is bytes and no number.
-fn print_scalar(record: &[u8], number: u8, width: usize) {
+fn print_value(left: &[u8], field: &[u8], f: Frame, depth: usize) {
+    print_start(f, depth, field);
+    let number = rows::field_type(field);
     if number == 19 {
-        print::hex(rows::part(record, 2, width));
+        print::hex(rows::part(left, 2, value_length(field)));
     } else {
-        print_number(record, number);
+        print_number(left, number);
     }
 }
 
-fn print_value(table: &[u8], record: &[u8], frames: &mut [usize; NUMBERS], depth: usize) -> Step {
-    let f = top(frames, depth);
-    let number = rows::field_type(table, f.row);
-    let width = width(number, rows::field_size(table, f.row));
-    print_start(f, depth, number);
-    print_scalar(record, number, width);
-    done(frames, depth, 2 + width)
+fn print_bytes(left: &[u8], field: &[u8], f: Frame, depth: usize) {
+    print_start(f, depth, field);
+    value::print_bytes(
+        rows::field_type(field),
+        rows::part(left, 6, rows::first_u32(rows::rest(left, 2))),
+    );
 }
 
-fn print_bytes(table: &[u8], record: &[u8], frames: &mut [usize; NUMBERS], depth: usize) -> Step {
-    let f = top(frames, depth);
-    let number = rows::field_type(table, f.row);
-    let count = rows::u32_at(record, 2);
-    print_start(f, depth, number);
-    value::print_bytes(number, rows::part(record, 6, count));
-    done(frames, depth, 6 + count)
-}
-
-fn print_absent(table: &[u8], frames: &mut [usize; NUMBERS], depth: usize) -> Step {
-    let f = top(frames, depth);
-    print_start(f, depth, rows::field_type(table, f.row));
+fn print_absent(field: &[u8], f: Frame, depth: usize) {
+    print_start(f, depth, field);
     print::text(b"absent");
-    done(frames, depth, 2)
 }
 
-fn print_sequence(
-    table: &[u8],
-    record: &[u8],
-    frames: &mut [usize; NUMBERS],
-    depth: usize,
-) -> Step {
-    let f = top(frames, depth);
-    let count = rows::u32_at(record, 2);
-    print_start(f, depth, rows::field_type(table, f.row));
+fn print_sequence(left: &[u8], field: &[u8], f: Frame, depth: usize) {
+    print_start(f, depth, field);
     print::text(b"sequence of ");
-    print::number(count);
-    print::end_line();
-    put(frames, depth, in_sequence(f, count));
-    Step { length: 6, depth }
+    print::number(rows::first_u32(rows::rest(left, 2)));
 }
 
-fn print_extension(record: &[u8], depth: usize) -> Step {
+fn print_extension(left: &[u8], depth: usize) {
     print::indent(depth);
     print::text(b"extension of ");
-    print::number(rows::u32_at(record, 2));
-    print::end_line();
-    Step { length: 6, depth }
+    print::number(rows::first_u32(rows::rest(left, 2)));
 }
 
-fn print_unknown(record: &[u8], depth: usize) -> Step {
-    let size = rows::u32_at(record, 2);
+fn print_unknown(left: &[u8], depth: usize) {
     print::indent(depth);
     print::text(b"unknown group ");
-    print::hex(rows::part(record, 6, size));
+    print::hex(rows::part(left, 6, rows::first_u32(rows::rest(left, 2))));
+}
+
+// The line of a record of this field. What closes a group has none.
+fn print_record(left: &[u8], field: &[u8], kind: Record, f: Frame, depth: usize) {
+    match kind {
+        Record::Group => print_group(left, f, depth),
+        Record::Value => print_value(left, field, f, depth),
+        Record::Bytes => print_bytes(left, field, f, depth),
+        Record::Sequence => print_sequence(left, field, f, depth),
+        Record::Static => print_static(f, depth),
+        Record::Absent => print_absent(field, f, depth),
+        Record::Extension => print_extension(left, depth),
+        Record::Unknown => print_unknown(left, depth),
+        _ => return,
+    }
     print::end_line();
-    Step {
-        length: 6 + size,
-        depth,
+}
+
+// THE SHEET
+
+// Opens the group whose record stands at `group`.
+fn enter(table: &[u8], group: usize, embedded: bool, frames: &mut [usize], depth: usize) -> usize
+    requires { ⌜ (length (now frames) ≡ 252) × (depth < 41) ⌝ }
+    ensures { λ r. ⌜ groups r (now (frames .exit)) ≡ entered (now (table .entry)) group embedded depth (now (frames .entry)) ⌝ }
+{
+    let fields = rows::field_count(rows::rest(table, group));
+    put(frames, depth + 1, opened(group, fields, embedded));
+    depth + 1
+}
+
+// Opens or closes a group, as the record does, and answers how many are open.
+fn step(
+    table: &[u8],
+    left: &[u8],
+    field: &[u8],
+    kind: Record,
+    frames: &mut [usize],
+    depth: usize,
+) -> usize
+    requires { ⌜ (length (now frames) ≡ 252) × (depth < 41) ⌝ }
+    ensures { λ r. ⌜ groups r (now (frames .exit)) ≡ stepped (now (table .entry)) (now (left .entry)) (now (field .entry)) kind depth (now (frames .entry)) ⌝ }
+{
+    match kind {
+        Record::Group => enter(
+            table,
+            rows::group_named(table, rows::first_u64(rows::rest(left, 2))),
+            false,
+            frames,
+            depth,
+        ),
+        Record::Static => enter(table, rows::field_group(table, field), true, frames, depth),
+        Record::End => {
+            if depth == 0 {
+                return 0;
+            }
+            depth - 1
+        }
+        Record::Value => depth,
+        Record::Bytes => depth,
+        Record::Sequence => depth,
+        Record::Absent => depth,
+        Record::Extension => depth,
+        Record::Unknown => depth,
+        Record::Other => depth,
     }
 }
 
-fn close_group(depth: usize) -> Step {
-    if depth == 0 {
-        return Step { length: 0, depth };
-    }
-    Step {
-        length: 2,
-        depth: depth - 1,
-    }
-}
-
-const GB: usize = 0x4247;
-
-const GE: usize = 0x4547;
-
-const VA: usize = 0x4156;
-
-const ST: usize = 0x5453;
-
-const SQ: usize = 0x5153;
-
-const SG: usize = 0x4753;
-
-const NO: usize = 0x4f4e;
-
-const XT: usize = 0x5458;
-
-const XU: usize = 0x5558;
-
-// The line of the record at the start of `record`.
-fn print_record(table: &[u8], record: &[u8], frames: &mut [usize; NUMBERS], depth: usize) -> Step {
-    let mark = rows::u16_at(record, 0);
-    match mark {
-        GB => print_group(table, record, frames, depth),
-        GE => close_group(depth),
-        VA => print_value(table, record, frames, depth),
-        ST => print_bytes(table, record, frames, depth),
-        SQ => print_sequence(table, record, frames, depth),
-        SG => print_static(table, frames, depth),
-        NO => print_absent(table, frames, depth),
-        XT => print_extension(record, depth),
-        XU => print_unknown(record, depth),
-        _ => Step { length: 0, depth },
-    }
-}
-
-fn print_records(table: &[u8], room: &[u8], length: usize, frames: &mut [usize; NUMBERS]) {
-    if room.len() < length {
+fn print_records(table: &[u8], room: &[u8], end: usize, frames: &mut [usize])
+    requires { ⌜ length (now frames) ≡ 252 ⌝ }
+{
+    if room.len() < end {
         return;
     }
     let mut at = 0;
     let mut depth = 0;
-    while at < length {
+    while at < end {
         depth = closed(frames, depth);
-        let s = print_record(table, &room[at..], frames, depth);
-        if s.length == 0 {
+        if DEEPEST < depth {
             return;
         }
-        if length - at < s.length {
+        let f = top(frames, depth);
+        let left = &room[at..];
+        let field = rows::field_record(table, f.group, f.field);
+        let kind = kind_of(left);
+        let n = record_length(left, field, kind);
+        if n == 0 {
             return;
         }
-        at += s.length;
-        depth = s.depth;
+        if end - at < n {
+            return;
+        }
+        print_record(left, field, kind, f, depth);
+        put(frames, depth, after(left, kind, f));
+        depth = step(table, left, field, kind, frames, depth);
+        at += n;
     }
 }
 

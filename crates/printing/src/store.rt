@@ -3,35 +3,42 @@
 // The store is one that passed, so records of nine bytes stand from its start on, and zeros behind them. Nothing here rests on it: where
 // a record is not one, the text stops.
 use crate::print;
-use crate::rows;
-ghost use Prim.Native.Nat.{_+_, _≤_};
+ghost use mathlib.Core.Path.{_≡_};
+ghost use mathlib.Core.Bool.{_&&_};
+ghost use Prim.Native.Nat.{_+_, _*_, _/_, _≤_};
 ghost use lib.ListN.{length};
+ghost use lib.Dec.{eqb};
+ghost use Rattle.settings.specs.Store.{customerOf, lastOf, stands};
 
-const CS: usize = 0x5343;
+const CS: [u8; 2] = *b"CS";
 
-fn customer(store: &[u8], at: usize) -> usize {
-    rows::u16_at(store, rows::sum(at, 2))
+fn is_record(store: &[u8], n: usize) -> bool
+    requires { ⌜ 9 * n + 9 ≤ length (now store) ⌝ }
+    ensures { λ r. ⌜ r ≡ stands (now (store .entry)) n ⌝ }
+{
+    wire::has_mark(store, 9 * n, CS)
 }
 
-fn is_record(store: &[u8], at: usize) -> bool {
-    rows::u16_at(store, at) == CS
+// Whether record n is one of this customer.
+fn is_of(store: &[u8], n: usize, customer: usize) -> bool
+    requires { ⌜ 9 * n + 9 ≤ length (now store) ⌝ }
+    ensures { λ r. ⌜ r ≡ stands (now (store .entry)) n && eqb (customerOf (now (store .entry)) n) customer ⌝ }
+{
+    is_record(store, n) & (wire::read_u16(store, 9 * n + 2) == customer)
 }
 
-// Whether the record at `at` is one of this customer.
-fn is_of(store: &[u8], at: usize, number: usize) -> bool {
-    is_record(store, at) && customer(store, at) == number
-}
-
-// Whether one of the records is this customer's.
-fn has_customer(store: &[u8], number: usize) -> bool {
-    let mut at = 0;
-    while 9 <= store.len() - at {
-        if is_of(store, at, number) {
-            return true;
+// The customer's last record, by its number plus 1.
+fn newest(store: &[u8], customer: usize) -> usize
+    ensures { λ r. ⌜ r ≡ lastOf (λ n. stands (now (store .entry)) n && eqb (customerOf (now (store .entry)) n) customer) (length (now (store .entry)) / 9) ⌝ }
+{
+    let mut n = store.len() / 9;
+    while 0 < n {
+        if is_of(store, n - 1, customer) {
+            return n;
         }
-        at += 9;
+        n -= 1;
     }
-    false
+    0
 }
 
 fn print_fault(number: usize, is_ignored: bool) {
@@ -52,38 +59,31 @@ pub fn print_ignored(absent: bool, pads: bool, unused: bool) {
     }
 }
 
-fn has_flag(store: &[u8], at: usize) -> bool {
-    rows::byte_at(store, at) == 1
-}
-
-// The customer's newest record governs: the one with no other behind it.
-fn print_record(store: &[u8], at: usize)
-    requires { ⌜ at + 9 ≤ length (now store) ⌝ }
+// The customer's newest record governs.
+fn print_record(store: &[u8], n: usize)
+    requires { ⌜ 9 * n + 9 ≤ length (now store) ⌝ }
 {
-    let number = customer(store, at);
+    let at = 9 * n;
+    let customer = wire::read_u16(store, at + 2);
     print::text(b"customer ");
-    print::number(number);
+    print::number(customer);
     print::text(b" version ");
-    print::number(rows::u16_at(store, at + 4));
+    print::number(wire::read_u16(store, at + 4));
     print::space();
-    print_ignored(
-        has_flag(store, at + 6),
-        has_flag(store, at + 7),
-        has_flag(store, at + 8),
-    );
-    if !has_customer(&store[at + 9..], number) {
+    print_ignored(store[at + 6] == 1, store[at + 7] == 1, store[at + 8] == 1);
+    if newest(store, customer) == n + 1 {
         print::text(b" (governs)");
     }
     print::end_line();
 }
 
 pub fn print_store(store: &[u8]) {
-    let mut at = 0;
-    while 9 <= store.len() - at {
-        if !is_record(store, at) {
+    let mut n = 0;
+    while n < store.len() / 9 {
+        if !is_record(store, n) {
             return;
         }
-        print_record(store, at);
-        at += 9;
+        print_record(store, n);
+        n += 1;
     }
 }

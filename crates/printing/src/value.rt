@@ -4,6 +4,8 @@ use crate::print;
 use crate::rows;
 use libc::STDOUT_FILENO;
 use reading::Number;
+ghost use mathlib.Core.Path.{_≡_};
+ghost use Rattle.printing.specs.Text.{control, half, printable};
 
 // By its bits in two's complement: those of a negative number are the upper half.
 fn print_signed(x: i64) {
@@ -21,16 +23,15 @@ fn print_exponent(x: i8) {
     print_signed(x as i64);
 }
 
-// A float that is no NaN equals itself. A NaN's bits do not come as a float.
-fn float_bits(x: f64) -> u64 {
-    if x == x {
-        return f64::to_bits(x);
-    }
-    0
-}
-
 fn print_bits(bits: u64) {
     io::print_hex(STDOUT_FILENO, bits, 16);
+}
+
+// A float is its bits in hex. One that is no NaN equals itself, and a NaN does not come as a float.
+fn print_float(x: f64) {
+    if x == x {
+        print_bits(f64::to_bits(x));
+    }
 }
 
 fn print_bool(x: bool) {
@@ -48,7 +49,6 @@ fn print_decimal(mantissa: i64, exponent: i8) {
     print_exponent(exponent);
 }
 
-// A float is its bits in hex.
 pub fn print_number(n: Number) {
     match n {
         Number::Signed(x) => print_signed(x),
@@ -57,54 +57,48 @@ pub fn print_number(n: Number) {
         }
         Number::Bool(x) => print_bool(x),
         Number::Decimal { exponent, mantissa } => print_decimal(mantissa, exponent),
-        Number::Float(x) => print_bits(float_bits(x)),
+        Number::Float(x) => print_float(x),
         Number::NanBits(x) => print_bits(x),
         Number::Refused { number, place } => {}
     }
 }
 
-// The kinds of numbers.
-const KINDS: [u8; 50] = *b" 1 signed
- 2 unsigned
- 3 bool
- 4 decimal
- 5 float
-";
-
-fn kind(n: Number) -> u8 {
-    match n {
-        Number::Signed(x) => 1,
-        Number::Unsigned(x) => 2,
-        Number::Bool(x) => 3,
-        Number::Decimal { exponent, mantissa } => 4,
-        Number::Float(x) => 5,
-        Number::NanBits(x) => 5,
-        Number::Refused { number, place } => 0,
-    }
-}
-
 // The kind of number that an answer is; nothing of a refusal.
 pub fn print_kind(n: Number) {
-    let text = KINDS;
-    lines::print_words(&text, kind(n));
-}
-
-// Whether a byte of UTF-8 text, with the one after it, is safe to print between quotes: no control character (C2 80 to C2 9F are
-// controls too), no quote, and no half of a pair (ED A0 80 and on).
-fn is_plain(byte: u8, next: u8) -> bool {
-    match byte {
-        34 => false,
-        127 => false,
-        0xc2 => 0x9f < next,
-        0xed => next < 0xa0,
-        _ => 31 < byte,
+    match n {
+        Number::Signed(x) => print::text(b"signed"),
+        Number::Unsigned(x) => print::text(b"unsigned"),
+        Number::Bool(x) => print::text(b"bool"),
+        Number::Decimal { exponent, mantissa } => print::text(b"decimal"),
+        Number::Float(x) => print::text(b"float"),
+        Number::NanBits(x) => print::text(b"float"),
+        Number::Refused { number, place } => {}
     }
 }
 
-fn is_printable(text: &[u8]) -> bool {
+// Whether a byte of UTF-8 text, with the one after it, begins a control character (C2 80 to C2 9F are controls too).
+fn is_control(byte: u8, next: u8) -> bool
+    ensures { λ r. ⌜ r ≡ control byte next ⌝ }
+{
+    (byte < 32) | ((byte == 127) | ((byte == 0xc2) & (next < 0xa0)))
+}
+
+// And whether it begins half of a pair (ED A0 80 and on).
+fn is_half(byte: u8, next: u8) -> bool
+    ensures { λ r. ⌜ r ≡ half byte next ⌝ }
+{
+    (byte == 0xed) & (0xa0 <= next)
+}
+
+// Whether a text is safe to print between quotes.
+fn is_printable(text: &[u8]) -> bool
+    ensures { λ r. ⌜ r ≡ printable (now (text .entry)) ⌝ }
+{
     let mut i = 0;
     while i < text.len() {
-        if !is_plain(text[i], rows::byte_at(text, i + 1)) {
+        let b = text[i];
+        let next = rows::byte_at(text, i + 1);
+        if is_control(b, next) | (is_half(b, next) | (b == b'"')) {
             return false;
         }
         i += 1;
@@ -113,7 +107,7 @@ fn is_printable(text: &[u8]) -> bool {
 }
 
 // A string between quotes where it can be printed, else in hex.
-pub fn print_string(text: &[u8]) {
+fn print_string(text: &[u8]) {
     if is_printable(text) {
         print::text(b"\"");
         print::text(text);

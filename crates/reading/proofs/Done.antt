@@ -1,7 +1,7 @@
 -- What a reading that is done went through, step by step.
 use mathlib.Core.Path.{_≡_, refl}
 use mathlib.Core.Bool.{Bool, true, false}
-use mathlib.Core.List.{List, _++_}
+use mathlib.Core.List.{List}
 use Prim.Native.Nat.{ℕ, _+_, _*_, _≤_}
 use native.Mathlib.Omega.{arith}
 use lib.ListN.{length}
@@ -26,34 +26,23 @@ unfolding padded
 padded-done h (refused n p) e = refused-done e
 padded-done h (done t m′) e = let q = need-done _ _ _ _ e .1 in (m′, cc)
 
--- SHEETS
-
--- the sheet s is that of r with x in front
-pub record Behind (x : List ℕ) (r : Reading) (s m : List ℕ) : Type 0 where
-  pub rest : List ℕ
-  pub is : r ≡ done rest m
-  pub whole : s ≡ x ++ rest
-
-pub prefixed-done : (x : List ℕ) (r : Reading) {s m : List ℕ} → prefixed x r ≡ done s m → Behind x r s m
+pub prefixed-done : (x : List ℕ) (r : Reading) {s m : List ℕ} → prefixed x r ≡ done s m → (s′ : List ℕ) × (r ≡ done s′ m)
 unfolding prefixed
 prefixed-done x (refused n p) e = refused-done e
-prefixed-done x (done t m′) e = record { rest = t; is = cc; whole = cc }
+prefixed-done x (done t m′) e = (t, cc)
 
--- the sheet s is that of r and then that of f
-pub record Then (r : Reading) (f : List ℕ → Reading) (s m : List ℕ) : Type 0 where
+-- r is done, and then f
+pub record Then (r : Reading) (f : List ℕ → Reading) (m : List ℕ) : Type 0 where
   pub first : List ℕ
   pub between : List ℕ
   pub second : List ℕ
   pub before : r ≡ done first between
   pub after : f between ≡ done second m
-  pub whole : s ≡ first ++ second
 
-pub next-done : (r : Reading) (f : List ℕ → Reading) {s m : List ℕ} → next r f ≡ done s m → Then r f s m
+pub next-done : (r : Reading) (f : List ℕ → Reading) {s m : List ℕ} → next r f ≡ done s m → Then r f m
 unfolding next
 next-done (refused n p) f e = refused-done e
-next-done (done s₁ m₁) f e =
-    let q = prefixed-done s₁ (f m₁) e in
-    record { first = s₁; between = m₁; second = q .rest; before = refl; after = q .is; whole = q .whole }
+next-done (done s₁ m₁) f e = let q = prefixed-done s₁ (f m₁) e in record { first = s₁; between = m₁; second = q .0; before = refl; after = q .1 }
 
 -- OFFSETS
 

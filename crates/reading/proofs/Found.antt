@@ -48,14 +48,14 @@ among p x (y ∷ ys) a e =
     or-cases (eqb x y) (member x ys) (λ i. rw (eqb-true x y i) (q .0)) (λ m. among p x ys (q .1) m) e
 
 module _ (sw : ℕ → ℕ) (es : List (List ℕ)) (size ref : ℕ) where
-  pub number-kind : (t : ℕ) → member t numberTypes ≡ true → kindWidth sw (kindOf es t size ref) ≡ scalarWidth t
+  number-kind : (t : ℕ) → member t numberTypes ≡ true → kindWidth sw (kindOf es t size ref) ≡ scalarWidth t
   unfolding every kindOf kindWidth scalarWidth
   number-kind t e = eqb-true _ _ (among (λ (t : ℕ). eqb (kindWidth sw (kindOf es t size ref)) (scalarWidth t)) t numberTypes refl e)
 
 -- THE MESSAGE'S FIELDS, WHERE THE TABLE HAS THEM
 
 module _ (y : Ignored) (t k b : List ℕ) (P : Layout t k) (A : Accepted y t b) where
-  abbrev own : Opened y (schema t) b (A .0)
+  abbrev own : Opened y (schema t) b
   own = opened y (schema t) b (A .0) (A .1) (A .2)
 
   pub message-long : 16 ≤ length b
@@ -93,12 +93,12 @@ module _ (y : Ignored) (t k b : List ℕ) (P : Layout t k) (A : Accepted y t b) 
 -- THE ITEM THAT WAS FOUND
 
 module _ (y : Ignored) (t b : List ℕ) (A : Accepted y t b) (v : Located) (n i : ℕ) (is : itemIn t v ≡ itemOf (schema t) b n i) where
-  pub found-read : (r p : ℕ) → v ≡ At r p → KindRead y (schema t) b (fieldIn t r .kind) p (A .0)
+  found-read : (r p : ℕ) → v ≡ At r p → KindRead y (schema t) b (fieldIn t r .kind) p
   unfolding itemIn
-  found-read r p e = subst (λ (v : Located). OwnRead y (schema t) b (itemIn t v) (A .0)) e (subst (λ (x : Item). OwnRead y (schema t) b x (A .0)) (sym is) (item-read y (schema t) b (A .0) (A .1) (A .2) n i))
+  found-read r p e = subst (λ (v : Located). OwnRead y (schema t) b (itemIn t v)) e (subst (λ (x : Item). OwnRead y (schema t) b x) (sym is) (item-read y (schema t) b (A .0) (A .1) (A .2) n i))
 
   pub found-laid : (r p : ℕ) → v ≡ At r p → ItemLaid b (fieldIn t r .kind) p
-  found-laid r p e = item-laid (inner y (schema t) b) (width (schema t) 4) (statics y (schema t) b) (top y (schema t) b) _ p (A .0) (found-read r p e)
+  found-laid r p e = item-laid (inner y (schema t) b) (width (schema t) 4) (statics y (schema t) b) (top y (schema t) b) _ p (found-read r p e)
 
   pub found-number : (r p x : ℕ) → v ≡ At r p → x ≡ getD t (r + 2) 0 → p + numberWidth x ≤ length b
   unfolding numberWidth fieldAt
@@ -139,9 +139,9 @@ part-inside y t b A n i v is p m e =
     let r = item-read y (schema t) b (A .0) (A .1) (A .2) n i in
     subst (PartLaid b) (sym is ∙ e) (go (itemOf (schema t) b n i) r)
   where
-    go : (x : Item) → OwnRead y (schema t) b x (A .0) → PartLaid b (partAt b x)
+    go : (x : Item) → OwnRead y (schema t) b x → PartLaid b (partAt b x)
     go (missing n) r = tt
-    go (item f p) r = part-laid (inner y (schema t) b) (width (schema t) 4) (statics y (schema t) b) (top y (schema t) b) (f .type) (f .kind) p (A .0) r
+    go (item f p) r = part-laid (inner y (schema t) b) (width (schema t) 4) (statics y (schema t) b) (top y (schema t) b) (f .type) (f .kind) p r
 
 -- what is handed out of a part, and where it starts
 module _ (b : List ℕ) (x : Part) where

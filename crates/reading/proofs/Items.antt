@@ -20,7 +20,7 @@ use Rattle.reading.specs.Laid.{Led, FieldLaid, Laid}
 use Rattle.reading.specs.declared.Located.the-variants.{Missing, At}
 
 -- an item's place is a number of 64 bits
-pub item-bound : (i n w : ℕ) → i < n → n < 2 ^ 32 → w ≤ 4096 → i * w ≤ 2 ^ 44
+pub item-bound : (i n w : ℕ) → i ≤ n → n < 2 ^ 32 → w ≤ 4096 → i * w ≤ 2 ^ 44
 item-bound i n w h l k = let p : i ≤ 2 ^ 32 = omega arith in mul-le-mul p k
 
 -- ONE FIELD, WHOSE RECORD IS AT ROW r

@@ -5,4 +5,4 @@ pub mod Read
 pub mod Opened
 pub mod Found
 pub mod Alike
-pub mod Sheets
+pub mod Listed

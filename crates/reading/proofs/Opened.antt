@@ -1,19 +1,18 @@
 -- An accepted message, opened: what its acceptance shows of its fields.
-use mathlib.Core.Path.{_≡_, refl, ap, _∙_}
+use mathlib.Core.Path.{_≡_, refl}
 use mathlib.Core.Bool.{Bool, true, false, cond, and-eq-true-iff}
-use mathlib.Core.List.{List, [], _∷_, _++_, append-assoc}
+use mathlib.Core.List.{List, [], _∷_}
 use Prim.Native.Nat.{ℕ, zero, suc, _+_, _<_, _≤_}
 use native.Mathlib.Omega.{arith}
 use lib.ListN.{length, replicate}
 use lib.Dec.{eqb, leb}
-use borrow.Author.Tests.{leb-true, ltb-true, eqb-true}
+use borrow.Author.Tests.{leb-true, ltb-true}
 use Rattle.wire.specs.Bytes.{part}
 use Rattle.schema.specs.Schema.{Kind, plain, inline, indirect, static, dynamic, Field, Group, kindWidth, valueWidth, fieldWidth, fieldsWidth, fieldsOf, width, shallowKind, shallowFields, shallow, find, known}
 use Rattle.schema.specs.Table.{schema}
 use Rattle.schema.specs.Layout.{Layout, widthIn}
-use Rattle.message.specs.Sheet.{GB, markBytes}
 use Rattle.settings.specs.declared.Ignored.{Ignored}
-use Rattle.message.specs.Walk.{Inner, Here, here, done, Reader, byte, word, kindR, inlineR, indirectR, textR, innerR, fieldsR, staticR, behindR, bodyR, headR, groupR, walk}
+use Rattle.message.specs.Walk.{Inner, Here, here, done, Reader, byte, kindR, inlineR, indirectR, textR, innerR, fieldsR, staticR, behindR, bodyR, headR, groupR, walk}
 use Rattle.meaning.specs.Conforms.{typeId}
 use Rattle.reading.specs.Item.{Item, itemFrom, itemOf, valueItem, sequenceItem, fieldItem}
 use Rattle.reading.specs.Laid.{Led, Laid, ItemLaid}
@@ -21,7 +20,7 @@ use Rattle.reading.specs.Part.{partOf}
 use Rattle.reading.specs.declared.Part.{Part}
 use Rattle.reading.specs.declared.Part.the-variants.{Refusal, Lies}
 use Rattle.reading.proofs.Done.{need-done, padded-done, prefixed-done, next-done, indirect-done}
-use Rattle.reading.proofs.Read.{Read, ItemRead, item-in, fields-read}
+use Rattle.reading.proofs.Read.{Read, ItemRead, fields-read}
 
 -- THE MESSAGE'S OWN GROUP
 
@@ -39,64 +38,56 @@ module _ (x : Ignored) (gs : List Group) (b : List ℕ) where
   abbrev pub top : Here
   top = here x b 0 (16 + width gs 5 (find gs (typeId b)))
 
-  pub record Opened (s : List ℕ) : Type 0 where
-    pub exact : length b ≡ 4 + word 0 b
+  pub record Opened : Type 0 where
     pub long : 16 ≤ length b
     pub named : find gs (typeId b) < length gs
     pub fixed : 16 + fieldsWidth (width gs 4) ownFields ≤ length b
     pub before : List ℕ
     pub after : List ℕ
     pub fields : List ℕ
-    pub rest : List ℕ
     pub is : fieldsR inner (width gs 4) statics ownFields top 16 before ≡ done fields after
-    pub sheet : s ≡ (markBytes GB ++ part 8 4 b) ++ (fields ++ rest)
 
-  opened-body : (s m : List ℕ) → length b ≡ 4 + word 0 b → 16 ≤ length b → find gs (typeId b) < length gs
-      → bodyR x gs inner (find gs (typeId b)) 0 b ≡ done s m → Opened (markBytes GB ++ s)
+  opened-body : (s m : List ℕ) → 16 ≤ length b → find gs (typeId b) < length gs
+      → bodyR x gs inner (find gs (typeId b)) 0 b ≡ done s m → Opened
   unfolding bodyR behindR staticR width
-  opened-body s m q l k e =
+  opened-body s m l k e =
       let q₁ = need-done _ _ _ _ e in
       let q₂ = padded-done top _ (q₁ .1) in
       let q₃ = prefixed-done (part 8 4 b) _ (q₂ .1) in
-      let q₄ = next-done _ _ (q₃ .is) in
+      let q₄ = next-done _ _ (q₃ .1) in
       let q₅ = need-done _ _ _ _ (q₄ .before) in
       let q₆ = next-done _ _ (q₅ .1) in
       record {
-        exact = q;
         long = l;
         named = k;
         fixed = leb-true _ _ (q₁ .0);
         before = replicate (length b) 0;
         after = q₆ .between;
         fields = q₆ .first;
-        rest = q₆ .second ++ q₄ .second;
         is = q₆ .before;
-        sheet = ap (λ y. markBytes GB ++ y) (q₃ .whole ∙ ap (λ y. part 8 4 b ++ y) (q₄ .whole ∙ ap (λ y. y ++ q₄ .second) (q₆ .whole))) ∙ simp append-assoc;
       }
 
-  pub opened : (s m : List ℕ) → walk x gs b ≡ done s m → Opened s
+  pub opened : (s m : List ℕ) → walk x gs b ≡ done s m → Opened
   unfolding walk groupR headR known
   opened s m e =
       let q₁ = need-done _ _ _ _ e in
       let q₂ = prefixed-done _ _ (q₁ .1) in
-      let q₃ = need-done _ _ _ _ (q₂ .is) in
+      let q₃ = need-done _ _ _ _ (q₂ .1) in
       let q₄ = need-done _ _ _ _ (q₃ .1) in
       let q₅ = need-done _ _ _ _ (q₄ .1) in
-      rw (q₂ .whole) (opened-body (q₂ .rest) m (eqb-true _ _ (and-eq-true-iff (leb 4 (length b)) _ .0 (q₁ .0) .1)) (leb-true _ _ (q₃ .0)) (ltb-true _ _ (q₄ .0)) (q₅ .1))
+      opened-body (q₂ .0) m (leb-true _ _ (q₃ .0)) (ltb-true _ _ (q₄ .0)) (q₅ .1)
 
   -- the message's own readers read this kind, this item
-  abbrev pub KindRead : Kind → ℕ → List ℕ → Type 0
-  KindRead k p s = Read inner (width gs 4) statics top k p s
+  abbrev pub KindRead : Kind → ℕ → Type 0
+  KindRead k p = Read inner (width gs 4) statics top k p
 
-  abbrev pub OwnRead : Item → List ℕ → Type 0
-  OwnRead y s = ItemRead inner (width gs 4) statics top y s
+  abbrev pub OwnRead : Item → Type 0
+  OwnRead y = ItemRead inner (width gs 4) statics top y
 
-  -- every item of an accepted message was read where it lies, and its record is part of the sheet
-  pub item-read : (s m : List ℕ) → walk x gs b ≡ done s m → (n i : ℕ) → OwnRead (itemOf gs b n i) s
+  -- every item of an accepted message was read where it lies
+  pub item-read : (s m : List ℕ) → walk x gs b ≡ done s m → (n i : ℕ) → OwnRead (itemOf gs b n i)
   unfolding itemOf
-  item-read s m e n i =
-      let o = opened s m e in
-      item-in inner (width gs 4) statics top (itemFrom (width gs 4) ownFields b 16 n i) (o .fields) (fields-read inner (width gs 4) statics top ownFields 16 (o .before) n i (o .is) (o .fixed)) (markBytes GB ++ part 8 4 b) (o .rest) s (o .sheet)
+  item-read s m e n i = let o = opened s m e in fields-read inner (width gs 4) statics top ownFields 16 (o .before) n i (o .is) (o .fixed)
 
 -- ONE KIND: WHERE ITS BYTES LIE
 
@@ -109,13 +100,13 @@ module _ (I : Inner) (sw : ℕ → ℕ) (S : ℕ → Reader) (h : Here) where
   led : (inside : ℕ → Reader) (p : ℕ) (m s m′ : List ℕ) → indirectR 26 1 inside h p m ≡ done s m′ → p + 4 ≤ length (h .bytes) → Led (h .bytes) p
   led inside p m s m′ e l = record { offset = l; word = omega (arith, indirect-done 26 1 inside h p m e .whole) }
 
-  pub item-laid : (k : Kind) (p : ℕ) (s : List ℕ) → Read I sw S h k p s → ItemLaid (h .bytes) k p
+  pub item-laid : (k : Kind) (p : ℕ) → Read I sw S h k p → ItemLaid (h .bytes) k p
   unfolding kindR kindWidth
-  item-laid (plain w t) p s r = tt
-  item-laid (inline u c) p s r = omega (arith, r .inside)
-  item-laid (indirect u) p s r = led (textR u) p (r .before) (r .sheet) (r .after) (r .is) (r .inside)
-  item-laid (static g) p s r = tt
-  item-laid (dynamic g) p s r = led (innerR I g) p (r .before) (r .sheet) (r .after) (r .is) (r .inside)
+  item-laid (plain w t) p r = tt
+  item-laid (inline u c) p r = omega (arith, r .inside)
+  item-laid (indirect u) p r = led (textR u) p (r .before) (r .sheet) (r .after) (r .is) (r .inside)
+  item-laid (static g) p r = tt
+  item-laid (dynamic g) p r = led (innerR I g) p (r .before) (r .sheet) (r .after) (r .is) (r .inside)
 
   inline-whole : (u : Bool) (c p : ℕ) (m s m′ : List ℕ) → inlineR u c h p m ≡ done s m′ → byte p (h .bytes) ≤ c
   unfolding inlineR
@@ -125,13 +116,13 @@ module _ (I : Inner) (sw : ℕ → ℕ) (S : ℕ → Reader) (h : Here) where
   fixed-laid true p w l = l
   fixed-laid false p w l = tt
 
-  pub part-laid : (t : ℕ) (k : Kind) (p : ℕ) (s : List ℕ) → Read I sw S h k p s → PartLaid (h .bytes) (partOf t k (h .bytes) p)
+  pub part-laid : (t : ℕ) (k : Kind) (p : ℕ) → Read I sw S h k p → PartLaid (h .bytes) (partOf t k (h .bytes) p)
   unfolding kindR kindWidth partOf
-  part-laid t (plain w x) p s r = fixed-laid (eqb t 19) p w (r .inside)
-  part-laid t (inline u c) p s r = omega (arith, r .inside, inline-whole u c p (r .before) (r .sheet) (r .after) (r .is))
-  part-laid t (indirect u) p s r = omega (arith, indirect-done 26 1 (textR u) h p (r .before) (r .is) .whole)
-  part-laid t (static g) p s r = tt
-  part-laid t (dynamic g) p s r = omega (arith, indirect-done 26 1 (innerR I g) h p (r .before) (r .is) .whole)
+  part-laid t (plain w x) p r = fixed-laid (eqb t 19) p w (r .inside)
+  part-laid t (inline u c) p r = omega (arith, r .inside, inline-whole u c p (r .before) (r .sheet) (r .after) (r .is))
+  part-laid t (indirect u) p r = omega (arith, indirect-done 26 1 (textR u) h p (r .before) (r .is) .whole)
+  part-laid t (static g) p r = tt
+  part-laid t (dynamic g) p r = omega (arith, indirect-done 26 1 (innerR I g) h p (r .before) (r .is) .whole)
 
 -- THE WIDTHS OF THE INDEX
 -- Those of the fields at hand are the walk's: no static group is deeper than its own.

@@ -5,3 +5,4 @@ pub mod Groups
 pub mod Depth
 pub mod Claims
 pub mod Forms
+pub mod Numbered

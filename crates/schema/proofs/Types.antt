@@ -1,17 +1,17 @@
 -- The kind of each type, as the code sees it, and its width.
 use Prim.Native.Nat.{ℕ, _+_, _<_, _≤_}
 use mathlib.Core.Path.{_≡_, refl}
-use mathlib.Core.Bool.{true, false}
+use mathlib.Core.Bool.{Bool, true, false, cond, _||_}
 use mathlib.Core.List.{List, []}
 use native.Mathlib.Omega.{arith}
 use lib.ListN.{length, take, getD, List·getD-eq-default}
-use lib.Dec.{ltb}
-use borrow.Author.Tests.{ne-eqb, le-leb, lt-leb}
+use lib.Dec.{leb, ltb, eqb}
+use borrow.Author.Tests.{ne-eqb, le-leb, lt-leb, eqb-false, leb-false}
 use Rattle.schema.specs.Schema.{Test, flag, below, symbol, plain, passes, testFault, member, Field, kindWidth, valueWidth, fieldWidth}
 use Rattle.wire.specs.Bytes.{part, le}
 use Rattle.wire.proofs.Laws.{drop-more}
 use Rattle.schema.specs.Table.{kindOf, fieldAt, fieldType, scalarWidth}
-use Rattle.schema.specs.FieldKinds.{kindFrom, textKind, testedKind, kindFault, plainField}
+use Rattle.schema.specs.FieldKinds.{kindFrom, textKind, testedKind, kindFault, plainField, plainWidth}
 use Rattle.schema.specs.declared.FieldKind.the-variants.{Plain, Number, Static, Dynamic}
 use Rattle.schema.specs.declared.Tested.the-variants.{Flag, Millis, Nanos, Symbol}
 
@@ -84,11 +84,46 @@ module _ (sw : ℕ → ℕ) (f : Field) where
   width-required e = rw e
 
 -- a required field of a type without a test
-pub plain-field : (es : List (List ℕ)) (s : List ℕ) (type w : ℕ) → type ≡ fieldType s → w ≡ scalarWidth type
-    → fieldAt es s .optional ≡ false → fieldAt es s .sequence ≡ false → (type ≡ 11 → ⊥) → type < 15 → fieldAt es s ≡ plainField (fieldType s) w
-unfolding fieldAt kindOf
-plain-field es s type w is e o q a l =
-    rw (o, q, ← is, ne-eqb _ _ a, ne-eqb type 15 (omega arith), ne-eqb type 16 (omega arith), le-leb type 16 (omega arith), e)
+module _ (es : List (List ℕ)) (s : List ℕ) where
+  plain-field : (w : ℕ) → w ≡ scalarWidth (fieldType s) → fieldAt es s .optional ≡ false → fieldAt es s .sequence ≡ false
+      → (fieldType s ≡ 11 → ⊥) → fieldType s < 15 → fieldAt es s ≡ plainField (fieldType s) w
+  unfolding fieldAt kindOf
+  plain-field w e o q a l =
+      rw (o, q, ne-eqb _ _ a, ne-eqb (fieldType s) 15 (omega arith), ne-eqb (fieldType s) 16 (omega arith), le-leb (fieldType s) 16 (omega arith), e)
+
+  pub plain-is : (w : ℕ) → w ≡ plainWidth (fieldAt es s) → (w ≡ 0 → ⊥) → fieldAt es s ≡ plainField (fieldType s) w
+  unfolding fieldAt plainWidth
+  plain-is w e z = go (fieldAt es s .optional) refl (fieldAt es s .sequence) refl (eqb (fieldType s) 11) refl (leb 15 (fieldType s)) refl e
+    where
+      go : (o : Bool) → fieldAt es s .optional ≡ o → (q : Bool) → fieldAt es s .sequence ≡ q → (a : Bool) → eqb (fieldType s) 11 ≡ a → (l : Bool) → leb 15 (fieldType s) ≡ l
+          → w ≡ cond (o || (q || (a || l))) 0 (scalarWidth (fieldType s)) → fieldAt es s ≡ plainField (fieldType s) w
+      go true o q qe a ae l le e = absurd (z e)
+      go false o true qe a ae l le e = absurd (z e)
+      go false o false qe true ae l le e = absurd (z e)
+      go false o false qe false ae true le e = absurd (z e)
+      go false o false qe false ae false le e = plain-field w e o qe (eqb-false _ _ ae) (leb-false _ _ le)
+
+  pub plain-optional : fieldAt es s .optional ≡ true → 0 ≡ plainWidth (fieldAt es s)
+  unfolding plainWidth
+  plain-optional o = rw o
+
+  module _ (o : fieldAt es s .optional ≡ false) where
+    pub plain-sequence : fieldAt es s .sequence ≡ true → 0 ≡ plainWidth (fieldAt es s)
+    unfolding plainWidth
+    plain-sequence q = rw (o, q)
+
+    module _ (type : ℕ) (is : type ≡ fieldType s) (q : fieldAt es s .sequence ≡ false) where
+      pub plain-flag : type ≡ 11 → 0 ≡ plainWidth (fieldAt es s)
+      unfolding fieldAt plainWidth
+      plain-flag a = rw (o, q, ← is, a)
+
+      pub plain-high : (type ≡ 11 → ⊥) → 15 ≤ type → 0 ≡ plainWidth (fieldAt es s)
+      unfolding fieldAt plainWidth
+      plain-high a l = rw (o, q, ← is, ne-eqb _ _ a, le-leb _ _ l)
+
+      pub plain-scalar : (w : ℕ) → w ≡ scalarWidth type → (type ≡ 11 → ⊥) → type < 15 → w ≡ plainWidth (fieldAt es s)
+      unfolding fieldAt plainWidth
+      plain-scalar w e a l = rw (o, q, ← is, ne-eqb _ _ a, lt-leb _ _ l, e)
 
 -- TESTS
 

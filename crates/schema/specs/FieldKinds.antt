@@ -1,11 +1,12 @@
 -- How the code sees a field's kind, and what it asks of the index for widths.
 use mathlib.Core.Path.{_≡_}
-use mathlib.Core.Bool.{Bool, false, cond}
+use mathlib.Core.Bool.{Bool, false, cond, _||_}
 use mathlib.Core.List.{List, []}
 use Prim.Native.Nat.{ℕ, _≤_}
 use lib.ListN.{length, take, getD}
-use lib.Dec.{eqb}
+use lib.Dec.{leb, eqb}
 use Rattle.schema.specs.Schema.{Kind, Field, passes, testFault, plain, inline, indirect, static, dynamic, any, flag, below, symbol}
+use Rattle.schema.specs.Table.{scalarWidth}
 use Rattle.schema.specs.Layout.{widthIn}
 use Rattle.schema.specs.declared.FieldKind.{FieldKind}
 use Rattle.schema.specs.declared.FieldKind.the-variants.{Plain, Number, Inline, Indirect, Static, Dynamic}
@@ -42,6 +43,10 @@ kindFault (dynamic g) s = 0
 -- A required value of this type and of w bytes, without a test.
 abbrev pub plainField : ℕ → ℕ → Field
 plainField n w = record { type = n; kind = plain w any; optional = false; sequence = false }
+
+-- The width of such a value of the types 1..14, for which the code has a short way; 0 for every other field. Type 19 has a width of its own.
+unfoldable pub plainWidth : Field → ℕ
+plainWidth f = cond (f .optional || (f .sequence || (eqb (f .type) 11 || leb 15 (f .type)))) 0 (scalarWidth (f .type))
 
 -- The index k has a width of every static group, each within the table check's bound.
 pub record Widths (k : List ℕ) : Type 0 where

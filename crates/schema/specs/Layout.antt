@@ -10,7 +10,8 @@ use Rattle.schema.specs.Symbols.{Ordered}
 use Rattle.schema.specs.Table.{GW, marked, fieldCount, storedWidth, valuesAt, groupAt, enums, schema}
 
 -- The index: 0.. the places of the groups' records, 64.. the groups' widths, 128.. the places of the enumerations' first symbols,
--- 192.. how many symbols they have, 256.. the groups' static depths, 320 how many groups and 321 how many enumerations there are.
+-- 192.. how many symbols they have, 256.. the groups' levels (static depth plus one, which only the table's check reads), 320 how many groups and
+-- 321 how many enumerations there are.
 abbrev pub groupPlace : List ℕ → ℕ → ℕ
 groupPlace k g = getD k g 0
 
@@ -19,9 +20,6 @@ symbolPlace k e = getD k (128 + e) 0
 
 abbrev pub symbolTotal : List ℕ → ℕ → ℕ
 symbolTotal k e = getD k (192 + e) 0
-
-abbrev pub staticDepth : List ℕ → ℕ → ℕ
-staticDepth k g = getD k (256 + g) 0
 
 abbrev pub groupTotal : List ℕ → ℕ
 groupTotal k = getD k 320 0

@@ -12,8 +12,8 @@ ghost use Rattle.wire.specs.Bytes.{part};
 ghost use Rattle.schema.specs.Schema.{textOk, member, find, known, allows, kindWidth, valueWidth, fieldWidth};
 ghost use Rattle.schema.specs.Symbols.{rank, halve};
 ghost use Rattle.schema.specs.Table.{scalarWidth, symbolCount, symbolValue, typeId, idFlag, superNumber, fieldCount, storedWidth, fieldType, fieldSize, reference, fieldAt, enums, schema};
-ghost use Rattle.schema.specs.Layout.{groupPlace, groupTotal, enumTotal, symbolPlace, symbolTotal, staticDepth, widthIn, Placed, Layout};
-ghost use Rattle.schema.specs.FieldKinds.{kindFrom, textKind, testedKind, kindFault, plainField, Widths};
+ghost use Rattle.schema.specs.Layout.{groupPlace, groupTotal, enumTotal, symbolPlace, symbolTotal, widthIn, Placed, Layout};
+ghost use Rattle.schema.specs.FieldKinds.{kindFrom, textKind, testedKind, kindFault, plainWidth, Widths};
 
 // A check's answer: this number of document 01's, at this place.
 pub enum Verdict {
@@ -96,14 +96,6 @@ pub fn group_width(index: &[u16], group: usize) -> usize
         return wide16(index[64 + group]);
     }
     0
-}
-
-// The static depth of a group.
-pub fn static_depth(index: &[u16], group: usize) -> usize
-    requires { ⌜ (length (now index) ≡ 322) × (group < 64) ⌝ }
-    ensures { λ r. ⌜ (r ≡ staticDepth (now (index .entry)) group) × (r < 65536) ⌝ }
-{
-    wide16(index[256 + group])
 }
 
 fn symbol_place(index: &[u16], list: usize) -> usize
@@ -396,10 +388,10 @@ pub fn is_sequence(table: &[u8], at: usize) -> bool
     table[at + 4] == 1
 }
 
-// The width of a required value of a type without a test; 0 for every other field.
+// The width of a required value of the types 1..14 without a test; 0 for every other field.
 pub fn plain_width(table: &[u8], at: usize) -> usize
     requires { ⌜ at + 16 ≤ length (now table) ⌝ }
-    ensures { λ r. ⌜ ((r ≡ 0 → ⊥) → (es : List (List ℕ)) → fieldAt es (drop at (now (table .entry))) ≡ plainField (fieldType (drop at (now (table .entry)))) r) × (r < 256) ⌝ }
+    ensures { λ r. ⌜ ((es : List (List ℕ)) → r ≡ plainWidth (fieldAt es (drop at (now (table .entry))))) × (r < 256) ⌝ }
 {
     let number = field_type(table, at);
     if is_optional(table, at) {

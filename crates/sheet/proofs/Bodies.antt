@@ -16,7 +16,7 @@ use Rattle.message.specs.Walk.{Here, done, Reader, Inner, word, prefixed, next,
 use Rattle.meaning.proofs.Occupying.{occupy-length, taken, taken-more}
 use Rattle.meaning.proofs.Sat.{Sat, said, sat-need, sat-prefixed, sat-next, sat-map, sat-indirect}
 use Rattle.sheet.specs.Written.{Writing, wrote, Writer, InnerW, headed, placed, thenW, Body, indirectW, textB, innerB, itemsW, listB}
-use Rattle.sheet.proofs.Laws.{need-true, four, at-left, at-right, at-part, ones-join, run-free, run-occupy}
+use Rattle.sheet.proofs.Laws.{need-true, four, At, at-left, at-right, at-part, ones-join, run-free, run-occupy}
 use Rattle.sheet.proofs.Match.{SatW, saidW, satw-is, satw-need, satw-headed, satw-placed, satw-map, Taken, Held, split-front, held-rest, Again, Match, match-none, match-then}
 use Rattle.sheet.proofs.Layers.{grab-eats, counted-eats, satw-grab, satw-counted}
 
@@ -56,6 +56,10 @@ offset-leads {h} {at} {fr} H =
     let o : word at (h .bytes) ≡ fr - at = ap le (at-part (h .bytes) at 4 (bytesOf 4 (fr - at)) lF (H .fix)) ∙ four (fr - at) (omega (arith, H .all, H .small)) in
     omega (arith, o, H .before, lF)
 
+-- and the count or size word there
+pub count-there : (b : List ℕ) (p : ℕ) (X : List ℕ) → 4 ≤ length X → At b p X → word p b ≡ le (take 4 X)
+count-there b p X l (t, e) = ap le (ap (take 4) e ∙ take-append-le 4 X t l)
+
 module _ (B : Body) where
   pub indirect-taken : (a p n : ℕ) (m s m′ : List ℕ) → free p n m ≡ true → a ≤ p → p + n ≤ length m
       → BodyTaken B a n (occupy p n m) s m′ → Taken (indirectW B) a m s m′
@@ -89,8 +93,7 @@ module _ (past : ℕ) (w : ℕ) (inside : ℕ → Reader) where
         let lD = length-append X Y in
         let hX = at-left (h .bytes) fr X Y (H .dat) in
         let q = p .again h (z ++ replicate (length X) 1) (fr + length X) j (length Y + j) refl (held-rest X Y H fr X hX (omega arith)) in
-        let c : word fr (h .bytes) ≡ le (take 4 X) = ap le (ap (take 4) (hX .1) ∙ take-append-le 4 X (hX .0) (q .four)) in
-        indirect-reads h at fr (le (take 4 X)) (length X) (z ++ replicate k 0) (offset-leads H) c (q .size)
+        indirect-reads h at fr (le (take 4 X)) (length X) (z ++ replicate k 0) (offset-leads H) (count-there (h .bytes) fr X (q .four) hX) (q .size)
         (H .area) (omega (arith, H .all, lD, q .four)) (omega (arith, H .all, lD, q .four)) (omega (arith, H .all, lD))
         (run-free z fr (length X) (length Y + j) k (H .run) (omega (arith, H .zeros, lD)))
         ∙ rw (run-occupy z fr (length X) (length Y + j) k (H .run) (omega (arith, H .zeros, lD)), q .reads, ones-join z (length X) (length Y) (length (X ++ Y)) lD);

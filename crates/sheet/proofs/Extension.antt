@@ -17,12 +17,16 @@ use Rattle.message.specs.Walk.{Here, Reader, Inner, word, prefixed, next, marke
 use Rattle.meaning.proofs.Occupying.{taken, taken-more}
 use Rattle.meaning.proofs.Sat.{Sat, said, sat-need, sat-cond, sat-prefixed, sat-next, sat-map, sat-indirect}
 use Rattle.sheet.specs.Written.{Writing, Writer, InnerW, indirectW, listB, innerB, extendingB, extensionW, swapped, backW, behindW}
-use Rattle.sheet.proofs.Laws.{four, at-left, at-right, at-part, ones-join}
+use Rattle.sheet.proofs.Laws.{At, four, at-left, at-right, at-part, ones-join}
 use Rattle.sheet.proofs.Match.{SatW, saidW, unsaidW, satw-need, satw-cond, satw-placed, satw-map, Fit, Taken, Held, split-front, held-first, held-rest, Again, Match}
 use Rattle.sheet.proofs.Layers.{counted-eats, satw-counted, due-eats, satw-due}
 use Rattle.sheet.proofs.Bodies.{offset-leads, BodyTaken, BodyAgain, BodyMatch, indirect-taken, indirect-again, match-indirect, text-again, list-forth, list-back, match-inner, inner-again, GroupAgain, GroupMatch}
 
 -- A GROUP OF KNOWN TYPE, AND ONE THAT IS KEPT
+
+-- the type id of what is kept
+pub kept-id : (b : List ℕ) (p : ℕ) (c v : List ℕ) → length c ≡ 4 → 8 ≤ length v → At b p (c ++ v) → le (part 8 (p + 4) b) ≡ le (take 8 v)
+kept-id b p c v l k a = let hv = at-right b p (p + 4) c v (omega arith) a in ap le (ap (take 8) (hv .1) ∙ take-append-le 8 v (hv .0) k)
 
 module _ (gs : List Group) (I : Inner) (W : InnerW) (A : GroupMatch gs I W) where
   known-taken : (a n : ℕ) (m s m′ : List ℕ) → BodyTaken (innerB W 0) a n m s m′ → BodyTaken (extendingB gs W) a n m (markBytes GB ++ s) m′
@@ -58,9 +62,7 @@ module _ (gs : List Group) (I : Inner) (W : InnerW) (A : GroupMatch gs I W) wher
         again = λ hh z q j n eq H.
             let x = a .again hh z q j n eq H in
             let t : le (take 4 (c ++ v)) ≡ le c = ap le (take-at c v 4 l) in
-            let hv = at-right (hh .bytes) p (p + 4) c v (omega arith) (H .fix) in
-            let w : le (part 8 (p + 4) (hh .bytes)) ≡ le (take 8 v) = ap le (ap (take 8) (hv .1) ∙ take-append-le 8 v (hv .0) (omega arith)) in
-            record { four = x .four; size = x .size; reads = rw (w, u, le-leb 12 (le (take 4 (c ++ v))) (omega arith), x .reads) };
+            record { four = x .four; size = x .size; reads = rw (kept-id (hh .bytes) p c v l (omega arith) (H .fix), u, le-leb 12 (le (take 4 (c ++ v))) (omega arith), x .reads) };
       }
 
   known-again : (p : ℕ) (s s₁ X Y r : List ℕ) → s ≡ markBytes GB ++ s₁ → GroupAgain gs I 0 s₁ X Y r → BodyAgain 1 (extendingR gs I) p s X Y r
@@ -125,6 +127,13 @@ pub record ExtensionMatch (R : Reader) (W : Writer) : Type 0 where
   pub back : (at fr : ℕ) (s : List ℕ)
       → SatW (λ F D r. Again R 4 at fr s F D r × ((h : Here) (z : List ℕ) (j k : ℕ) → Held h at fr F D z j k → extensionIn h at ≡ true)) (W at fr s)
 
+-- its offset, where there is none and where there is one
+pub none-offset : {h : Here} {at fr : ℕ} {D z : List ℕ} {j k : ℕ} → Held h at fr (bytesOf 4 0) D z j k → word at (h .bytes) ≡ 0
+none-offset {h} {at} H = ap le (at-part (h .bytes) at 4 (bytesOf 4 0) (length-bytes 4 0) (H .fix)) ∙ four 0 (omega arith)
+
+pub some-offset : {h : Here} {at fr : ℕ} {D z : List ℕ} {j k : ℕ} → Held h at fr (bytesOf 4 (fr - at)) D z j k → eqb (word at (h .bytes)) 0 ≡ false
+some-offset {h} {at} {fr} H = ne-eqb (word at (h .bytes)) 0 (omega (arith, offset-leads H, H .before, length-bytes 4 (fr - at)))
+
 module _ (gs : List Group) (I : Inner) (J : InnerW) (A : GroupMatch gs I J) where
   abbrev match-item : Match 4 (indirectR 26 1 (extendingR gs I)) (indirectW (extendingB gs J))
   match-item = match-indirect 26 _ _ _ (match-extending gs I J A)
@@ -145,9 +154,6 @@ module _ (gs : List Group) (I : Inner) (J : InnerW) (A : GroupMatch gs I J) wher
         record { fixed = x .fixed; values = x .values; is = due-eats (markBytes XT) (s ++ r) _ refl ∙ x .is; small = x .small };
   }
 
-  none-offset : {h : Here} {at fr : ℕ} {D z : List ℕ} {j k : ℕ} → Held h at fr (bytesOf 4 0) D z j k → word at (h .bytes) ≡ 0
-  none-offset {h} {at} H = ap le (at-part (h .bytes) at 4 (bytesOf 4 0) (length-bytes 4 0) (H .fix)) ∙ four 0 (omega arith)
-
   none-again : (at fr : ℕ) (s : List ℕ) → Again (extensionR gs I) 4 at fr s (bytesOf 4 0) [] s
   unfolding extensionR
   none-again at fr s = record {
@@ -166,8 +172,7 @@ module _ (gs : List Group) (I : Inner) (J : InnerW) (A : GroupMatch gs I J) wher
   some-in : (h : Here) (at fr : ℕ) (D z : List ℕ) (j k : ℕ) → 4 ≤ length D → Held h at fr (bytesOf 4 (fr - at)) D z j k → extensionIn h at ≡ true
   unfolding extensionIn inArea
   some-in h at fr D z j k l H =
-      let o = offset-leads H in
-      rw (ne-eqb (word at (h .bytes)) 0 (omega (arith, o, H .before, length-bytes 4 (fr - at))), o, le-leb (h .area) fr (H .area), lt-ltb fr (length (h .bytes)) (omega (arith, H .all)))
+      rw (some-offset H, offset-leads H, le-leb (h .area) fr (H .area), lt-ltb fr (length (h .bytes)) (omega (arith, H .all)))
 
   list-again : (fr : ℕ) (s s₁ X Y r : List ℕ) → s ≡ markBytes XT ++ s₁ → BodyAgain 4 (listR 4 (indirectR 26 1 (extendingR gs I))) fr s₁ X Y r → 1 ≤ le (take 4 X)
       → BodyAgain 4 (groupsR gs I) fr s X Y r
@@ -188,8 +193,7 @@ module _ (gs : List Group) (I : Inner) (J : InnerW) (A : GroupMatch gs I J) wher
         used = u .used;
         split = u .split;
         long = u .long;
-        reads = λ h z j n H.
-            rw (ne-eqb (word at (h .bytes)) 0 (omega (arith, offset-leads H, H .before, length-bytes 4 (fr - at)))) (u .reads h z j n H);
+        reads = λ h z j n H. rw (some-offset H) (u .reads h z j n H);
       }
 
   pub match-extension : ExtensionMatch (extensionR gs I) (extensionW gs J)
@@ -218,7 +222,7 @@ module _ {Q : List ℕ → List ℕ → List ℕ → Type 0} where
   satw-swapped F D unsaidW = unsaidW
   satw-swapped F D (saidW q) = saidW q
 
-  satw-back : {x : Writing} {k : List ℕ → List ℕ → Writing} → SatW (λ F D r. SatW (λ F′ D′ r′. Q (F′ ++ F) (D ++ D′) r′) (k D r)) x → SatW Q (backW x k)
+  pub satw-back : {x : Writing} {k : List ℕ → List ℕ → Writing} → SatW (λ F D r. SatW (λ F′ D′ r′. Q (F′ ++ F) (D ++ D′) r′) (k D r)) x → SatW Q (backW x k)
   unfolding backW
   satw-back unsaidW = unsaidW
   satw-back (saidW {F = F} {D = D} q) = satw-swapped F D q

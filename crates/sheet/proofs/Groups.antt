@@ -5,7 +5,7 @@ use mathlib.Core.List.{List, [], _∷_, _++_, append-assoc, append-nil}
 use Prim.Native.Nat.{ℕ, zero, suc, _+_, _≤_, _<_, _^_}
 use native.Mathlib.Omega.{arith}
 use lib.ListN.{length, take, drop, replicate, length-append, length-take, length-drop, length-replicate, replicate-append-replicate}
-use lib.Seq.{take-at, drop-at, drop-drop}
+use lib.Seq.{take-at, drop-at}
 use borrow.Author.Tests.{le-leb, leb-true}
 use Rattle.wire.specs.Bytes.{part, le, bytesOf, same}
 use Rattle.wire.proofs.Laws.{length-bytes}
@@ -18,8 +18,8 @@ use Rattle.meaning.specs.Proper.{SizedKind, SizedFields, Sized}
 use Rattle.meaning.proofs.Occupying.{taken-le}
 use Rattle.meaning.proofs.Sat.{Sat, unsaid, said, sat-need, sat-prefixed, sat-next, sat-map, sat-padded}
 use Rattle.sheet.specs.Written.{Writing, Writer, InnerW, kindW, valueW, fieldW, fieldsW, staticW, extensionW, behindW, framed, closed, bodyW, headW, groupW}
-use Rattle.sheet.proofs.Laws.{four, pads-ones}
-use Rattle.sheet.proofs.Match.{SatW, saidW, unsaidW, satw-is, satw-need, satw-map, Again, Match, match-none, match-then}
+use Rattle.sheet.proofs.Laws.{four, at-right, pads-ones}
+use Rattle.sheet.proofs.Match.{SatW, saidW, unsaidW, satw-is, satw-need, satw-map, Held, Again, Match, match-none, match-then}
 use Rattle.sheet.proofs.Layers.{grab-eats, due-eats, satw-grab, satw-due, match-marked, match-optional, match-plain, match-inline}
 use Rattle.sheet.proofs.Bodies.{match-indirect, match-text, match-list, match-inner, GroupFit, GroupAgain, GroupMatch}
 use Rattle.sheet.proofs.Extension.{Ends, LastTaken, LastMatch, match-extension, match-behind}
@@ -61,7 +61,7 @@ module _ (gs : List Group) (ok : Sized gs) (I : Inner) (J : InnerW) (G : GroupMa
   match-static (suc d) g = match-fields gs I J G (width gs d) (staticR gs I d) (staticW gs J d) (match-static d) (fieldsOf gs g) (ok .kinds g)
 
   -- the extension's offset and the fields
-  match-body : (g : ℕ) → LastMatch (4 + width gs 5 g) (behindR (staticR gs I 5 g) (extensionR gs I)) (behindW (staticW gs J 5 g) (extensionW gs J))
+  pub match-body : (g : ℕ) → LastMatch (4 + width gs 5 g) (behindR (staticR gs I 5 g) (extensionR gs I)) (behindW (staticW gs J 5 g) (extensionW gs J))
   match-body g = match-behind _ _ _ _ _ (match-static 5 g) (match-extension gs I J G)
 
 -- A DYNAMIC GROUP
@@ -73,8 +73,25 @@ ge-ends r = refl
 pub framed-length : (i F D : List ℕ) → length i ≡ 8 → length (framed i F D) ≡ 12 + length F + length D
 framed-length i F D li = simp (length-append, length-bytes 4 (8 + length F + length D)) (omega arith)
 
-framed-id : (i F D : List ℕ) → length i ≡ 8 → part 8 4 (framed i F D) ≡ i
+pub framed-id : (i F D : List ℕ) → length i ≡ 8 → part 8 4 (framed i F D) ≡ i
 framed-id i F D li = let n = 8 + length F + length D in rw (drop-at (bytesOf 4 n) (i ++ (F ++ D)) 4 (length-bytes 4 n)) (take-at i (F ++ D) 8 li)
+
+-- it holds its fields, and from a on its data area
+pub framed-held : (y : Ignored) (base a : ℕ) (i F D : List ℕ) → length i ≡ 8 → a ≡ 12 + length F → length (framed i F D) < 2 ^ 32
+    → Held (here y (framed i F D) base a) 12 a F D (replicate a 0) 0 (length D)
+framed-held y base a i F D li ea small =
+    let n : ℕ = 8 + length F + length D in
+    let d : drop 12 (framed i F D) ≡ F ++ D = rw (← append-assoc (bytesOf 4 n) i (F ++ D)) (drop-at (bytesOf 4 n ++ i) (F ++ D) 12 (rw (length-append (bytesOf 4 n) i, length-bytes 4 n, li))) in
+    record {
+      fix = (D, d);
+      dat = at-right (framed i F D) 12 a F D ea ([], d ∙ sym (append-nil (F ++ D)));
+      run = length-replicate {A = ℕ} a 0;
+      all = omega (arith, framed-length i F D li);
+      zeros = omega arith;
+      before = omega arith;
+      area = omega arith;
+      small = small;
+    }
 
 pub satw-closed : {Q : List ℕ → List ℕ → List ℕ → Type 0} (i : List ℕ) {x : Writing}
     → SatW (λ F D r. (r′ : List ℕ) → r ≡ GE ++ r′ → Q (framed i F D) [] r′) x → SatW Q (closed i x)
@@ -130,23 +147,11 @@ module _ (gs : List Group) (ok : Sized gs) (y : Ignored) (l : ℕ) (G : GroupMat
     body-reads : (base : ℕ) → length (framed i F D) < 2 ^ 32 → groupR y gs (suc l) c base (framed i F D) ≡ done (i ++ (a .used ++ GE)) []
     unfolding groupR headR need bodyR padded prefixed next
     body-reads base small =
-        let n : ℕ = 8 + length F + length D in
         let h : Here = here y (framed i F D) base (A g) in
         let lX = framed-length i F D li in
         let pi = framed-id i F D li in
         let lF = a .long in
-        let d8 : drop 12 (framed i F D) ≡ F ++ D = rw (← append-assoc (bytesOf 4 n) i (F ++ D)) (drop-at (bytesOf 4 n ++ i) (F ++ D) 12 (rw (length-append (bytesOf 4 n) i, length-bytes 4 n, li))) in
-        let dW : drop (A g) (framed i F D) ≡ D = rw (let q : A g ≡ 12 + W g = omega arith in q) (rw (← drop-drop (W g) 12 (framed i F D), d8) (drop-at F D (W g) lF)) in
-        let u = a .reads h (replicate (A g) 0) 0 (length D) (record {
-          fix = (D, d8);
-          dat = ([], dW ∙ sym (append-nil D));
-          run = length-replicate {A = ℕ} (A g) 0;
-          all = omega (arith, lX);
-          zeros = omega arith;
-          before = omega arith;
-          area = omega arith;
-          small = small;
-        }) in
+        let u = a .reads h (replicate (A g) 0) 0 (length D) (framed-held y base (A g) i F D li (omega arith) small) in
         let lY : length (framed i F D) ≡ A g + length D = omega (arith, lX) in
         let m : replicate {A = ℕ} (length (framed i F D)) 0 ≡ replicate (A g) 0 ++ replicate (length D) 0 = rw (replicate-append-replicate {A = ℕ} (A g) (length D) 0) (rw lY) in
         let l₁ : 16 ≤ length (framed i F D) = omega (arith, lX) in

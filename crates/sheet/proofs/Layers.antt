@@ -18,7 +18,7 @@ use Rattle.message.proofs.Count.{length-mark}
 use Rattle.meaning.proofs.Sat.{said, sat-need, sat-cond, sat-prefixed, sat-map}
 use Rattle.sheet.specs.Written.{Writing, Writer, headed, grab, due, markedW, optionalW, plainW, counted, inlineW}
 use Rattle.sheet.proofs.Laws.{need-true, four, bytes-small, at-left, at-right, at-part, at-byte, zeros-zero}
-use Rattle.sheet.proofs.Match.{SatW, saidW, satw-need, satw-cond, satw-headed, satw-map, Taken, split-front, Again, Match}
+use Rattle.sheet.proofs.Match.{SatW, saidW, satw-need, satw-cond, satw-headed, satw-map, Taken, split-front, held-behind, Again, Match}
 
 -- EATING THE SHEET
 
@@ -130,16 +130,7 @@ module _ (k : Mark) (w : ℕ) (R : Reader) (W : Writer) (A : Match w R W) where
     long = omega (arith, p .long);
     reads = λ h z j n H.
         let v : byte at (h .bytes) ≡ 1 = at-byte (h .bytes) at 1 F (H .fix) in
-        simp (v, optionalR) (p .reads h z j n (record {
-          fix = at-right (h .bytes) at (at + 1) (1 ∷ []) F (omega arith) (H .fix);
-          dat = H .dat;
-          run = H .run;
-          all = H .all;
-          zeros = H .zeros;
-          before = omega (arith, H .before);
-          area = H .area;
-          small = H .small;
-        }));
+        simp (v, optionalR) (p .reads h z j n (held-behind (1 ∷ []) F H));
   }
 
   pub match-optional : Match (w + 1) (optionalR k w R) (optionalW k w W)

@@ -6,6 +6,8 @@ pub mod Writers
 pub mod Bodies
 pub mod Extension
 pub mod Groups
+pub mod Packed
 pub mod RoundTrip
 pub mod ShowLaws
 pub mod ShowReaders
+pub mod Numbered

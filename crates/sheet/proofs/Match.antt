@@ -56,6 +56,10 @@ module _ {Q : List ℕ → List ℕ → List ℕ → Type 0} where
   satw-all f (stopped n p) = unsaidW
   satw-all f (wrote F D r) = saidW (f F D r)
 
+  pub satw-both : {P : List ℕ → List ℕ → List ℕ → Type 0} {x : Writing} → SatW P x → SatW Q x → SatW (λ F D r. P F D r × Q F D r) x
+  satw-both unsaidW q = unsaidW
+  satw-both (saidW p) q = saidW (p, satw-is q)
+
   pub satw-map : {P : List ℕ → List ℕ → List ℕ → Type 0} {x : Writing} → ((F D r : List ℕ) → P F D r → Q F D r) → SatW P x → SatW Q x
   satw-map f unsaidW = unsaidW
   satw-map f (saidW {F = F} {D = D} {r = r} q) = saidW (f F D r q)
@@ -134,6 +138,19 @@ module _ {h : Here} {at fr : ℕ} {E z : List ℕ} {j k : ℕ} (D D′ : List �
         area = omega (arith, H .area);
         small = H .small;
       }
+
+-- behind the first bytes in place
+pub held-behind : {h : Here} {at fr : ℕ} {D z : List ℕ} {j k : ℕ} (c F : List ℕ) → Held h at fr (c ++ F) D z j k → Held h (at + length c) fr F D z j k
+held-behind {h} {at} c F H = record {
+  fix = at-right (h .bytes) at (at + length c) c F refl (H .fix);
+  dat = H .dat;
+  run = H .run;
+  all = H .all;
+  zeros = H .zeros;
+  before = omega (arith, H .before, length-append c F);
+  area = H .area;
+  small = H .small;
+}
 
 -- NOTHING
 

@@ -16,6 +16,7 @@ use Rattle.settings.specs.declared.Ignored.{Ignored}
 use Rattle.settings.specs.Store.{strict}
 use Rattle.message.specs.Walk.{here, Reading, refused, done, prefixed, bodyR, headR, groupR, walk, messageR}
 use Rattle.meaning.specs.Proper.{Sized}
+use Rattle.meaning.specs.Packed.{Packed}
 use Rattle.message.proofs.Count.{length-mark}
 use Rattle.meaning.proofs.Sat.{Sat, sat-all, unsaid, said, sat-is, sat-need, sat-prefixed, sat-map, sat-padded}
 use Rattle.meaning.proofs.Eleven.{eleven}
@@ -26,6 +27,7 @@ use Rattle.sheet.proofs.Match.{SatW, saidW, unsaidW, satw-is, satw-need
 use Rattle.sheet.proofs.Layers.{due-eats, satw-due}
 use Rattle.sheet.proofs.Bodies.{GroupFit, GroupAgain}
 use Rattle.sheet.proofs.Groups.{match-group}
+use Rattle.sheet.proofs.Packed.{packs-group}
 
 -- ACCEPTED MESSAGES
 
@@ -106,6 +108,13 @@ module _ (gs : List Group) (ok : Sized gs) where
   pub write-read : (x : Ignored) (s X Y r : List ℕ) → sheetW gs s ≡ wrote X Y r → Good x gs s X Y r
   write-read x s X Y r e = satw-is (rw e at (sheet-good x s))
 
+  -- and stands in document 01's writing order
+  pub packed : (s X Y r : List ℕ) → sheetW gs s ≡ wrote X Y r → length X < 2 ^ 32 → Packed gs X
+  packed s X Y r e = satw-is (rw e at (inside s))
+    where
+      inside : (s : List ℕ) → SatW (λ X Y r. length X < 2 ^ 32 → Packed gs X) (sheetW gs s)
+      inside s = unfold sheetW in satw-need _ 42 _ (λ _. satw-ended (length s) (satw-due (markBytes GB) s _ (λ s′ e. satw-map (λ X Y r p er. p) (packs-group gs ok 8 0 s′))))
+
   -- WHAT IS READ IS WRITTEN, IN NO MORE BYTES
 
   fit : (b s : List ℕ) → GroupFit (groupW gs 8 0 (s ++ [])) [] (length b) → length b ≤ 65536 → length (markBytes GB ++ s) ≤ 11 * length b
@@ -147,6 +156,7 @@ module _ (gs : List Group) (ok : Sized gs) where
       record {
         form = w .0;
         made = w .1;
+        packed = packed s (w .0) [] [] (w .1) (omega (arith, l, w .2));
         rewrites = λ rooms R. rewrite-is x b s (w .0) rooms M R (w .1) (w .2);
         means = back strict;
         again = λ rooms R. rewrite-is strict (w .0) s (w .0) rooms (back strict) R (w .1) (omega arith);

@@ -7,6 +7,7 @@ use Rattle.schema.specs.Schema.{Group}
 use Rattle.settings.specs.declared.Ignored.{Ignored}
 use Rattle.settings.specs.Store.{strict}
 use Rattle.message.specs.Walk.{done, messageR}
+use Rattle.meaning.specs.Packed.{Packed}
 use Rattle.sheet.specs.Written.{wrote, sheetW}
 use Rattle.sheet.specs.Rewritten.{Rooms, Enough, rewritten}
 
@@ -18,6 +19,7 @@ Means x gs b s = (scratch : ℕ) → length b ≤ scratch → messageR x gs scra
 pub record Canonical (x : Ignored) (gs : List Group) (b s : List ℕ) : Type 0 where
   pub form : List ℕ
   pub made : sheetW gs s ≡ wrote form [] []
+  pub packed : Packed gs form
   pub rewrites : (rooms : Rooms) → Enough rooms b → rewritten x gs rooms b ≡ wrote form [] []
   pub means : Means strict gs form s
   pub again : (rooms : Rooms) → Enough rooms form → rewritten strict gs rooms form ≡ wrote form [] []

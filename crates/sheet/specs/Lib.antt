@@ -3,3 +3,4 @@ pub mod Writers
 pub mod Rewritten
 pub mod Canonical
 pub mod Show
+pub mod Cases

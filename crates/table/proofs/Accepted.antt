@@ -17,7 +17,8 @@ use Rattle.table.proofs.Laws.{need-accepted, also-accepted, record-grou
 use Rattle.table.proofs.Groups.{each-passed}
 use Rattle.table.proofs.Records.{drop-next, symbol-no-group, symbol-no-enum, field-no-group, field-no-enum, enum-no-group, group-no-enum, group-no-field, group-no-symbol}
 use Rattle.schema.proofs.Depth.{and-both}
-use Rattle.table.proofs.Formed.{Passed, passed, Formed, end, symbol, field, enum, group, formed, shallow-out, schema-sound, supers-low}
+use Rattle.table.proofs.Widths.{shallow-out}
+use Rattle.table.proofs.Formed.{Passed, passed, Formed, end, symbol, field, enum, group, formed, schema-sound, supers-low}
 use Rattle.table.proofs.Supers.{groups-placed, begins-super}
 
 -- HOW MANY

@@ -7,20 +7,18 @@ use native.Mathlib.Omega.{arith}
 use lib.ListN.{length, drop, getD}
 use lib.Seq.{drop-drop}
 use lib.Dec.{leb, ltb, eqb}
-use borrow.Author.Tests.{eqb-true, eqb-false, ltb-true, ltb-false, leb-true, le-leb, lt-ltb}
+use borrow.Author.Tests.{eqb-true, eqb-false, ltb-true, ltb-false, leb-true, le-leb}
 use Rattle.schema.specs.declared.Verdict.the-variants.{Accepted, Refused}
 use Rattle.schema.specs.Faults.{also}
-use Rattle.schema.specs.Schema.{Kind, Group, fieldsOf, superOf, width, shallowFields, shallow}
+use Rattle.schema.specs.Schema.{Kind, Group, fieldsOf, superOf}
 use Rattle.schema.specs.Table.{EN, SY, GW, FD, marked, groupMarked, symbolCount, superNumber, fieldCount, fieldType, fieldSize, reference, scalarWidths, scalarWidth, kindOf, fieldAt, fieldsAt, groupAt, groupsFrom, placesFrom, recordCount, enums, schema, places, Due, isEnum, groupMark, isDue, dueAfter, shapeFrom, shapeVerdict, sizeOk, referenceOk, fieldVerdict, groupVerdict, recordsFrom, recordsVerdict, anyId, idVerdict, widthsVerdict, supersVerdict, storedVerdict, tableVerdict}
 use Rattle.schema.specs.Symbols.{Ordered}
-use Rattle.schema.specs.Layout.{widthIn, Layout}
+use Rattle.schema.specs.Layout.{Layout}
 use Rattle.table.specs.Index.{Whole, Placing}
-use Rattle.table.specs.Measure.{soundKind, soundFields, Sound, Known}
+use Rattle.table.specs.Measure.{soundKind, soundFields, Sound, Sized}
 use Rattle.table.proofs.Laws.{cond-yes, need-accepted, also-accepted, need-yes, need-no, also-pass, also-stop, record-field, record-group}
 use Rattle.table.proofs.Records.{due-symbol, due-field, after-owed, after-enum, after-group, enum-is, enum-due, group-due, group-next, group-marked, own-mark, is-mark, symbol-no-group, field-no-group, enum-no-group, group-no-field, group-no-symbol}
 use Rattle.schema.proofs.Depth.{and-both}
-use Rattle.schema.proofs.Groups.{fields-past, width-past}
-use Rattle.table.proofs.Widths.{width-at}
 use Rattle.table.proofs.Stored.{stored-at}
 
 -- THE SHAPE: n records from t on, when e enumerations and g groups came before, which store their widths or not, and o records are owed
@@ -221,50 +219,24 @@ module _ (t : List ℕ) (s : shapeVerdict t ≡ Accepted) (r : recordsVerdict t 
 
 -- THE INDEX
 
-pub shallow-out : (gs : List Group) (d g : ℕ) → length gs ≤ g → shallow gs (suc d) g ≡ true
-unfolding shallow shallowFields
-shallow-out gs d g l = rw (fields-past gs g l)
-
-module _ (t k : List ℕ) (p : Placing t k) (kn : Known t k (length (schema t))) where
-  index-past : (g : ℕ) → length (schema t) ≤ g → widthIn k g ≡ 0
-  unfolding widthIn
-  index-past g l = go (ltb g 64) refl
-    where
-      go : (c : Bool) → ltb g 64 ≡ c → cond c (getD k (64 + g) 0) 0 ≡ 0
-      go true e = kn .clear g l (ltb-true g 64 e)
-      go false e = refl
-
-  pub layout-of : Whole t → ((g : ℕ) → superOf (schema t) g ≤ g) → ((e : ℕ) → Ordered (getD (enums t) e [])) → storedVerdict t ≡ Accepted → Layout t k
-  layout-of w low ordered own = record {
-    long = p .long;
-    small = w .small;
-    few = p .few;
-    total = p .total;
-    placed = p .placed;
-    wide = λ d g. wide d g (ltb g (length (schema t))) refl;
-    stored = λ g l m. wide 5 g (ltb g (length (schema t))) refl (shallows g (ltb g (length (schema t))) refl) ∙ sym (stored-at t k p own g l m);
-    narrow = λ g. narrow g (ltb g (length (schema t))) refl;
-    shallows = λ g. shallows g (ltb g (length (schema t))) refl;
-    symbols = p .symbols;
-    held = p .held;
-    ordered = ordered;
-    lists = p .lists;
-    supers = low;
-  }
-    where
-      wide : (d g : ℕ) (c : Bool) → ltb g (length (schema t)) ≡ c → shallow (schema t) d g ≡ true → widthIn k g ≡ width (schema t) d g
-      wide d g true e s = let l = ltb-true g (length (schema t)) e in width-at k g (omega (arith, p .few)) ∙ sym (kn .measured g l .wide d s)
-      wide d g false e s = let l = ltb-false g (length (schema t)) e in index-past g l ∙ sym (width-past (schema t) d g l)
-
-      narrow : (g : ℕ) (c : Bool) → ltb g (length (schema t)) ≡ c → widthIn k g ≤ 4096
-      narrow g true e = let l = ltb-true g (length (schema t)) e in rw (width-at k g (omega (arith, p .few))) (kn .narrow g l)
-      narrow g false e = rw (index-past g (ltb-false g (length (schema t)) e)) (omega arith)
-
-      shallows : (g : ℕ) (c : Bool) → ltb g (length (schema t)) ≡ c → shallow (schema t) 5 g ≡ true
-      shallows g true e =
-          let l = ltb-true g (length (schema t)) e in
-          kn .measured g l .deep 5 ∙ lt-ltb (getD k (256 + g) 0) 5 (omega (arith, kn .low g l))
-      shallows g false e = shallow-out (schema t) 4 g (ltb-false g (length (schema t)) e)
+pub layout-of : (t k : List ℕ) → Placing t k → Sized t k → Whole t → ((g : ℕ) → superOf (schema t) g ≤ g) → ((e : ℕ) → Ordered (getD (enums t) e []))
+    → storedVerdict t ≡ Accepted → Layout t k
+layout-of t k p z w low ordered own = record {
+  long = p .long;
+  small = w .small;
+  few = p .few;
+  total = p .total;
+  placed = p .placed;
+  wide = z .wide;
+  stored = λ g l m. z .wide 5 g (z .shallows g) ∙ sym (stored-at t k p own g l m);
+  narrow = z .narrow;
+  shallows = z .shallows;
+  symbols = p .symbols;
+  held = p .held;
+  ordered = ordered;
+  lists = p .lists;
+  supers = low;
+}
 
 -- THE PHASES IN A ROW
 

@@ -217,7 +217,7 @@ module _ (t : List ℕ) (w : Whole t) (i : ℕ) (h : 16 * i + 16 ≤ length t) w
     symbols = λ x q r. symbols (eqb x e) x refl q r;
     held = λ x q. held (eqb x e) x refl q;
     none = λ x q r. other (192 + x) (omega arith) (omega arith) ∙ b .none x (omega arith) r;
-    clear = λ x q. other (64 + x) (omega arith) (omega arith) ∙ b .clear x q;
+    clear = λ x q. (other (64 + x) (omega arith) (omega arith) ∙ b .clear x q .0, other (256 + x) (omega arith) (omega arith) ∙ b .clear x q .1);
   }
     where
       q′ : ℕ
@@ -275,7 +275,7 @@ module _ (t : List ℕ) (w : Whole t) (i : ℕ) (h : 16 * i + 16 ≤ length t) w
     symbols = λ x q r. symbols x q;
     held = λ x q. held x q;
     none = λ x q r. other (192 + x) (omega arith) ∙ b .none x q r;
-    clear = λ x q. other (64 + x) (omega arith) ∙ b .clear x q;
+    clear = λ x q. (other (64 + x) (omega arith) ∙ b .clear x q .0, other (256 + x) (omega arith) ∙ b .clear x q .1);
   }
     where
       all : drop g (schema t) ≡ groupAt (enums t) here ∷ groupsFrom (enums t) left (drop (16 * (i + 1)) t)
@@ -328,7 +328,7 @@ begun-none t = record {
   symbols = λ x q r. absurd (omega arith);
   held = λ x q. let a = zero-at (128 + x) (omega arith) in let b = zero-at (192 + x) (omega arith) in rw (a, b) (omega arith);
   none = λ x q r. zero-at (192 + x) (omega arith);
-  clear = λ x q. zero-at (64 + x) (omega arith);
+  clear = λ x q. (zero-at (64 + x) (omega arith), zero-at (256 + x) (omega arith));
 }
   where
     none : recordCount t ≡ recordCount t - 0
@@ -396,11 +396,14 @@ placed-all t k k′ k″ i e g o w at none p q b v = record {
   verdict = v;
   long = rw all (simp length-set (b .long));
   placing = λ _. rw all (begun-all t k e g w (rw (none, at) at b));
-  blank = λ _ x l. rw all (getD-set-other (set k 320 g) 321 (64 + x) e 0 (omega arith) ∙ getD-set-other k 320 (64 + x) g 0 (omega arith) ∙ b .clear x l);
+  blank = λ _ x l. (other (64 + x) (omega arith) ∙ b .clear x l .0, other (256 + x) (omega arith) ∙ b .clear x l .1);
 }
   where
     all : k″ ≡ set (set k 320 g) 321 e
     all = rw p at q
+
+    other : (j : ℕ) → j < 320 → getD k″ j 0 ≡ getD k j 0
+    other j l = rw all (getD-set-other (set k 320 g) 321 j e 0 (omega arith) ∙ getD-set-other k 320 j g 0 (omega arith))
 
 -- what follows for a record that is due
 

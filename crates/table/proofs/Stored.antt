@@ -1,21 +1,20 @@
 -- 37: how the check reads it, and what it gives of an accepted table's groups.
-use mathlib.Core.Path.{_≡_, _∙_}
+use mathlib.Core.Path.{_≡_}
 use mathlib.Core.Bool.{true, false}
 use mathlib.Core.List.{List}
 use Prim.Native.Nat.{ℕ, _+_, _<_}
 use native.Mathlib.Omega.{arith}
 use lib.ListN.{length, drop, getD}
 use lib.Dec.{eqb}
-use borrow.Author.Tests.{eqb-true, lt-ltb}
+use borrow.Author.Tests.{eqb-true}
 use Rattle.schema.specs.declared.Verdict.the-variants.{Accepted}
 use Rattle.schema.specs.Schema.{width}
 use Rattle.schema.specs.Table.{GW, marked, storedWidth, schema, places, storesOwn, storedVerdict}
-use Rattle.schema.specs.Layout.{groupPlace, staticDepth, widthIn}
+use Rattle.schema.specs.Layout.{groupPlace, widthIn}
 use Rattle.table.specs.Index.{Placing}
-use Rattle.table.specs.Measure.{Known}
+use Rattle.table.specs.Measure.{Sized}
 use Rattle.table.proofs.Groups.{each-passed}
 use Rattle.table.proofs.Records.{drop-less, drop-getD}
-use Rattle.table.proofs.Widths.{width-at}
 
 -- A GROUP'S TEST
 
@@ -24,13 +23,9 @@ unfolding storesOwn
 stores-none t g p e = rw e
 
 -- by what the index has
-pub stores-width : (t k : List ℕ) → Placing t k → Known t k (length (schema t)) → (g p w x : ℕ) → g < length (schema t) → marked GW (drop p t) ≡ true
-    → w ≡ storedWidth (drop p t) → x ≡ widthIn k g → eqb w x ≡ storesOwn t g p
+pub stores-width : (t k : List ℕ) → Sized t k → (g p w x : ℕ) → marked GW (drop p t) ≡ true → w ≡ storedWidth (drop p t) → x ≡ widthIn k g → eqb w x ≡ storesOwn t g p
 unfolding storesOwn
-stores-width t k P K g p w x l m a b =
-    let m5 = K .measured g l in
-    let deep = m5 .deep 5 ∙ lt-ltb (staticDepth k g) 5 (omega (arith, K .low g l)) in
-    rw (m, a, b, width-at k g (omega (arith, P .few)), m5 .wide 5 deep)
+stores-width t k z g p w x m a b = rw (m, a, b, z .wide 5 g (z .shallows g))
 
 -- WHAT 37 GIVES
 

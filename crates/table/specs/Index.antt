@@ -34,7 +34,7 @@ pub record Begun (t k : List ℕ) (i e g owed : ℕ) : Type 0 where
   pub symbols : (x : ℕ) → x < e → i + owed ≤ recordCount t → getD (enums t) x [] ≡ valuesAt (symbolTotal k x) (drop (symbolPlace k x) t)
   pub held : (x : ℕ) → x < 64 → symbolPlace k x + 16 * symbolTotal k x ≤ 16 * (i + owed)
   pub none : (x : ℕ) → e ≤ x → x < 64 → symbolTotal k x ≡ 0
-  pub clear : (x : ℕ) → x < 64 → getD k (64 + x) 0 ≡ 0
+  pub clear : (x : ℕ) → x < 64 → (getD k (64 + x) 0 ≡ 0) × (getD k (256 + x) 0 ≡ 0)
 
 -- Every record of the table t stands in the index k.
 pub record Placing (t k : List ℕ) : Type 0 where
@@ -54,7 +54,7 @@ pub record Shaped (v r : Verdict) (t k : List ℕ) : Type 0 where
   pub verdict : r ≡ v
   pub long : length k ≡ 322
   pub placing : r ≡ Accepted → Placing t k
-  pub blank : r ≡ Accepted → (x : ℕ) → x < 64 → getD k (64 + x) 0 ≡ 0
+  pub blank : r ≡ Accepted → (x : ℕ) → x < 64 → (getD k (64 + x) 0 ≡ 0) × (getD k (256 + x) 0 ≡ 0)
 
 -- What the record at 16 * i, which is due, does to the state and to the index.
 pub record Taken (t k : List ℕ) (i : ℕ) (s r : Shape) : Type 0 where

@@ -1,16 +1,15 @@
--- A group's width and static depth, as the index has them of the groups that were looked at.
+-- A group's width and static depth, as the index has them of the groups that were measured.
 use mathlib.Core.Path.{_≡_}
-use mathlib.Core.Bool.{Bool, true, _&&_}
+use mathlib.Core.Bool.{Bool, true, false, cond, _&&_}
 use mathlib.Core.List.{List, [], _∷_}
 use Prim.Native.Nat.{ℕ, _+_, _<_, _≤_}
-use lib.ListN.{length, getD}
-use lib.Dec.{ltb, leb}
+use lib.ListN.{length, getD, set}
+use lib.Dec.{leb, ltb, eqb}
 use Rattle.schema.specs.declared.Verdict.{Verdict}
 use Rattle.schema.specs.declared.Verdict.the-variants.{Accepted}
-use Rattle.schema.specs.Schema.{Kind, plain, inline, indirect, static, dynamic, Field, Group, fieldsOf, fieldsWidth, width, shallowFields, shallow}
-use Rattle.schema.specs.Table.{schema}
-use Rattle.schema.specs.Layout.{staticDepth}
-use Rattle.table.specs.declared.Extent.{Extent}
+use Rattle.schema.specs.Schema.{Kind, plain, inline, indirect, static, dynamic, Field, Group, fieldsOf, width, shallow}
+use Rattle.schema.specs.Table.{schema, inBounds}
+use Rattle.schema.specs.Layout.{widthIn}
 use Rattle.table.specs.Index.{Placing}
 
 -- What 33 leaves of a kind, in a group of number own of ng groups.
@@ -28,37 +27,56 @@ soundFields ng own (f ∷ fs) = soundKind ng own (f .kind) && soundFields ng own
 abbrev pub Sound : List Group → Type 0
 Sound gs = (g : ℕ) → soundFields (length gs) g (fieldsOf gs g) ≡ true
 
--- e measures group g: its static depth, whether all static groups that it names have a width, and its width.
-pub record Measured (gs : List Group) (g : ℕ) (e : Extent) : Type 0 where
-  pub deep : (d : ℕ) → shallow gs d g ≡ (e .filled && ltb (e .depth) d)
-  pub wide : (d : ℕ) → shallow gs d g ≡ true → width gs d g ≡ e .width
+-- A group's levels, as the index k has them: its static depth plus one, 6 where it is out of 35's bounds or names a group that is, and 0 as long as
+-- it is not measured.
+abbrev pub levels : List ℕ → ℕ → ℕ
+levels k g = getD k (256 + g) 0
 
--- What the index k has of group g.
-abbrev pub stored : List ℕ → ℕ → Extent
-stored k g = record { width = getD k (64 + g) 0; depth = staticDepth k g; filled = true }
+-- The levels of a group by one that it names, of width w and l levels; no group may name one of width 0.
+unfoldable pub levelsOver : ℕ → ℕ → ℕ
+levelsOver w l = cond (eqb w 0) 6 (l + 1)
 
--- The first n groups were looked at, and passed.
-pub record Known (t k : List ℕ) (n : ℕ) : Type 0 where
-  pub measured : (h : ℕ) → h < n → Measured (schema t) h (stored k h)
-  pub narrow : (h : ℕ) → h < n → getD k (64 + h) 0 ≤ 4096
-  pub low : (h : ℕ) → h < n → staticDepth k h ≤ 4
-  pub clear : (h : ℕ) → n ≤ h → h < 64 → getD k (64 + h) 0 ≡ 0
+-- Group g has the width w and l levels.
+pub record Measured (gs : List Group) (g w l : ℕ) : Type 0 where
+  pub deep : (d : ℕ) → shallow gs d g ≡ leb l d
+  pub wide : (d : ℕ) → shallow gs d g ≡ true → width gs d g ≡ w
 
--- The answer for group g, when the groups below n were looked at.
-pub record Answer (t : List ℕ) (n g : ℕ) (e : Extent) : Type 0 where
-  pub measured : Measured (schema t) g e
-  pub narrow : g < n → e .width ≤ 4096
-  pub low : g < n → e .depth ≤ 4
-  pub width : e .width ≤ 1048832
-  pub depth : e .depth ≤ 5
+-- Group g or one before it is out of bounds: 35 is answered there.
+abbrev pub Beyond : List Group → ℕ → Type 0
+Beyond gs g = (h : ℕ) × (h ≤ g) × (inBounds gs h ≡ false)
 
--- Of the fields fs, those before `rest` have this width, this static depth below them, and static groups with a width.
-pub record Summed (gs : List Group) (fs rest : List Field) (w depth : ℕ) (filled : Bool) : Type 0 where
-  pub deep : (d : ℕ) → shallowFields (shallow gs d) (width gs d) fs ≡ ((filled && leb depth d) && shallowFields (shallow gs d) (width gs d) rest)
-  pub wide : (d : ℕ) → shallowFields (shallow gs d) (width gs d) fs ≡ true → fieldsWidth (width gs d) fs ≡ w + fieldsWidth (width gs d) rest
+-- What the index may have of group g.
+pub record Extent (gs : List Group) (g w l : ℕ) : Type 0 where
+  pub narrow : w ≤ 4096
+  pub there : 0 < l → g < length gs
+  pub ahead : l ≡ 0 → w ≡ 0
+  pub within : 0 < l → l ≤ 5 → Measured gs g w l
+  pub beyond : 5 < l → Beyond gs g
+
+-- What the index k has of the groups is true.
+abbrev pub Kept : List ℕ → List ℕ → Type 0
+Kept t k = (g : ℕ) → g < 64 → Extent (schema t) g (getD k (64 + g) 0) (levels k g)
+
+abbrev pub withExtent : List ℕ → ℕ → ℕ → ℕ → List ℕ
+withExtent k g w l = set (set k (64 + g) w) (256 + g) l
+
+-- The index k′ is k with more groups measured, or none.
+pub record Grown (t k k′ : List ℕ) : Type 0 where
+  pub placing : Placing t k′
+  pub kept : Kept t k′
+  pub more : (g : ℕ) → 0 < levels k g → 0 < levels k′ g
+
+abbrev pub AllMeasured : List ℕ → List ℕ → Type 0
+AllMeasured t k = (g : ℕ) → g < length (schema t) → 0 < levels k g
+
+-- Every group is within bounds, and the index k has its width.
+pub record Sized (t k : List ℕ) : Type 0 where
+  pub wide : (d g : ℕ) → shallow (schema t) d g ≡ true → widthIn k g ≡ width (schema t) d g
+  pub narrow : (g : ℕ) → widthIn k g ≤ 4096
+  pub shallows : (g : ℕ) → shallow (schema t) 5 g ≡ true
 
 -- What a check of the groups answers, where the definition says v, and what it leaves in the index.
 pub record Judged (v r : Verdict) (t k : List ℕ) : Type 0 where
   pub verdict : r ≡ v
   pub placing : r ≡ Accepted → Placing t k
-  pub known : r ≡ Accepted → Known t k (length (schema t))
+  pub known : r ≡ Accepted → Sized t k

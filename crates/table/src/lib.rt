@@ -3,15 +3,15 @@
 ghost use mathlib.Core.Path.{_≡_};
 ghost use mathlib.Core.Bool.{true, _&&_, _||_, cond};
 ghost use Prim.Native.Nat.{_+_, _-_, _*_, _%_, _<_, _≤_, _^_, max, ℕ};
-ghost use lib.ListN.{length, drop, set, replicate};
-ghost use lib.Dec.{ltb, eqb};
+ghost use lib.ListN.{length, drop, getD, set, replicate};
+ghost use lib.Dec.{leb, ltb, eqb};
 ghost use Rattle.wire.specs.Bytes.{part, allZero};
 ghost use Rattle.schema.specs.Symbols.{rank};
-ghost use Rattle.schema.specs.Table.{SY, GW, marked, groupMarked, idFlag, optionalFlag, sequenceFlag, isDue, isEnum, isGroup, shapeVerdict, enumVerdict, symbolVerdict, groupVerdict, sizeOk, referenceOk, fieldVerdict, recordVerdict, recordsVerdict, anyId, enums, schema, tableVerdict, symbolValue, fieldCount, fieldType, reference, fieldAt, widthsVerdict, beginsWith, inherits, supersVerdict, storesOwn, storedVerdict};
+ghost use Rattle.schema.specs.Table.{SY, GW, marked, groupMarked, idFlag, optionalFlag, sequenceFlag, isDue, isEnum, isGroup, shapeVerdict, enumVerdict, symbolVerdict, groupVerdict, sizeOk, referenceOk, fieldVerdict, recordVerdict, recordsVerdict, anyId, enums, schema, tableVerdict, symbolValue, fieldCount, fieldType, fieldAt, widthsVerdict, beginsWith, inherits, supersVerdict, storesOwn, storedVerdict};
 ghost use Rattle.schema.specs.Faults.{also};
 ghost use Rattle.schema.specs.Layout.{groupPlace, Placed};
 ghost use Rattle.table.specs.Index.{dueOf, Whole, Begun, Placing, Shaped, Taken, Checked};
-ghost use Rattle.table.specs.Measure.{Sound, Known, Judged, Answer};
+ghost use Rattle.table.specs.Measure.{levels, levelsOver, withExtent, Sound, Kept, Grown, AllMeasured, Sized, Judged};
 ghost use mathlib.Core.List.{List};
 ghost use Rattle.schema.specs.declared.Verdict.the-variants.{Accepted};
 ghost use Rattle.schema.specs.Schema.{superOf, valueWidth, fieldWidth};
@@ -20,9 +20,9 @@ const EN: [u8; 2] = *b"EN";
 
 const SY: [u8; 2] = *b"SY";
 
-const GR: [u8; 2] = *b"GR";
+pub const GR: [u8; 2] = *b"GR";
 
-const GW: [u8; 2] = *b"GW";
+pub const GW: [u8; 2] = *b"GW";
 
 const FD: [u8; 2] = *b"FD";
 
@@ -411,11 +411,24 @@ fn any_id(table: &[u8], index: &[u16]) -> bool
 
 // 35
 
-// A group's width and static depth, and whether all static groups that it names have a width.
-struct Extent {
-    width: usize,
-    depth: usize,
-    filled: bool,
+// A group's levels: its static depth plus one, 6 where it is out of bounds, and 0 as long as it is not
+// measured.
+fn group_levels(index: &[u16], g: usize) -> usize
+    requires { ⌜ (length (now index) ≡ 322) × (g < 64) ⌝ }
+    ensures { λ r. ⌜ (r ≡ levels (now (index .entry)) g) × (r < 65536) ⌝ }
+{
+    index[256 + g] as usize
+}
+
+// The levels of a group that names group g; none may name one of width 0.
+fn levels_over(index: &[u16], g: usize) -> usize
+    requires { ⌜ (length (now index) ≡ 322) × (g < 64) ⌝ }
+    ensures { λ r. ⌜ r ≡ levelsOver (getD (now (index .entry)) (64 + g) 0) (levels (now (index .entry)) g) ⌝ }
+{
+    if index[64 + g] == 0 {
+        return 6;
+    }
+    group_levels(index, g) + 1
 }
 
 // "A sequence has width 4", and else a static group's is `inner`.
@@ -450,32 +463,37 @@ fn higher(a: usize, b: usize) -> usize
     a
 }
 
-// "a static subgroup's width is that of its own group": the groups below `known` were looked at, and
-// the index has what they measure.
-fn static_extent(table: &[u8], index: &[u16], known: usize, g: usize) -> Extent
-    requires { ⌜ (Placing (now table) (now index)) × (Known (now table) (now index) known) × (Sound (schema (now table))) × (g ≤ known) × (g < length (schema (now table))) ⌝ }
-    ensures { λ r. ⌜ Answer (now (table .entry)) known g r ⌝ }
+fn place_extent(index: &mut [u16], g: usize, width: usize, levels: usize)
+    requires { ⌜ (length (now index) ≡ 322) × (g < 64) × (width ≤ 4096) × (levels ≤ 6) ⌝ }
+    ensures { λ _. ⌜ now (index .exit) ≡ withExtent (now (index .entry)) g width levels ⌝ }
 {
-    if g < known {
-        return Extent {
-            width: index[64 + g] as usize,
-            depth: index[256 + g] as usize,
-            filled: true,
-        };
-    }
-    group_width(table, index, g)
+    index[64 + g] = width as u16;
+    index[256 + g] = levels as u16;
 }
 
-// A group's fields added up, when all groups below it were looked at.
-fn group_width(table: &[u8], index: &[u16], g: usize) -> Extent
-    requires { ⌜ (Placing (now table) (now index)) × (Known (now table) (now index) g) × (Sound (schema (now table))) × (g < length (schema (now table))) ⌝ }
-    ensures { λ r. ⌜ Answer (now (table .entry)) g g r ⌝ }
+// A group out of bounds has six levels, so that every group that names it has too many.
+fn keep_extent(index: &mut [u16], g: usize, width: usize, levels: usize)
+    requires { ⌜ (length (now index) ≡ 322) × (g < 64) × (levels ≤ 5) ⌝ }
+    ensures { λ _. ⌜ now (index .exit) ≡ cond (leb width 4096) (withExtent (now (index .entry)) g width levels) (withExtent (now (index .entry)) g 0 6) ⌝ }
 {
-    let first = index[g] as usize + 16;
-    let count = schema::field_count(table, index[g] as usize);
+    if width <= 4096 {
+        place_extent(index, g, width, levels);
+        return;
+    }
+    place_extent(index, g, 0, 6);
+}
+
+// "a static subgroup's width is that of its own group": a referenced group that is not measured yet is
+// measured, and kept in the index, so that no group is measured twice.
+fn measure_group(table: &[u8], index: &mut [u16], g: usize)
+    requires { ⌜ (Placing (now table) (now index)) × (Kept (now table) (now index)) × (Sound (schema (now table))) × (g < length (schema (now table))) ⌝ }
+    ensures { λ _. ⌜ (Grown (now (table .entry)) (now (index .entry)) (now (index .exit))) × (0 < levels (now (index .exit)) g) ⌝ }
+{
+    let start = schema::group_place(index, g);
+    let first = start + 16;
+    let count = schema::field_count(table, start);
     let mut width = 0;
-    let mut depth = 0;
-    let mut filled = true;
+    let mut levels = 1;
     let mut i = 0;
     while i < count {
         let p = first + 16 * i;
@@ -484,42 +502,53 @@ fn group_width(table: &[u8], index: &[u16], g: usize) -> Extent
             width += schema::field_width(table, index, p);
             continue;
         }
-        let inner = static_extent(table, index, g, schema::reference(table, p));
-        width += static_width(table, p, inner.width);
-        depth = higher(depth, inner.depth + 1);
-        filled = filled & (inner.filled & (1 <= inner.width));
+        let inner = schema::reference(table, p);
+        if group_levels(index, inner) == 0 {
+            // A copy: the parameter itself would be stored and loaded again at each call.
+            let whole = table;
+            measure_group(whole, index, inner);
+        }
+        // 35 refuses this group, or one before it, whatever its other fields are.
+        let over = levels_over(index, inner);
+        if 5 < over {
+            place_extent(index, g, 0, 6);
+            return;
+        }
+        width += static_width(table, p, schema::group_width(index, inner));
+        levels = higher(levels, over);
     }
-    Extent {
-        width,
-        depth,
-        filled,
-    }
+    keep_extent(index, g, width, levels);
 }
 
-fn place_extent(index: &mut [u16], g: usize, extent: Extent)
-    requires { ⌜ (length (now index) ≡ 322) × (g < 64) × (extent .width ≤ 4096) × (extent .depth ≤ 4) ⌝ }
-    ensures { λ _. ⌜ now (index .exit) ≡ set (set (now (index .entry)) (64 + g) (extent .width)) (256 + g) (extent .depth) ⌝ }
+// From the highest group down, so that a static subgroup is measured where a field names it.
+fn measure_groups(table: &[u8], index: &mut [u16])
+    requires { ⌜ (Placing (now table) (now index)) × (Kept (now table) (now index)) × (Sound (schema (now table))) ⌝ }
+    ensures { λ _. ⌜ (Grown (now (table .entry)) (now (index .entry)) (now (index .exit))) × (AllMeasured (now (table .entry)) (now (index .exit))) ⌝ }
 {
-    index[64 + g] = extent.width as u16;
-    index[256 + g] = extent.depth as u16;
+    let mut g = schema::group_total(index);
+    while 0 < g {
+        g -= 1;
+        if group_levels(index, g) != 0 {
+            continue;
+        }
+        measure_group(table, index, g);
+    }
 }
 
-// Each group is looked at once, from the lowest number on, so that no table makes this slow.
 fn check_widths(table: &[u8], index: &mut [u16]) -> schema::Verdict
-    requires { ⌜ (Placing (now table) (now index)) × (Known (now table) (now index) 0) × (Sound (schema (now table))) ⌝ }
+    requires { ⌜ (Placing (now table) (now index)) × (Kept (now table) (now index)) × (Sound (schema (now table))) ⌝ }
     ensures { λ r. ⌜ Judged (widthsVerdict (now (table .entry))) r (now (table .entry)) (now (index .exit)) ⌝ }
 {
-    let groups = index[320] as usize;
+    measure_groups(table, index);
+    let groups = schema::group_total(index);
     let mut g = 0;
     while g < groups {
-        let extent = group_width(table, index, g);
-        if !((extent.width <= 4096) & ((extent.depth <= 4) & extent.filled)) {
+        if 5 < group_levels(index, g) {
             return schema::Verdict::Refused {
                 number: 35,
-                place: index[g] as usize,
+                place: schema::group_place(index, g),
             };
         }
-        place_extent(index, g, extent);
         g += 1;
     }
     schema::Verdict::Accepted
@@ -575,7 +604,7 @@ fn check_supers(table: &[u8], index: &[u16]) -> schema::Verdict
 
 // Whether group number g stores no width, or its own.
 fn stores_own(table: &[u8], index: &[u16], g: usize) -> bool
-    requires { ⌜ (Placing (now table) (now index)) × (Known (now table) (now index) (length (schema (now table)))) × (g < length (schema (now table))) ⌝ }
+    requires { ⌜ (Placing (now table) (now index)) × (Sized (now table) (now index)) × (g < length (schema (now table))) ⌝ }
     ensures { λ r. ⌜ r ≡ storesOwn (now (table .entry)) g (groupPlace (now (index .entry)) g) ⌝ }
 {
     let p = schema::group_place(index, g);
@@ -588,7 +617,7 @@ fn stores_own(table: &[u8], index: &[u16], g: usize) -> bool
 }
 
 fn check_stored(table: &[u8], index: &[u16]) -> schema::Verdict
-    requires { ⌜ (Placing (now table) (now index)) × (Known (now table) (now index) (length (schema (now table)))) ⌝ }
+    requires { ⌜ (Placing (now table) (now index)) × (Sized (now table) (now index)) ⌝ }
     ensures { λ r. ⌜ r ≡ storedVerdict (now (table .entry)) ⌝ }
 {
     let groups = schema::group_total(index);
@@ -607,7 +636,7 @@ fn check_stored(table: &[u8], index: &[u16]) -> schema::Verdict
 
 // 35 of every group, then 36 of every group, then 37.
 fn check_groups(table: &[u8], index: &mut [u16]) -> schema::Verdict
-    requires { ⌜ (Placing (now table) (now index)) × (Known (now table) (now index) 0) × (Sound (schema (now table))) × ((g : ℕ) → superOf (schema (now table)) g ≤ g) ⌝ }
+    requires { ⌜ (Placing (now table) (now index)) × (Kept (now table) (now index)) × (Sound (schema (now table))) × ((g : ℕ) → superOf (schema (now table)) g ≤ g) ⌝ }
     ensures { λ r. ⌜ Judged (also (widthsVerdict (now (table .entry))) (also (supersVerdict (now (table .entry))) (storedVerdict (now (table .entry))))) r (now (table .entry)) (now (index .exit)) ⌝ }
 {
     let widths = check_widths(table, index);

@@ -310,15 +310,16 @@ pub fn is_utf8(text: &[u8]) -> bool
     ensures { λ r. ⌜ r ≡ utf8 (now (text .entry)) ⌝ }
 {
     let mut i = ascii_blocks(text);
-    let mut valid = true;
-    while i < text.len() {
+    let valid = loop {
+        if text.len() <= i {
+            break true;
+        }
         let n = form_width(text, i);
         if n == 0 {
-            valid = false;
-            break;
+            break false;
         }
         i += n;
-    }
+    };
     valid
 }
 

@@ -1,6 +1,8 @@
 // The leaves of crate `wire`, exported so that `bench/` can time them beside the same loops in Rust.
 ghost use mathlib.Core.Path.{_≡_};
+ghost use mathlib.Core.Bool.{cond};
 ghost use lib.ListN.{length, replicate};
+ghost use lib.Dec.{leb};
 ghost use Rattle.wire.specs.Bytes.{part, splice, allZero, zeros};
 ghost use Rattle.wire.specs.Utf8.{utf8};
 
@@ -35,7 +37,9 @@ pub extern "C" fn wire_fill(out: &mut [u8], value: u8)
 
 // Where `s` does not fit, nothing is copied.
 #[no_mangle]
-pub extern "C" fn wire_copy(out: &mut [u8], s: &[u8]) {
+pub extern "C" fn wire_copy(out: &mut [u8], s: &[u8])
+    ensures { λ _. ⌜ now (out .exit) ≡ cond (leb (length (now (s .entry))) (length (now (out .entry)))) (splice (length (now (s .entry))) 0 (now (s .entry)) (now (out .entry))) (now (out .entry)) ⌝ }
+{
     if s.len() <= out.len() {
         wire::copy(out, 0, s, 0, s.len());
     }

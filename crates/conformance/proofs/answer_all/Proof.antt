@@ -3,10 +3,10 @@ use Rattle.conformance.proofs.answer_all.Statement.{statement}
 use Rattle.conformance.proofs.answer_all.Tie as tie
 
 abbrev Inv-loop : tie.InvT-loop
-Inv-loop fd table₀ store₀ input₀ scratch₀ sheet₀ output₀ held₀ left₀ table store input scratch sheet output held left = Unit {0}
+Inv-loop fd table₀ store₀ input₀ held₀ left₀ table store input held left = Unit {0}
 
 abbrev μ-loop : tie.MeasureT-loop
-μ-loop fd table₀ store₀ input₀ scratch₀ sheet₀ output₀ held₀ left₀ table store input scratch sheet output held left = left
+μ-loop fd table₀ store₀ input₀ held₀ left₀ table store input held left = left
 
 pub answer-all-spec : {M : Type 1} → statement M
 answer-all-spec =

@@ -14,7 +14,7 @@ use Rattle.schema.specs.Table.{fieldAt, fieldsAt, enums, schema}
 use Rattle.schema.specs.Layout.{widthIn}
 use Rattle.schema.specs.FieldKinds.{kindFrom}
 use Rattle.schema.proofs.Records.{fields-more}
-use Rattle.schema.proofs.Types.{width-sequence, width-optional}
+use Rattle.schema.proofs.Types.{plain-is, width-sequence, width-optional}
 use Rattle.schema.proofs.Groups.{static-inside, placed-inside}
 use Rattle.schema.proofs.Depth.{and-both, shallow-some, width-cons, shallow-cons, wide-kind, wide-value, wide-field}
 use Rattle.message.specs.Walk.{byte, indirectR, innerR, itemsR, fieldsR, extendingR, valueR}
@@ -423,7 +423,7 @@ check-fields-loop-again : (t : ℕ) → check-fields-lts.Need-loop-again (check-
 check-fields-loop-again t c = let a = c .before .before .before .before .before .before .before .before .before .before .before .args in let i = c .before .before .before .before .loop .inv in let t = a .table .now in
     let sw = widthOf t (a .depth - 1) in
     let f = fields-more (enums t) t (c .before .before .before .before .loop .field) (c .before .before .before .before .before .field-count .result) (c .before .before .before .before .loop .i) (c .before .before .before .loop-test .taken) in
-    let e = c .before .before .plain-width .ensures .0 (c .before .if1 .taken) (enums t) in
+    let e = plain-is (enums t) _ _ (c .before .before .plain-width .ensures .0 (enums t)) (c .before .if1 .taken) in
     let w = width-cons sw _ _ _ f in let p = plain-wide sw _ _ _ e in (
       search needs,
       search needs,

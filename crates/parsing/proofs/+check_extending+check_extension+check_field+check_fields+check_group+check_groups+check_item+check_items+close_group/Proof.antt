@@ -8,6 +8,7 @@ use mathlib.Core.Logic.{⊎-elim}
 use lib.ListN.{length, drop}
 use lib.Dec.{leb}
 use Rattle.wire.specs.Bytes.{part, same}
+use Rattle.schema.proofs.Types.{plain-is}
 use Rattle.schema.specs.Schema.{any, shallowFields, shallow}
 use Rattle.schema.specs.Table.{fieldAt, fieldsAt, enums, schema}
 use Rattle.schema.specs.declared.FieldKind.the-variants.{Plain}
@@ -319,7 +320,7 @@ check-fields-loop-holds t c = let a = c .before .before .before .before .before 
 check-fields-returns : (t : ℕ) → check-fields-lts.Need-returns (check-fields-claims t) (check-fields-at t) check-fields.Post check-fields-Inv-loop check-fields-μ-loop
 check-fields-returns t c = let l = c .before .before .before .before .before .before .loop in let a = c .before .before .before .before .before .before .before .before .before .before .before .before .args in let t = a .table .now in let i = l .inv in let I = innerOf t (a .levels) in let sw = widthOf t (a .depth - 1) in let S = staticOf t (a .levels) (a .depth - 1) in
     rw (c .refused .ensures) (i .3 _ (fields-stopped I sw S (enums t) t (a .sheet .now) (c .before .before .before .before .before .before .before .field-count .result) (l .i) (l .field) (l .next) (l .length) (c .before .before .before .before .before .loop-test .taken) _
-    (λ at fr. count-as _ _ (field-plain I sw S _ at fr (l .next) (a .sheet .now) _ _ (c .before .before .before .before .plain-width .ensures .0 (c .before .before .before .if1 .taken) (enums t)))
+    (λ at fr. count-as _ _ (field-plain I sw S _ at fr (l .next) (a .sheet .now) _ _ (plain-is (enums t) _ _ (c .before .before .before .before .plain-width .ensures .0 (enums t)) (c .before .before .before .if1 .taken)))
     (plain-bad (a .sheet .now) (l .next) (l .length) (i .0) _ any _ (as-record is-VA _ _ (c .before .before .record-fault .ensures)) (c .before .if2 .taken) at fr)) (c .before .if2 .taken)))
 
 check-fields-loop-again : (t : ℕ) → check-fields-lts.Need-loop-again (check-fields-claims t) (check-fields-at t) check-fields.Post check-fields-Inv-loop check-fields-μ-loop
@@ -330,7 +331,7 @@ check-fields-loop-again t c = let l = c .before .before .before .before .before 
       omega (arith, i .1, c .before .before .before .before .loop-test .taken),
       shallow-cons _ _ _ _ _ f (i .2) .1,
       λ k g. i .3 k (fields-passed I sw S (enums t) t (a .sheet .now) (c .before .before .before .before .before .before .field-count .result) (l .i) (l .field) (l .next) (l .length) (c .before .before .before .before .loop-test .taken) _
-          (λ at fr. count-as _ _ (field-plain I sw S _ at fr (l .next) (a .sheet .now) _ _ (c .before .before .before .plain-width .ensures .0 (c .before .before .if1 .taken) (enums t)))
+          (λ at fr. count-as _ _ (field-plain I sw S _ at fr (l .next) (a .sheet .now) _ _ (plain-is (enums t) _ _ (c .before .before .before .plain-width .ensures .0 (enums t)) (c .before .before .if1 .taken)))
           (plain-good (a .sheet .now) (l .next) (l .length) (i .0) _ any _ e (c .if2 .left) (any-passes _) at fr)) refl k g),
     )
 

@@ -11,10 +11,10 @@ use Rattle.reading.proofs.locate_in_sequence.Statement.{statement}
 use Rattle.reading.proofs.locate_in_sequence.Tie as tie
 
 mul-t13 : tie.Need-mul-t13
-mul-t13 c = let p = item-bound _ _ _ (c .before .before .if1 .taken) (c .before .before .before .read-u322 .ensures .1) (c .kind-width .ensures .1) in omega (arith, p)
+mul-t13 c = let p = item-bound (c .before .before .before .before .before .before .before .before .args .item) _ _ (omega (arith, c .before .before .if1 .taken)) (c .before .before .before .read-u322 .ensures .1) (c .kind-width .ensures .1) in omega (arith, p)
 
 add-t14 : tie.Need-add-t14
-add-t14 c = let p = item-bound _ _ _ (c .before .before .if1 .taken) (c .before .before .before .read-u322 .ensures .1) (c .kind-width .ensures .1) in omega (arith, p, c .before .before .before .before .before .before .before .before .pre .2 .word, c .before .before .before .before .read-u32 .ensures .0)
+add-t14 c = let p = item-bound (c .before .before .before .before .before .before .before .before .args .item) _ _ (omega (arith, c .before .before .if1 .taken)) (c .before .before .before .read-u322 .ensures .1) (c .kind-width .ensures .1) in omega (arith, p, c .before .before .before .before .before .before .before .before .pre .2 .word, c .before .before .before .before .read-u32 .ensures .0)
 
 returns : tie.Need-returns
 returns c =

@@ -10,7 +10,7 @@ use lib.Dec.{leb}
 use Rattle.schema.specs.Schema.{kindWidth, valueWidth, fieldsWidth, shallowFields, shallow}
 use Rattle.schema.specs.Table.{fieldAt, fieldsAt, enums, schema}
 use Rattle.schema.proofs.Records.{fields-more}
-use Rattle.schema.proofs.Types.{width-sequence, width-one, width-optional, width-required}
+use Rattle.schema.proofs.Types.{plain-is, width-sequence, width-one, width-optional, width-required}
 use Rattle.schema.proofs.Groups.{static-inside, placed-inside}
 use Rattle.schema.proofs.Depth.{and-both, shallow-some, width-cons, shallow-cons, wide-kind, wide-field}
 use Rattle.message.specs.Sheet.{VA, ST, SG, SQ, GB, XT, XU, NO, GE}
@@ -269,7 +269,8 @@ show-extending-show-bytes-requires t c κs = let a = c .before .before .before .
     let n = c .before .read-u322 .ensures .0 in
     let q = extending-inside (schema t) I b (a .at) _ _ ip n _ (R .3 .reads) in
     let k = rw (c .before .before .before .before .read-u64 .ensures) at (sym (c .before .before .before .is-known .ensures)) ∙ c .before .before .if1 .left in
-    (q .1, bytes-room XU _ _ _ _ b (q .1) (fits-opens _ _ _ _ (extending-kept (schema t) I b (a .at) _ _ ip n k) (R .3)))
+    let r = bytes-room XU _ _ _ _ b (q .1) (fits-opens _ _ _ _ (extending-kept (schema t) I b (a .at) _ _ ip n k) (R .3)) in
+    (omega (arith, q .1), omega (arith, r))
 
 show-extending-returns-2 : (t : ℕ) → show-extending-lts.Need-returns-2 (show-extending-claims t) (show-extending-at t) show-extending.Post
 show-extending-returns-2 t c = let a = c .before .before .before .before .before .before .before .before .before .before .before .before .before .args in let R = c .before .before .before .before .before .before .before .before .before .before .before .before .before .pre .1 in let t = a .table .now in let b = a .bytes .now in let I = innerOf lax t (a .levels) in let ip = ap (λ (n : ℕ). a .at + n) (c .before .before .before .before .before .before .before .before .read-u32 .ensures .0) in
@@ -373,13 +374,13 @@ show-fields-loop-holds t c = let a = c .before .before .before .before .before .
 show-fields-show-bytes-requires : (t : ℕ) → show-fields-lts.Need-show-bytes-requires (show-fields-claims t) (show-fields-at t) show-fields.Post show-fields-Inv-loop show-fields-μ-loop
 show-fields-show-bytes-requires t c κs = let a = c .before .before .before .before .before .before .before .before .before .before .before .args in let t = a .table .now in let b = a .bytes .now in let I = innerOf lax t (a .levels) in let i = c .before .before .before .before .loop .inv in let l = c .before .before .before .loop-test .taken in let sw = widthOf t (a .depth - 1) in let S = staticOf lax t (a .levels) (a .depth - 1) in let es = enums t in
     let f = fields-more es t (c .before .before .before .before .loop .field) (c .before .before .before .before .before .field-count .result) (c .before .before .before .before .loop .i) l in let w = width-cons sw _ _ _ f in
-    let e = c .before .before .plain-width .ensures .0 (c .before .if1 .taken) es in let p = plain-wide sw _ _ _ e in let h : c .before .before .before .before .loop .place + c .before .before .plain-width .result ≤ length b = omega (arith, i .3, w, p) in
+    let e = plain-is es _ _ (c .before .before .plain-width .ensures .0 es) (c .before .if1 .taken) in let p = plain-wide sw _ _ _ e in let h : c .before .before .before .before .loop .place + c .before .before .plain-width .result ≤ length b = omega (arith, i .3, w, p) in
     (h, bytes-room VA _ _ _ _ b h (fits-opens _ _ _ _ (field-plain I sw S _ b (c .before .before .before .before .loop .place) _ _ e) (field-fits _ _ _ b (c .before .before .before .before .before .field-count .result) (c .before .before .before .before .loop .i) (c .before .before .before .before .loop .place) _ _ I sw S es t (c .before .before .before .before .loop .field) (i .5) l)))
 
 show-fields-loop-again : (t : ℕ) → show-fields-lts.Need-loop-again (show-fields-claims t) (show-fields-at t) show-fields.Post show-fields-Inv-loop show-fields-μ-loop
 show-fields-loop-again t c = let a = c .before .before .before .before .before .before .before .before .before .before .before .before .before .before .args in let t = a .table .now in let b = a .bytes .now in let I = innerOf lax t (a .levels) in let i = c .before .before .before .before .before .before .before .loop .inv in let l = c .before .before .before .before .before .before .loop-test .taken in let sw = widthOf t (a .depth - 1) in let S = staticOf lax t (a .levels) (a .depth - 1) in let es = enums t in
     let f = fields-more es t (c .before .before .before .before .before .before .before .loop .field) (c .before .before .before .before .before .before .before .before .field-count .result) (c .before .before .before .before .before .before .before .loop .i) l in let w = width-cons sw _ _ _ f in
-    let e = c .before .before .before .before .before .plain-width .ensures .0 (c .before .before .before .before .if1 .taken) es in let p = plain-wide sw _ _ _ e in let h : c .before .before .before .before .before .before .before .loop .place + c .before .before .before .before .before .plain-width .result ≤ length b = omega (arith, i .3, w, p) in (
+    let e = plain-is es _ _ (c .before .before .before .before .before .plain-width .ensures .0 es) (c .before .before .before .before .if1 .taken) in let p = plain-wide sw _ _ _ e in let h : c .before .before .before .before .before .before .before .loop .place + c .before .before .before .before .before .plain-width .result ≤ length b = omega (arith, i .3, w, p) in (
       search needs,
       search needs,
       omega (arith, i .2, l),
@@ -602,7 +603,7 @@ show-value-show-bytes-requires : (t : ℕ) → show-value-lts.Need-show-bytes-re
 show-value-show-bytes-requires t c κs = let a = c .before .before .before .before .before .before .before .before .before .before .before .args in let R = c .before .before .before .before .before .before .before .before .before .before .before .pre .1 in let t = a .table .now in let b = a .bytes .now in let I = innerOf lax t (a .levels) in let es = enums t in let sw = widthOf t (a .depth) in let S = staticOf lax t (a .levels) (a .depth) in let f = fieldAt es (drop (a .field) t) in let k = c .before .before .before .before .before .before .kind-at .ensures es in let o = sym (c .before .before .before .before .is-sequence .ensures es) ∙ c .before .before .before .if1 .taken in
     let iw = c .before .before .before .before .before .kind-width .ensures .0 es ∙ wide-kind t (a .index .now) (R .0) (a .depth) _ (rw (sym k) at (R .4)) in let ip = ap (λ (n : ℕ). a .at + n) (c .before .before .read-u32 .ensures .0) in let n = c .before .read-u322 .ensures .0 in
     let h : a .at + c .before .before .read-u32 .result + 4 ≤ length b = omega (arith, sequence-inside I sw S f b (a .at) _ k o _ iw _ _ ip n _ (R .5 .reads)) in
-    (h, bytes-room SQ _ _ 4 _ b h (first-fits _ _ _ _ _ _ _ (opened _ _ _ _ _ _ _ (sequence-opens I sw S f b (a .at) _ k o _ iw _ _ ip n) (begun _ _ _ (R .5)))))
+    (omega (arith, h), bytes-room SQ _ _ 4 _ b h (first-fits _ _ _ _ _ _ _ (opened _ _ _ _ _ _ _ (sequence-opens I sw S f b (a .at) _ k o _ iw _ _ ip n) (begun _ _ _ (R .5)))))
 
 -- what is left: so many items, from there on
 show-value-items : (t : ℕ) (c : show-value-lts.Joined1 (show-value-claims t) (show-value-at t) show-value.Post) → let a = c .before .before .before .before .before .before .before .before .args in let t = a .table .now in let b = a .bytes .now in

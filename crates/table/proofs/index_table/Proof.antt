@@ -3,7 +3,7 @@ use borrow.Author.Needs.{needs}
 use borrow.Author.Tests.{not-true, not-false}
 use Rattle.table.proofs.Formed.{whole-of, after-30, after-31, after-34, after-ids, by-groups, schema-sound, supers-low, layout-of}
 use Rattle.table.proofs.Values.{lists-ordered}
-use Rattle.table.proofs.Widths.{known-none}
+use Rattle.table.proofs.Widths.{kept-none}
 use Rattle.table.proofs.Laws.{also-accepted, never}
 use Rattle.table.proofs.index_table.Statement.{statement}
 use Rattle.table.proofs.index_table.Tie as tie
@@ -36,7 +36,7 @@ check-groups-requires c κs =
     let e = c .before .before .before .before .before .before .before .before .enum-told .given .1 in
     let s = sym (shape .verdict) ∙ e in
     let r = sym (c .before .before .before .before .before .before .check-records .ensures) ∙ c .before .before .before .before .enum-told2 .given .1 in
-    (shape .placing e, known-none t _ (shape .blank e), schema-sound t s r, supers-low t s r)
+    (shape .placing e, kept-none t (c .before .before .before .before .before .before .before .before .before .before .before .before .check-shape .last .1 .0) (shape .blank e), schema-sound t s r, supers-low t s r)
 
 returns-5 : tie.Need-returns-5
 returns-5 c =

@@ -4,7 +4,6 @@ use borrow.Author.Needs.{needs}
 use borrow.Author.Tests.{not-true, not-false}
 use Rattle.schema.proofs.Groups.{placed-inside}
 use Rattle.table.proofs.Stored.{stores-none, stores-width}
-use Rattle.table.proofs.Widths.{widths-known}
 use Rattle.table.proofs.stores_own.Statement.{statement}
 use Rattle.table.proofs.stores_own.Tie as tie
 
@@ -30,7 +29,7 @@ group-width-requires : tie.Need-group-width-requires
 group-width-requires c κs =
     let a = c .before .before .before .before .before .before .args in
     let h = c .before .before .before .before .before .before .pre in
-    widths-known (a .table .now) (a .index .now) _ (h .0 .long) (h .1)
+    record { long = h .0 .long; narrow = h .1 .narrow }
 
 returns-2 : tie.Need-returns-2
 returns-2 c =
@@ -38,7 +37,7 @@ returns-2 c =
     let h = c .before .before .before .before .before .before .before .pre in
     let p = c .before .before .before .before .group-place .ensures .0 in
     let m = sym (c .before .before .before .has-mark .ensures) ∙ not-false _ (c .before .before .if1 .left) in
-    rw (← p) (stores-width (a .table .now) (a .index .now) (h .0) (h .1) (a .g) _ _ _ (h .2) m (c .before .stored-width .ensures .0) (c .group-width .ensures .0))
+    rw (← p) (stores-width (a .table .now) (a .index .now) (h .1) (a .g) _ _ _ m (c .before .stored-width .ensures .0) (c .group-width .ensures .0))
 
 pub stores-own-spec : {M : Type 1} → statement M
 stores-own-spec = tie.close (tie.spec (λ c κs. search needs) has-mark-requires returns stored-width-requires group-width-requires returns-2)

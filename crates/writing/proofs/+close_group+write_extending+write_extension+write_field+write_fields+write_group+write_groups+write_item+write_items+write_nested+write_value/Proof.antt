@@ -10,6 +10,7 @@ use lib.ListN.{length, drop}
 use lib.Dec.{leb}
 use Rattle.wire.specs.Bytes.{part, le, bytesOf, same}
 use Rattle.wire.proofs.Laws.{length-bytes, length-splice}
+use Rattle.schema.proofs.Types.{plain-is}
 use Rattle.schema.specs.Schema.{shallowKind, shallowFields, shallow, kindWidth, any}
 use Rattle.schema.specs.Table.{fieldAt, fieldsAt, enums, schema}
 use Rattle.schema.specs.FieldKinds.{kindFrom}
@@ -392,15 +393,15 @@ write-fields-loop-holds t c = let a = c .before .before .before .before .before 
 )
 
 write-fields-add-write-bytes : (t : ℕ) → write-fields-lts.Need-add-write-bytes (write-fields-claims t) (write-fields-at t) write-fields.Post write-fields-Inv-loop write-fields-μ-loop
-write-fields-add-write-bytes t c = let a = c .before .before .before .before .before .before .before .before .before .before .args in let R = c .before .before .before .before .before .before .before .before .before .before .pre .1 in let t = a .table .now in let s = a .sheet .now in let o = a .out .now in let I = innerOf t (a .levels) in let es = enums t in let n = c .before .before .before .before .field-count .result in let sw = widthOf t (a .depth - 1) in let S = staticOf t (a .levels) (a .depth - 1) in let l = c .before .before .before .loop in let i = l .inv in let f = field-fits _ _ _ _ n (l .i) (l .place) (l .end) (l .next) s _ I sw S es t (l .field) (i .4) (c .before .before .loop-test .taken) in let e = c .before .plain-width .ensures .0 (c .if1 .taken) es in let q = field-plain I sw S (fieldAt es (drop (l .field) t)) (l .place) (l .end) (l .next) s _ _ e in
+write-fields-add-write-bytes t c = let a = c .before .before .before .before .before .before .before .before .before .before .args in let R = c .before .before .before .before .before .before .before .before .before .before .pre .1 in let t = a .table .now in let s = a .sheet .now in let o = a .out .now in let I = innerOf t (a .levels) in let es = enums t in let n = c .before .before .before .before .field-count .result in let sw = widthOf t (a .depth - 1) in let S = staticOf t (a .levels) (a .depth - 1) in let l = c .before .before .before .loop in let i = l .inv in let f = field-fits _ _ _ _ n (l .i) (l .place) (l .end) (l .next) s _ I sw S es t (l .field) (i .4) (c .before .before .loop-test .taken) in let e = plain-is es _ _ (c .before .plain-width .ensures .0 es) (c .if1 .taken) in let q = field-plain I sw S (fieldAt es (drop (l .field) t)) (l .place) (l .end) (l .next) s _ _ e in
     omega (arith, record-room _ VA _ any (l .place) (l .end) (l .next) s _ q f .0)
 
 write-fields-write-bytes-requires : (t : ℕ) → write-fields-lts.Need-write-bytes-requires (write-fields-claims t) (write-fields-at t) write-fields.Post write-fields-Inv-loop write-fields-μ-loop
-write-fields-write-bytes-requires t c κs = let a = c .before .before .before .before .before .before .before .before .before .before .before .args in let R = c .before .before .before .before .before .before .before .before .before .before .before .pre .1 in let t = a .table .now in let s = a .sheet .now in let o = a .out .now in let I = innerOf t (a .levels) in let es = enums t in let n = c .before .before .before .before .before .field-count .result in let sw = widthOf t (a .depth - 1) in let S = staticOf t (a .levels) (a .depth - 1) in let l = c .before .before .before .before .loop in let i = l .inv in let f = field-fits _ _ _ _ n (l .i) (l .place) (l .end) (l .next) s _ I sw S es t (l .field) (i .4) (c .before .before .before .loop-test .taken) in let e = c .before .before .plain-width .ensures .0 (c .before .if1 .taken) es in let q = field-plain I sw S (fieldAt es (drop (l .field) t)) (l .place) (l .end) (l .next) s _ _ e in
+write-fields-write-bytes-requires t c κs = let a = c .before .before .before .before .before .before .before .before .before .before .before .args in let R = c .before .before .before .before .before .before .before .before .before .before .before .pre .1 in let t = a .table .now in let s = a .sheet .now in let o = a .out .now in let I = innerOf t (a .levels) in let es = enums t in let n = c .before .before .before .before .before .field-count .result in let sw = widthOf t (a .depth - 1) in let S = staticOf t (a .levels) (a .depth - 1) in let l = c .before .before .before .before .loop in let i = l .inv in let f = field-fits _ _ _ _ n (l .i) (l .place) (l .end) (l .next) s _ I sw S es t (l .field) (i .4) (c .before .before .before .loop-test .taken) in let e = plain-is es _ _ (c .before .before .plain-width .ensures .0 es) (c .before .if1 .taken) in let q = field-plain I sw S (fieldAt es (drop (l .field) t)) (l .place) (l .end) (l .next) s _ _ e in
     let r = record-room _ VA _ any (l .place) (l .end) (l .next) s _ q f in (r .1, r .2)
 
 write-fields-loop-again : (t : ℕ) → write-fields-lts.Need-loop-again (write-fields-claims t) (write-fields-at t) write-fields.Post write-fields-Inv-loop write-fields-μ-loop
-write-fields-loop-again t c = let a = c .before .before .before .before .before .before .before .before .before .before .before .before .before .before .args in let R = c .before .before .before .before .before .before .before .before .before .before .before .before .before .before .pre .1 in let t = a .table .now in let s = a .sheet .now in let o = a .out .now in let I = innerOf t (a .levels) in let es = enums t in let n = c .before .before .before .before .before .before .before .before .field-count .result in let sw = widthOf t (a .depth - 1) in let S = staticOf t (a .levels) (a .depth - 1) in let l = c .before .before .before .before .before .before .before .loop in let i = l .inv in let f = field-fits _ _ _ _ n (l .i) (l .place) (l .end) (l .next) s _ I sw S es t (l .field) (i .4) (c .before .before .before .before .before .before .loop-test .taken) in let e = c .before .before .before .before .before .plain-width .ensures .0 (c .before .before .before .before .if1 .taken) es in let q = field-plain I sw S (fieldAt es (drop (l .field) t)) (l .place) (l .end) (l .next) s _ _ e in let m = fields-more es t (l .field) n (l .i) (c .before .before .before .before .before .before .loop-test .taken) in
+write-fields-loop-again t c = let a = c .before .before .before .before .before .before .before .before .before .before .before .before .before .before .args in let R = c .before .before .before .before .before .before .before .before .before .before .before .before .before .before .pre .1 in let t = a .table .now in let s = a .sheet .now in let o = a .out .now in let I = innerOf t (a .levels) in let es = enums t in let n = c .before .before .before .before .before .before .before .before .field-count .result in let sw = widthOf t (a .depth - 1) in let S = staticOf t (a .levels) (a .depth - 1) in let l = c .before .before .before .before .before .before .before .loop in let i = l .inv in let f = field-fits _ _ _ _ n (l .i) (l .place) (l .end) (l .next) s _ I sw S es t (l .field) (i .4) (c .before .before .before .before .before .before .loop-test .taken) in let e = plain-is es _ _ (c .before .before .before .before .before .plain-width .ensures .0 es) (c .before .before .before .before .if1 .taken) in let q = field-plain I sw S (fieldAt es (drop (l .field) t)) (l .place) (l .end) (l .next) s _ _ e in let m = fields-more es t (l .field) n (l .i) (c .before .before .before .before .before .before .loop-test .taken) in
     let p = plain-wide sw _ _ _ e in (
       search needs,
       search needs,

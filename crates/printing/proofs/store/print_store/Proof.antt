@@ -1,14 +1,14 @@
-use borrow.Author.Needs.{needs}
-use Prim.Native.Nat.{_≤_, _-_}
+use Prim.Native.Nat.{_-_, _≤_, _/_}
 use lib.ListN.{length}
+use borrow.Author.Needs.{needs}
 use Rattle.printing.proofs.store.print_store.Statement.{statement}
 use Rattle.printing.proofs.store.print_store.Tie as tie
 
 abbrev Inv-loop : tie.InvT-loop
-Inv-loop store at₀ at = at ≤ length store
+Inv-loop store n₀ n = n ≤ length store / 9
 
 abbrev μ-loop : tie.MeasureT-loop
-μ-loop store at₀ at = length store - at
+μ-loop store n₀ n = length store / 9 - n
 
 pub print-store-spec : {M : Type 1} → statement M
 print-store-spec =
@@ -16,7 +16,6 @@ print-store-spec =
     (tie.spec
     Inv-loop
     μ-loop
-    (λ c. search needs)
     (λ c. search needs)
     (λ c κs. search needs)
     (λ c. search needs)

@@ -1,0 +1,15 @@
+use borrow.Author.Needs.{needs}
+use Rattle.inputs.specs.Commands.{adding}
+use Rattle.inputs.proofs.store_command.adding_version.Statement.{statement}
+use Rattle.inputs.proofs.store_command.adding_version.Tie as tie
+
+returns : tie.Need-returns
+unfolding adding
+returns c = rw (c .before .before .version .given .1) (c .about .ensures)
+
+returns-2 : tie.Need-returns-2
+unfolding adding
+returns-2 c = rw (c .enum-told .given .1)
+
+pub adding-version-spec : {M : Type 1} → statement M
+adding-version-spec = tie.close (tie.spec (λ c. search needs) (λ c κs. search needs) (λ c. search needs) returns returns-2)

@@ -1,0 +1,5 @@
+pub mod Words
+pub mod Numbers
+pub mod Arguments
+pub mod Commands
+pub mod Files

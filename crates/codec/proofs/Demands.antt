@@ -30,7 +30,9 @@ use Rattle.meaning.proofs.Packed.{no-pad}
 use Rattle.meaning.proofs.Eleven.{eleven}
 use Rattle.reading.specs.declared.Part.{Part}
 use Rattle.reading.specs.declared.Part.the-variants.{Refusal, Lies}
-use Rattle.reading.specs.Part.{bytesIn}
+use Rattle.reading.specs.Item.{itemOf}
+use Rattle.reading.specs.Number.{numberAt}
+use Rattle.reading.specs.Part.{partAt, bytesIn}
 use Rattle.reading.specs.Part as part
 use Rattle.reading.proofs.Alike.{walk-laxer}
 use Rattle.reading.proofs.Done.{need-done}
@@ -168,6 +170,11 @@ module _ (t st : List ℕ) (c : ℕ) (e : tableVerdict t ≡ Accepted) (pass : s
   unfolding toSheet sheetIn need
   sheet-written b s M scratch room h l = rw (M scratch h, le-leb _ _ l)
 
+  answers : (b s : List ℕ) → Means t st c b s → (scratch : ℕ) → length b ≤ scratch → (n i : ℕ)
+      → (numberAnswer t b (under st c scratch) n i ≡ numberAt b (itemOf gs b n i)) × (partAnswer t b (under st c scratch) n i ≡ partAt b (itemOf gs b n i))
+  unfolding numberAnswer partAnswer messageVerdict verdictOf numberUnder partUnder
+  answers b s M scratch h n i = rw (M scratch h) (refl, refl)
+
   reads-back : (s X Y r : List ℕ) (room : ℕ) → toMessage t s room ≡ wrote X Y r → (length X ≤ room) × Means t st c X s
   reads-back s X Y r room w = let (l, M) = trip.written-means gs (sized t e) x room s X Y r (sym (message-under t e s room) ∙ w) in (l, back X s M)
 
@@ -194,6 +201,7 @@ module _ (t st : List ℕ) (c : ℕ) (e : tableVerdict t ≡ Accepted) (pass : s
     sheet-short = λ b s M. eleven gs (sized t e) x b s [] (trip.means-walk x gs b s (there b s M) .1);
     listed = λ b s M. reads.listed x t b s [] (trip.means-walk x gs b s (there b s M) .1);
     unlisted = reads.own-cases gs;
+    answers = answers;
     reads-back = reads-back;
     only-room = only-room;
     room-exactly = room-exactly;

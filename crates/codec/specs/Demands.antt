@@ -17,7 +17,8 @@ use Rattle.meaning.specs.Lists.{sheetOf}
 use Rattle.meaning.specs.Packed.{Packed, Unheld}
 use Rattle.reading.specs.Item.{item, itemOf}
 use Rattle.reading.specs.Listed.{Listed, OwnCases}
-use Rattle.reading.specs.Part.{bytesIn}
+use Rattle.reading.specs.Number.{numberAt}
+use Rattle.reading.specs.Part.{partAt, bytesIn}
 use Rattle.reading.specs.declared.Number.the-variants.{Refused as NotRead}
 use Rattle.sheet.specs.Written.{stopped, wrote, sheetW}
 use Rattle.sheet.specs.Rewritten.{Rooms, Enough}
@@ -82,6 +83,8 @@ pub record Demand2 (t st : List ℕ) (c : ℕ) : Type 0 where
   -- What is read of a field is the value that is listed at its place, and where nothing is read there is none: "28 no such field, 29 absent, 28 no such item".
   pub listed : (b s : List ℕ) → Means t st c b s → (n i : ℕ) (f : Field) (p : ℕ) → itemOf (schema t) b n i ≡ item f p → Listed (governing st c) (schema t) b s n i f p
   pub unlisted : (b : List ℕ) (n i : ℕ) → OwnCases (schema t) b n i
+  pub answers : (b s : List ℕ) → Means t st c b s → (scratch : ℕ) → length b ≤ scratch → (n i : ℕ)
+      → (numberAnswer t b (under st c scratch) n i ≡ numberAt b (itemOf (schema t) b n i)) × (partAnswer t b (under st c scratch) n i ≡ partAt b (itemOf (schema t) b n i))
   -- "Every sheet that document 01 allows is written as a message that reads back as that sheet, or refused for room."
   pub reads-back : (s X Y r : List ℕ) (room : ℕ) → toMessage t s room ≡ wrote X Y r → (length X ≤ room) × Means t st c X s
   pub only-room : (s X : List ℕ) → Makes t s X → (room n p : ℕ) → toMessage t s room ≡ stopped n p → (n ≡ 47) × (p ≡ 0)

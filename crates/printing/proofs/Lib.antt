@@ -3,4 +3,3 @@ pub mod Numbers
 pub mod Places
 pub mod Texts
 pub mod Frames
-pub mod Last

@@ -2,7 +2,7 @@ use Prim.Native.Nat.{_≤_}
 use mathlib.Core.Path.{_≡_, refl, sym, _∙_}
 use borrow.Author.Tests.{eq-eqb, ne-eqb}
 use Rattle.settings.specs.Store.{newest}
-use Rattle.store.proofs.Laws.{last-hit, last-miss, last-none}
+use Rattle.settings.proofs.Last.{last-hit, last-miss, last-none}
 use borrow.Author.Needs.{needs}
 use Rattle.store.proofs.newest.Statement.{statement}
 use Rattle.store.proofs.newest.Tie as tie

@@ -1,7 +1,7 @@
 use Prim.Native.Nat.{_≤_}
 use mathlib.Core.Path.{_≡_, refl, sym, _∙_}
 use Rattle.settings.specs.Store.{versioned}
-use Rattle.store.proofs.Laws.{last-hit, last-miss, last-none}
+use Rattle.settings.proofs.Last.{last-hit, last-miss, last-none}
 use borrow.Author.Needs.{needs}
 use Rattle.store.proofs.versioned.Statement.{statement}
 use Rattle.store.proofs.versioned.Tie as tie

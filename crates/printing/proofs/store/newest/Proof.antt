@@ -4,7 +4,7 @@ use mathlib.Core.Bool.{_&&_}
 use lib.Dec.{eqb}
 use lib.ListN.{length}
 use Rattle.settings.specs.Store.{customerOf, stands, lastOf}
-use Rattle.printing.proofs.Last.{last-hit, last-miss, last-none}
+use Rattle.settings.proofs.Last.{last-hit, last-miss, last-none}
 use borrow.Author.Needs.{needs}
 use Rattle.printing.proofs.store.newest.Statement.{statement}
 use Rattle.printing.proofs.store.newest.Tie as tie

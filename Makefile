@@ -4,6 +4,8 @@
 run:
 	rt check
 	target/bin/blink show samples/blank.table samples/good.message
+	target/bin/blink show samples/blank.table samples/good.message > target/shown.text
+	target/bin/blink show samples/widths.table samples/good.message | cmp - target/shown.text
 	target/bin/blink read samples/blank.table samples/good-no-note.message 1
 	target/bin/blink read samples/blank.table samples/good-no-note.message 4
 	target/bin/blink check samples/blank.table samples/dusty.message

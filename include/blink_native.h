@@ -15,8 +15,8 @@
  *   one is written, blink_add_settings adds a record. It is checked in every call, in time linear in its length; one of
  *   more than 256 records takes 512 KiB of stack for that.
  *
- * Answers: a struct by value. `number` is 0 exactly where nothing is refused; else it is the first fault's number and `place` its
- *   byte, counted from 0 at the start of the message, table, store or sheet.
+ * Answers: a struct by value. `number` is 0 exactly where nothing is refused; else it is the first fault's number and
+ *   `place` its byte, counted from 0 at the start of the message, table, store or sheet.
  *
  * Scratch: working room, at least as long as the message (else fault 21); 65536 bytes are enough for every message.
  *   After faults 20, 21, 23 and 50 it is untouched. After every other answer its first bytes, as many as the message has, are

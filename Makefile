@@ -44,9 +44,9 @@ UNDER = --under samples/customers.store 12 samples/blank.table samples/rubbish.m
 
 # The examples in C and Rust, on the stored samples, and the Rust wrapper's tests. Not part of the gate.
 examples:
-	rt staticlib capi
+	rt staticlib blink_native
 	mkdir -p target/examples
-	$(CC) -std=c99 -Wall -Wextra -Wpedantic -Werror -Iinclude examples/check.c target/staticlib/libcapi.a -o target/examples/check
+	$(CC) -std=c99 -Wall -Wextra -Wpedantic -Werror -Iinclude examples/check.c target/staticlib/libblink_native.a -o target/examples/check
 	target/examples/check $(SAMPLES)
 	target/examples/check $(UNDER)
 	cargo run --offline --quiet --manifest-path bindings/rust/Cargo.toml --example check -- $(SAMPLES)
@@ -57,18 +57,18 @@ examples:
 # flatbuffers-compiler are installed, beside FlatBuffers. Not part of the gate.
 bench:
 	rt staticlib wire_bench
-	rt staticlib capi
+	rt staticlib blink_native
 	cargo run --release --offline --quiet --manifest-path bench/Cargo.toml --bin leaves
 	cargo run --release --offline --quiet --manifest-path bench/Cargo.toml --bin questions
 ifneq ($(and $(wildcard /usr/include/flatbuffers/reflection.h),$(shell command -v flatc)),)
 	mkdir -p target/flatbuffers
 	flatc --cpp -o target/flatbuffers bench/flatbuffers/blank.fbs
 	flatc --binary --schema -o target/flatbuffers bench/flatbuffers/blank.fbs
-	$(CXX) -std=c++17 -O3 -Wall -Wextra -iquote target/flatbuffers -Iinclude bench/flatbuffers/compare.cpp target/staticlib/libcapi.a -lflatbuffers -o target/flatbuffers/compare
+	$(CXX) -std=c++17 -O3 -Wall -Wextra -iquote target/flatbuffers -Iinclude bench/flatbuffers/compare.cpp target/staticlib/libblink_native.a -lflatbuffers -o target/flatbuffers/compare
 	target/flatbuffers/compare samples/blank.table target/flatbuffers/blank.bfbs
 endif
 
 # Random questions, compared with the second program. Not part of the gate.
 fuzz:
-	rt staticlib capi
+	rt staticlib blink_native
 	cargo run --release --offline --quiet --manifest-path bench/Cargo.toml --bin fuzz -- 100000

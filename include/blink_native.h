@@ -1,4 +1,5 @@
-/* Blink Native: the proved questions for C. Link with libcapi.a (`rt staticlib capi` writes target/staticlib/libcapi.a).
+/* Blink Native: the proved questions for C. Link with libblink_native.a, which `rt staticlib blink_native` writes to
+ * target/staticlib.
  *
  * Slices: bytes pass as a pointer to the first one and their number. Where the number is 0 the pointer may be anything.
  *   A `const uint8_t *` is only read. A `uint8_t *` is a room lent to the question for the call; two parameters must not

@@ -1,3 +1,4 @@
 pub mod Flag
 pub mod Nan
 pub mod Claims
+pub mod Told

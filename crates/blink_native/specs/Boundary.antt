@@ -1,7 +1,8 @@
 -- The answers as C takes them.
 use mathlib.Core.Bool.{not, cond}
-use Prim.Native.Nat.{ℕ}
-use lib.Dec.{T}
+use mathlib.Core.List.{List, []}
+use Prim.Native.Nat.{ℕ, _+_, _*_}
+use lib.Dec.{T, ltb}
 use lib.IntN.{ℤ, pos}
 use lib.Ieee.{binary64, isNan, toBits}
 use Rattle.wire.specs.Bytes.{pattern}
@@ -15,6 +16,7 @@ use Rattle.codec.specs.declared.Written.{Written}
 use Rattle.codec.specs.declared.Written.the-variants.{Bytes, Refused as Unwritten}
 use Rattle.codec.specs.declared.Span.{Span}
 use Rattle.codec.specs.declared.Span.the-variants.{Bytes as Lie, Refused as NoBytes}
+use Rattle.faults.specs.Words.{wordsOf, faults}
 use Rattle.blink_native.specs.declared.BlinkVerdict.{BlinkVerdict}
 use Rattle.blink_native.specs.declared.BlinkWritten.{BlinkWritten}
 use Rattle.blink_native.specs.declared.BlinkNumber.{BlinkNumber}
@@ -64,3 +66,11 @@ NoNan (Decimal e x) = Unit
 NoNan (Float x) = T (not (isNan x))
 NoNan (NanBits x) = Unit
 NoNan (NotRead n p) = Unit
+
+-- What a number means in words: no fault's number is above a byte.
+unfoldable pub faultWords : ℕ → List ℕ
+faultWords n = cond (ltb n 256) (wordsOf n faults) []
+
+-- A version as one number, so that a later one is greater.
+abbrev pub version : ℕ → ℕ → ℕ → ℕ
+version major minor patch = 65536 * major + 256 * minor + patch

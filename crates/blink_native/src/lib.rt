@@ -5,7 +5,8 @@ ghost use lib.ListN.{length};
 ghost use Rattle.schema.specs.Table.{tableVerdict};
 ghost use Rattle.settings.specs.Store.{storeVerdict, settingAt, addVerdict, storeAfter};
 ghost use Rattle.codec.specs.Answers.{under, messageVerdict, scratchAfter, writtenOf, roomAfter, toSheet, toMessage, rewriting, rooms, numberAnswer, spanAnswer};
-ghost use Rattle.blink_native.specs.Boundary.{exported, exportedWritten, exportedNumber, exportedSpan, exportedSettings, answered, NoNan};
+ghost use Rattle.faults.specs.Words.{fitted};
+ghost use Rattle.blink_native.specs.Boundary.{exported, exportedWritten, exportedNumber, exportedSpan, exportedSettings, answered, NoNan, faultWords, version};
 
 // number 0: accepted.
 #[repr(C)]
@@ -157,6 +158,26 @@ fn export_number(n: codec::Number) -> BlinkNumber
             bits: 0,
         },
     }
+}
+
+// 0.2.0.
+#[no_mangle]
+pub extern "C" fn blink_version() -> u32
+    ensures { λ r. ⌜ r ≡ version 0 2 0 ⌝ }
+{
+    0x00_02_00
+}
+
+// What a fault's number means: how long the words are, and as many of them as fit. 0 where no fault has the number.
+#[no_mangle]
+pub extern "C" fn blink_fault_words(number: u32, room: &mut [u8]) -> usize
+    ensures { λ r. ⌜ r ≡ length (faultWords number) ⌝ }
+    ensures { λ _. ⌜ now (room .exit) ≡ fitted (faultWords number) (now (room .entry)) ⌝ }
+{
+    if 256 <= number {
+        return 0;
+    }
+    faults::copy_words(number as u8, room)
 }
 
 #[no_mangle]

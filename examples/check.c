@@ -13,8 +13,8 @@
 #include <stdlib.h>
 #include <string.h>
 
-enum { BARCODE = 0 };   /* Blank's first field: fields count from 0 */
-enum { LIMIT = 65536 }; /* no table and no message is longer; nor is a store here */
+enum { BARCODE = 0 };                   /* Blank's first field: fields count from 0 */
+enum { LIMIT = BLINK_LONGEST_MESSAGE }; /* no table is longer either, nor is a store here */
 
 /* A settings store, and whose messages are read. An empty store ignores nothing. */
 typedef struct {
@@ -39,6 +39,13 @@ static int load(const char *name, uint8_t bytes[LIMIT + 1], size_t *length) {
     return !failed;
 }
 
+/* Says that something is refused, and why. */
+static void refuse(const char *name, const char *what, uint32_t number, uint64_t place) {
+    uint8_t words[256];
+    size_t length = blink_fault_words(number, words, sizeof words);
+    printf("%s: %s, fault %" PRIu32 " at byte %" PRIu64 ": %.*s\n", name, what, number, place, (int)length, (char *)words);
+}
+
 static void check(const char *name, const uint8_t *table, size_t table_length, const Settings *under,
                   const uint8_t *message, size_t message_length) {
     static uint8_t scratch[LIMIT];
@@ -49,7 +56,7 @@ static void check(const char *name, const uint8_t *table, size_t table_length, c
     if (verdict.number == 0) {
         printf("%s: accepted\n", name);
     } else {
-        printf("%s: refused, fault %" PRIu32 " at byte %" PRIu64 "\n", name, verdict.number, verdict.place);
+        refuse(name, "refused", verdict.number, verdict.place);
     }
 
     /* It makes every check itself, so it may be asked first. */
@@ -61,14 +68,14 @@ static void check(const char *name, const uint8_t *table, size_t table_length, c
         fwrite(message + barcode.offset, 1, barcode.length, stdout);
         putchar('\n');
     } else {
-        printf("%s: no barcode, fault %" PRIu32 " at byte %" PRIu64 "\n", name, barcode.number, barcode.place);
+        refuse(name, "no barcode", barcode.number, barcode.place);
     }
 }
 
 /* Says why a table or a store is refused, if it is. */
 static int passes(const char *name, BlinkVerdict verdict) {
     if (verdict.number != 0) {
-        printf("%s: refused, fault %" PRIu32 " at byte %" PRIu64 "\n", name, verdict.number, verdict.place);
+        refuse(name, "refused", verdict.number, verdict.place);
     }
     return verdict.number == 0;
 }
@@ -92,6 +99,10 @@ int main(int count, char **names) {
     size_t message_length;
     int first = 1;
 
+    if (blink_version() != BLINK_VERSION) {
+        fprintf(stderr, "%s: the library is not of the header's version\n", names[0]);
+        return 1;
+    }
     if (count > 3 && strcmp(names[1], "--under") == 0) {
         if (!load_settings(names[2], names[3], &under)) {
             return 1;

@@ -1,5 +1,5 @@
-/* Blink Native: the proved questions for C. Link with libblink_native.a, which `rt staticlib blink_native` writes to
- * target/staticlib.
+/* Blink Native: the proved questions for C. Link with libblink_native.a or libblink_native.so: `make install` puts both and
+ * a pkg-config file below a prefix, and without it `rt staticlib blink_native` writes target/staticlib/libblink_native.a.
  *
  * Slices: bytes pass as a pointer to the first one and their number. Where the number is 0 the pointer may be anything.
  *   A `const uint8_t *` is only read. A `uint8_t *` is a room lent to the question for the call; two parameters must not
@@ -13,8 +13,7 @@
  *   the faults 4, 6 and 8 are no faults in this customer's messages; the bytes that they are about reach no sheet and no
  *   reading. An empty store (NULL, 0) ignores nothing, and so does a customer that it does not know.
  *   A store is lent like other bytes: records of 9 bytes from its start on, zeros behind them. samples/README.md says how
- *   one is written, blink_add_settings adds a record. It is checked in every call, in time linear in its length; one of
- *   more than 256 records takes 512 KiB of stack for that.
+ *   one is written, blink_add_settings adds a record. It is checked in every call, in time linear in its length.
  *
  * Answers: a struct by value. `number` is 0 exactly where nothing is refused; else it is the first fault's number and
  *   `place` its byte, counted from 0 at the start of the message, table, store or sheet.
@@ -25,7 +24,11 @@
  * Other rooms: on success the first `length` bytes are written and the rest is untouched. On a refusal they are untouched,
  *   but for the sheet room of blink_rewrite, which says its own rule.
  *
- * Faults, as in faults.txt beside this file:
+ * Stack: a question takes less than 28 KiB, and less than 516 KiB with a store of more than 256 records. Measured, not
+ *   proved: 26,847 bytes for a message to level 9 in static groups four deep, 10,063 for a table of 64 static groups, and
+ *   525,703 for a store of 116,508 records (`make bench`). So a thread that asks wants a stack of 64 KiB, or of 640 KiB.
+ *
+ * Faults; blink_fault_words gives the words, and an enumeration below has a name for each:
  *  1 a group's size is under 12: too short for its type id and its extension offset
  *  2 no group of the table has this type id
  *  3 the extension offset leads outside the group's data area
@@ -91,6 +94,68 @@
 extern "C" {
 #endif
 
+/* The version of this header; blink_version() is that of the library. */
+#define BLINK_VERSION_MAJOR 0
+#define BLINK_VERSION_MINOR 2
+#define BLINK_VERSION_PATCH 0
+#define BLINK_VERSION (BLINK_VERSION_MAJOR << 16 | BLINK_VERSION_MINOR << 8 | BLINK_VERSION_PATCH)
+
+/* Limits, in bytes: a longer message is fault 23, table 30, sheet 42. A sheet is at most BLINK_SHEET_FACTOR times as long as
+ * its message. */
+#define BLINK_LONGEST_MESSAGE 65536
+#define BLINK_LONGEST_TABLE 65536
+#define BLINK_LONGEST_SHEET 1048576
+#define BLINK_SHEET_FACTOR 11
+
+/* The faults' names. A good message meets BLINK_FAULT_FIELD_ABSENT too, where an optional field is read that it leaves out. */
+enum {
+    BLINK_NO_FAULT = 0,
+    BLINK_FAULT_GROUP_SIZE = 1,
+    BLINK_FAULT_TYPE_ID = 2,
+    BLINK_FAULT_EXTENSION_OFFSET = 3,
+    BLINK_FAULT_ABSENT_FIELD_BYTES = 4,
+    BLINK_FAULT_OFFSET = 5,
+    BLINK_FAULT_PAD_BYTES = 6,
+    BLINK_FAULT_INLINE_COUNT = 7,
+    BLINK_FAULT_UNUSED_BYTES = 8,
+    BLINK_FAULT_UTF8 = 9,
+    BLINK_FAULT_SYMBOL = 10,
+    BLINK_FAULT_FLAG = 11,
+    BLINK_FAULT_TIME_OF_DAY = 12,
+    BLINK_FAULT_SEQUENCE_ITEMS = 13,
+    BLINK_FAULT_GROUP_FIELDS = 14,
+    BLINK_FAULT_TABLE = 20,
+    BLINK_FAULT_SCRATCH = 21,
+    BLINK_FAULT_MESSAGE_SIZE = 22,
+    BLINK_FAULT_MESSAGE_TOO_LONG = 23,
+    BLINK_FAULT_LEVEL = 24,
+    BLINK_FAULT_GROUP_TYPE = 25,
+    BLINK_FAULT_VALUE_PAST_END = 26,
+    BLINK_FAULT_VALUES_OVERLAP = 27,
+    BLINK_FAULT_NO_SUCH_FIELD = 28,
+    BLINK_FAULT_FIELD_ABSENT = 29,
+    BLINK_FAULT_TABLE_LENGTH = 30,
+    BLINK_FAULT_TABLE_RECORDS = 31,
+    BLINK_FAULT_TABLE_ZEROS = 32,
+    BLINK_FAULT_TABLE_RANGE = 33,
+    BLINK_FAULT_TABLE_NUMBERS = 34,
+    BLINK_FAULT_TABLE_WIDTH = 35,
+    BLINK_FAULT_TABLE_SUPER = 36,
+    BLINK_FAULT_TABLE_STORED_WIDTH = 37,
+    BLINK_FAULT_SHEET_CUT = 40,
+    BLINK_FAULT_SHEET_MARK = 41,
+    BLINK_FAULT_SHEET_TOO_LONG = 42,
+    BLINK_FAULT_SHEET_REST = 43,
+    BLINK_FAULT_SHEET_EMPTY_EXTENSION = 44,
+    BLINK_FAULT_SHEET_KNOWN_GROUP = 45,
+    BLINK_FAULT_SHEET_ROOM = 46,
+    BLINK_FAULT_MESSAGE_ROOM = 47,
+    BLINK_FAULT_FIELD_KIND = 48,
+    BLINK_FAULT_STORE = 50,
+    BLINK_FAULT_STORE_FULL = 51,
+    BLINK_FAULT_NO_SETTINGS = 59
+};
+
 /* Whether it is accepted. */
 typedef struct {
     uint32_t number; /* 0: accepted */
@@ -140,6 +205,13 @@ typedef struct {
     uint32_t pads;
     uint32_t unused;
 } BlinkSettings;
+
+/* The library's version, as BLINK_VERSION is the header's: major << 16 | minor << 8 | patch. */
+uint32_t blink_version(void);
+
+/* Writes a fault's words, as above and without a line end, at the start of the room, as many bytes of them as fit; no 0 is
+ * added. Answers how long the words are, whatever fits; 0 where no fault has the number. 256 bytes are enough for each. */
+size_t blink_fault_words(uint32_t number, uint8_t *room, size_t room_length);
 
 /* Is the schema table accepted? Faults 30 to 37. */
 BlinkVerdict blink_check_table(const uint8_t *table, size_t table_length);

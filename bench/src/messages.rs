@@ -82,6 +82,59 @@ fn nested() -> Case {
     }
 }
 
+/// The same, where each group but the last is what `held` makes of the next one: its fields, and its data area.
+fn deep(name: &'static str, inner: Vec<Vec<u8>>, levels: usize, held: impl Fn(&[u8]) -> Vec<u8>) -> Case {
+    let mut table = group(None, 0, &inner);
+    for number in 0..3 {
+        table.extend(group(None, 0, &[field(21, false, false, 0, number)]));
+    }
+    table.extend(group(Some(1), 0, &[field(21, false, false, 0, 3)]));
+    let mut message = held(&[]);
+    for _ in 1..levels {
+        message = held(&message);
+    }
+    Case { name, table, message }
+}
+
+/// Groups to level 8, each in a static group four deep, where a walk calls itself most often; the last two go to level 9.
+pub fn deep_cases() -> Vec<Case> {
+    let optional = |inner: &[u8]| match inner {
+        [] => dynamic(1, &[0; 5], &[]),
+        _ => dynamic(1, &[1, 4, 0, 0, 0], inner),
+    };
+    let listed = |inner: &[u8]| match inner {
+        [] => dynamic(1, &[4, 0, 0, 0], &[0; 4]),
+        _ => dynamic(1, &[4, 0, 0, 0], &sequence_of(&[inner.to_vec()])),
+    };
+    let extended = |inner: &[u8]| {
+        let mut bytes = dynamic(1, &[7], &if inner.is_empty() { Vec::new() } else { sequence_of(&[inner.to_vec()]) });
+        bytes[12] = if inner.is_empty() { 0 } else { 5 };
+        bytes
+    };
+    let one = |number, optional, sequence, named| vec![field(number, optional, sequence, 0, named)];
+    vec![
+        deep("an optional group of level 8", one(22, true, false, 4), 8, optional),
+        deep("an optional group of level 8, of any type", one(23, true, false, 0), 8, optional),
+        deep("a sequence of groups of level 8", one(22, false, true, 4), 8, listed),
+        deep("a sequence of groups of level 8, of any type", one(23, false, true, 0), 8, listed),
+        deep("an extension's group of level 8", one(1, false, false, 0), 8, extended),
+        deep("a sequence of groups of level 9", one(22, false, true, 4), 9, listed),
+        deep("an extension's group of level 9", one(1, false, false, 0), 9, extended),
+    ]
+}
+
+/// The sheet of sequences of groups like these, to a level.
+pub fn deep_sheet(levels: usize) -> Vec<u8> {
+    let opened = b"GB\x01\0\0\0\0\0\0\0SGSGSGSGSQ";
+    let mut sheet = Vec::new();
+    for level in 1..=levels {
+        sheet.extend(opened);
+        sheet.extend(u32::from(level < levels).to_le_bytes());
+    }
+    sheet.extend(b"GE".repeat(levels));
+    sheet
+}
+
 fn small_groups() -> Case {
     let groups: Vec<_> = (0..2700u32).map(|i| dynamic(2, &i.to_le_bytes(), &[])).collect();
     let mut table = group(Some(1), 0, &[field(23, false, true, 0, 0)]);

@@ -89,3 +89,12 @@ pub fn chain(groups: u16, fields: usize) -> Vec<u8> {
     let fields = vec![field(5, false, false, 0, 0); fields];
     (0..groups).flat_map(|number| group(Some(u64::from(number) + 1), number, &fields)).collect()
 }
+
+/// So many groups, each with the one before as a static group: five nest too deep.
+pub fn stairs(groups: u16) -> Vec<u8> {
+    let mut table = group(Some(1), 0, &[field(1, false, false, 0, 0)]);
+    for number in 1..groups {
+        table.extend(group(None, 0, &[field(21, false, false, 0, number - 1)]));
+    }
+    table
+}

@@ -4,7 +4,7 @@
 //!     cargo run --example check -- --under STORE CUSTOMER TABLE MESSAGE..
 //!
 //! `make examples` runs it on samples/. A refused message hands out nothing but its fault, whichever question is asked.
-use blink_native::{check_store, check_table, Settings, MESSAGE_LIMIT};
+use blink_native::{check_store, Settings, Table, MESSAGE_LIMIT};
 use std::error::Error;
 
 const USAGE: &str = "usage: check [--under STORE CUSTOMER] TABLE MESSAGE..";
@@ -22,19 +22,20 @@ fn main() -> Result<(), Box<dyn Error>> {
     }
     let settings = Settings::of(&store, customer);
     let table = std::fs::read(names.next().ok_or(USAGE)?)?;
-    check_table(&table).map_err(|fault| fault.to_string())?;
+    let table = Table::new(table).map_err(|fault| fault.to_string())?;
+    let table = table.under(settings);
 
     let mut scratch = vec![0; MESSAGE_LIMIT];
     for name in names {
         let message = std::fs::read(&name)?;
-        match settings.check_message(&table, &message, &mut scratch) {
+        match table.check_message(&message, &mut scratch) {
             Ok(()) => println!("{name}: accepted"),
             Err(fault) => println!("{name}: refused, {fault}"),
         }
         // It makes every check itself, so it may be asked first.
-        match settings.read_bytes(&table, &message, &mut scratch, BARCODE, 0) {
-            Ok(barcode) => println!("{name}: barcode {}", std::str::from_utf8(barcode)?),
-            Err(fault) => println!("{name}: no barcode, {fault}"),
+        match table.read_str(&message, &mut scratch, BARCODE, 0) {
+            Ok(barcode) => println!("{name}: barcode {barcode}"),
+            Err(error) => println!("{name}: no barcode, {error}"),
         }
     }
     Ok(())

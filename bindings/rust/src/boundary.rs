@@ -40,6 +40,10 @@ pub struct BlinkSettings {
 }
 
 extern "C" {
+    pub fn blink_version() -> u32;
+
+    pub fn blink_fault_words(number: u32, room: *mut u8, room_length: usize) -> usize;
+
     pub fn blink_check_table(table: *const u8, table_length: usize) -> BlinkVerdict;
 
     pub fn blink_check_message(

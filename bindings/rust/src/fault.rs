@@ -1,7 +1,5 @@
+use crate::boundary;
 use std::fmt;
-
-/// What each number means, a line each.
-const FAULTS: &str = include_str!("../../../include/faults.txt");
 
 /// Why a question is refused: the first fault, in the fixed order of tests.
 ///
@@ -19,10 +17,37 @@ pub struct Fault {
 }
 
 impl Fault {
-    /// What the number means.
-    pub fn meaning(&self) -> &'static str {
-        let number = format!("{:2} ", self.number);
-        FAULTS.lines().find_map(|line| line.strip_prefix(&number)).unwrap_or("no fault has this number")
+    /// What the number means, in the library's words; empty where no fault has it.
+    ///
+    /// ```
+    /// assert_eq!(blink_native::Fault { number: 29, place: 0 }.meaning(), "the field is absent");
+    /// ```
+    pub fn meaning(&self) -> String {
+        let mut room = [0; 256];
+        // SAFETY: pointer and length are the room's own.
+        let length =
+            unsafe { boundary::blink_fault_words(u32::from(self.number), room.as_mut_ptr(), room.len()) };
+        String::from_utf8_lossy(&room[..length.min(room.len())]).into_owned()
+    }
+
+    /// Whether it says that a field is absent, fault 29: in a good message too, where an optional field is left out.
+    ///
+    /// ```
+    /// # let table = b"GR\x02\0\0\0\0\0\0\0\x01\0\0\x02\0\0\
+    /// #               FD\x05\0\0\0\0\0\0\0\0\0\0\0\0\0\
+    /// #               FD\x05\x01\0\0\0\0\0\0\0\0\0\0\0\0";
+    /// // A bill without a tip.
+    /// let message = b"\x15\0\0\0\x02\0\0\0\0\0\0\0\0\0\0\0\xe8\x03\0\0\0\0\0\0\0";
+    /// let tip = match blink_native::read_number(table, message, &mut [0; 25], 1, 0) {
+    ///     Ok(number) => Some(number),
+    ///     Err(fault) if fault.is_absent() => None,
+    ///     Err(fault) => return Err(fault),
+    /// };
+    /// assert_eq!(tip, None);
+    /// # Ok::<(), blink_native::Fault>(())
+    /// ```
+    pub const fn is_absent(&self) -> bool {
+        self.number == 29
     }
 
     fn has_place(&self) -> bool {

@@ -7,6 +7,8 @@
 //! faults 20, 21, 23 and 50 it is untouched. After every other answer its first bytes, as many as the message has, are
 //! zero, and the rest is untouched.
 //!
+//! A [`Table`] that was checked once is a type of its own, and has the questions as its methods.
+//!
 //! Some customers' stations leave rubbish in bytes that mean nothing. [`Settings`] say, by customer, in which; they answer
 //! the same questions.
 //!
@@ -34,15 +36,36 @@
 mod boundary;
 mod fault;
 mod settings;
+mod table;
+mod text;
 
 pub use fault::Fault;
 pub use settings::{add_settings, check_store, read_settings, Ignored, Settings};
+pub use table::{Table, Under};
+pub use text::TextError;
 
 /// No message is longer, in bytes.
 pub const MESSAGE_LIMIT: usize = 65_536;
 
+/// No schema table is longer, in bytes.
+pub const TABLE_LIMIT: usize = 65_536;
+
+/// No sheet is longer, in bytes.
+pub const SHEET_LIMIT: usize = 1_048_576;
+
 /// A sheet is at most this many times as long as its message.
 pub const SHEET_FACTOR: usize = 11;
+
+/// The version of the library that is linked: major, minor, patch.
+///
+/// ```
+/// assert_eq!(blink_native::version(), [0, 2, 0]);
+/// ```
+pub fn version() -> [u8; 3] {
+    // SAFETY: it takes nothing.
+    let [_, version @ ..] = unsafe { boundary::blink_version() }.to_be_bytes();
+    version
+}
 
 /// Whether it is accepted.
 pub type Verdict = Result<(), Fault>;
@@ -256,4 +279,31 @@ pub fn read_bytes<'a>(
     item: usize,
 ) -> Result<&'a [u8], Fault> {
     Settings::NONE.read_bytes(table, message, scratch, field, item)
+}
+
+/// A string, as a part of the message.
+///
+/// As [`read_bytes`], and the bytes must be UTF-8 as Rust has it. An accepted message's strings are, but for one case, which
+/// is [`TextError::NotStr`]: the format's table lets halves of surrogate pairs pass.
+///
+/// ```
+/// # let table = b"GR\x01\0\0\0\0\0\0\0\x01\0\0\x01\0\0\
+/// #               FD\x11\0\0\0\0\0\0\0\0\0\0\0\0\0";
+/// # let message = b"\x19\0\0\0\x01\0\0\0\0\0\0\0\0\0\0\0\x04\0\0\0\x05\0\0\0Hello";
+/// # let mut scratch = vec![0; message.len()];
+/// use blink_native::{read_str, TextError};
+/// assert_eq!(read_str(table, message, &mut scratch, 0, 0)?, "Hello");
+///
+/// let half = b"\x17\0\0\0\x01\0\0\0\0\0\0\0\0\0\0\0\x04\0\0\0\x03\0\0\0\xed\xa0\x80";
+/// assert!(matches!(read_str(table, half, &mut scratch, 0, 0), Err(TextError::NotStr(_))));
+/// # Ok::<(), TextError>(())
+/// ```
+pub fn read_str<'a>(
+    table: &[u8],
+    message: &'a [u8],
+    scratch: &mut [u8],
+    field: usize,
+    item: usize,
+) -> Result<&'a str, TextError> {
+    Settings::NONE.read_str(table, message, scratch, field, item)
 }

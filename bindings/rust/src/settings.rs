@@ -1,3 +1,4 @@
+use crate::text::{text, TextError};
 use crate::{boundary, verdict, written, Fault, Number, Verdict};
 
 /// Which bytes may hold anything: none of them means anything, and none reaches a sheet or a rewritten message.
@@ -202,6 +203,18 @@ impl<'a> Settings<'a> {
         };
         verdict(answer.number, answer.place)?;
         Ok(&message[answer.offset as usize..][..answer.length as usize])
+    }
+
+    /// As [`read_str`](crate::read_str), under these settings.
+    pub fn read_str<'m>(
+        self,
+        table: &[u8],
+        message: &'m [u8],
+        scratch: &mut [u8],
+        field: usize,
+        item: usize,
+    ) -> Result<&'m str, TextError> {
+        text(self.read_bytes(table, message, scratch, field, item))
     }
 }
 

@@ -1,0 +1,5 @@
+mod Texts
+mod Days
+mod Rooms
+mod Names
+mod Claims

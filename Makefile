@@ -1,4 +1,4 @@
-.PHONY: help library command run test examples bench fuzz install uninstall clean
+.PHONY: help library command run test try examples bench fuzz install uninstall clean
 
 PREFIX = /usr/local
 DESTDIR =
@@ -7,6 +7,7 @@ help:
 	@echo 'make run        proves what changed, builds the command and walks through samples/'
 	@echo 'make test       the gate, from nothing'
 	@echo 'make command    target/blink'
+	@echo 'make try        the command tried as a shop floor uses it, and the examples of the pages'
 	@echo 'make library    target/staticlib/libblink_native.a and target/shared/libblink_native.so'
 	@echo 'make install    command, libraries, header, pkg-config file and man page, below PREFIX=$(PREFIX)'
 	@echo 'make uninstall  takes them away again'
@@ -56,7 +57,11 @@ REFUSED = ; test $$? = 1
 
 run: command
 	rt check
+	$(BLINK) check samples/blank.table
+	$(BLINK) table samples/blank.table
+	$(BLINK) check samples/blank.table samples/good.message samples/padded.message
 	$(BLINK) show samples/blank.table samples/good.message
+	$(BLINK) dump samples/blank.table samples/dusty.message $(REFUSED)
 	$(BLINK) show samples/blank.table samples/good.message > target/shown.text
 	$(BLINK) show samples/widths.table samples/good.message | cmp - target/shown.text
 	$(BLINK) read samples/blank.table samples/good-no-note.message 1
@@ -91,6 +96,11 @@ run: command
 # The gate, as it decides what lands.
 test:
 	.ci/run
+
+# The command on full disks, closed descriptors, odd files and damaged inputs, and what the pages say that it prints. Not part of the gate.
+try: command
+	python3 tests/command.py
+	python3 tests/readme.py
 
 SAMPLES = samples/blank.table samples/good.message samples/dusty.message
 UNDER = --under samples/customers.store 12 samples/blank.table samples/rubbish.message

@@ -1,5 +1,3 @@
 pub mod Words
 pub mod Numbers
-pub mod Arguments
 pub mod Commands
-pub mod Files

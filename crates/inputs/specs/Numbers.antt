@@ -19,9 +19,9 @@ unfoldable pub valueFrom : ℕ → List ℕ → ℕ
 valueFrom n [] = n
 valueFrom n (d ∷ ds) = valueFrom (10 * n + (d - 48)) ds
 
--- A number is digits, at least one, and below 1000000000.
+-- A number is digits, at least one, and below 2 ^ 64.
 unfoldable pub decimalOf : List ℕ → Count
-decimalOf s = cond (ltb 0 (length s) && (allDigits s && ltb (valueFrom 0 s) 1000000000)) (Is (valueFrom 0 s)) Wrong
+decimalOf s = cond (ltb 0 (length s) && (allDigits s && ltb (valueFrom 0 s) 18446744073709551616)) (Is (valueFrom 0 s)) Wrong
 
 unfoldable pub shortOf : Count → Short
 shortOf (Is n) = cond (leb n 65535) (IsShort n) NoShort

@@ -1,156 +1,114 @@
 // The command's arguments. An option takes the argument behind it as its value, and the two may stand anywhere. The others are plain, and
 // are counted with no regard to the options: the command's word is plain argument 1.
 //
-// No contract knows the arguments. What is worked out of them is worked out of flags, one for each.
+// `options` refuses an option whose value is missing or is an option. So an argument is plain if neither it nor the one before it is an
+// option.
 use crate::words;
-ghost use mathlib.Core.Path.{_≡_};
-ghost use mathlib.Core.Bool.{cond};
-ghost use Prim.Native.Nat.{_+_, _-_, _<_, _≤_};
-ghost use lib.ListN.{length, getD};
-ghost use lib.Dec.{eqb};
-ghost use Rattle.inputs.specs.Arguments.{plainOf, stopsOf, behindFirst};
+ghost use Prim.Native.Nat.{_<_};
+ghost use Rattle.io.specs.Counts.{Counts};
 
-// No command takes more.
-const MOST: usize = 32;
-
-// How many arguments there are, the program's name among them.
-pub fn count() -> usize
-    ensures { λ r. ⌜ r ≤ 32 ⌝ }
+// Puts argument `i` into the room and answers its length; of a longer one, the room's.
+pub fn read(i: usize, room: &mut [u8]) -> usize
+    ensures { λ r. ⌜ Counts r (now (room .exit)) ⌝ }
 {
-    let n = os::arg_count();
-    if MOST < n {
-        return MOST;
+    let n = os::arg(i, room);
+    if os::errno() == libc::ENAMETOOLONG {
+        return room.len();
     }
     n
 }
 
-fn is_option(i: usize) -> bool {
-    let mut argument = io::buffer();
-    let n = os::arg(i, &mut argument);
-    words::is_option(&argument[..n])
-}
-
+// No word of the command has more letters.
 pub fn is_word(i: usize, word: &[u8]) -> bool {
-    let mut argument = io::buffer();
+    let mut argument = [0u8; 16];
     let n = os::arg(i, &mut argument);
     words::is_word(&argument[..n], word)
 }
 
-// Which arguments are options: 1 for each that is one.
-pub fn options() -> [u8; MOST]
-    ensures { λ r. ⌜ 32 ≡ length r ⌝ }
-{
-    let end = count();
-    let mut flags = [0u8; MOST];
-    let mut i = 1;
-    while i < end {
-        flags[i] = is_option(i) as u8;
-        i += 1;
+fn has_hyphens(i: usize) -> bool {
+    let mut start = [0u8; 2];
+    os::arg(i, &mut start);
+    words::is_option(&start)
+}
+
+// Two commands look like options.
+fn is_command(i: usize) -> bool {
+    is_word(i, b"--help") || is_word(i, b"--version")
+}
+
+// The program's name is none, whatever it is.
+pub fn is_option(i: usize) -> bool {
+    match i {
+        0 => false,
+        1 => has_hyphens(1) && !is_command(1),
+        _ => has_hyphens(i),
     }
-    flags
 }
 
-// The plain argument or option behind this one.
-pub fn next(options: &[u8], i: usize) -> usize
-    requires { ⌜ (i < 32) × (i < length (now options)) ⌝ }
-    ensures { λ r. ⌜ (r ≡ cond (eqb (getD (now (options .entry)) i 0) 0) (i + 1) (i + 2)) × (i < r) ⌝ }
-{
-    if options[i] == 0 {
-        return i + 1;
+fn is_plain(i: usize) -> bool {
+    if i == 0 {
+        return false;
     }
-    i + 2
+    !is_option(i) && !is_option(i - 1)
 }
 
-// How many are plain, the program's name among them.
-pub fn count_plain() -> usize {
-    let flags = options();
-    count_in(&flags, count())
-}
-
-fn count_in(options: &[u8], end: usize) -> usize
-    requires { ⌜ (end ≤ 32) × (end ≤ length (now options)) ⌝ }
-    ensures { λ r. ⌜ r ≡ 1 + length (plainOf (now (options .entry)) end) ⌝ }
+// The next plain argument behind argument `i`; where there is none, the number of arguments or more.
+pub fn next_plain(i: usize) -> usize
+    requires { ⌜ i < 18446744073709551615 ⌝ }
+    ensures { λ r. ⌜ i < r ⌝ }
 {
-    let mut i = 1;
-    let mut n = 1;
-    while i < end {
-        if options[i] == 0 {
-            n += 1;
-            i += 1;
-        } else {
-            i += 2;
+    let end = os::arg_count();
+    let mut next = i + 1;
+    while next < end {
+        if is_plain(next) {
+            return next;
         }
+        next += 1;
+    }
+    next
+}
+
+// Which argument is plain argument `number`; where there are fewer, the number of arguments or more.
+pub fn plain(number: usize) -> usize {
+    let end = os::arg_count();
+    let mut i = next_plain(0);
+    let mut left = number;
+    while i < end {
+        if left <= 1 {
+            return i;
+        }
+        left -= 1;
+        i = next_plain(i);
+    }
+    i
+}
+
+// How many are plain: the number of the last one.
+pub fn count_plain() -> usize {
+    let end = os::arg_count();
+    let mut i = next_plain(0);
+    let mut n = 0;
+    while i < end {
+        n += 1;
+        i = next_plain(i);
     }
     n
 }
 
-// Which argument is plain argument `number`; where there are fewer, one that is missing.
-pub fn plain(number: usize) -> usize {
-    let flags = options();
-    plain_in(&flags, count(), number)
-}
-
-fn plain_in(options: &[u8], end: usize, number: usize) -> usize
-    requires { ⌜ (end ≤ 32) × (end ≤ length (now options)) ⌝ }
-    ensures { λ r. ⌜ r ≡ getD (plainOf (now (options .entry)) end) (number - 1) end ⌝ }
-{
-    let mut i = 1;
-    let mut n = number;
-    while i < end {
-        if options[i] == 0 {
-            if n <= 1 {
-                return i;
-            }
-            n -= 1;
-            i += 1;
-        } else {
-            i += 2;
-        }
-    }
-    end
-}
-
-// Which arguments are this word: 1 for each that is.
-fn find(word: &[u8]) -> [u8; MOST]
-    ensures { λ r. ⌜ 32 ≡ length r ⌝ }
-{
-    let end = count();
-    let mut flags = [0u8; MOST];
-    let mut i = 1;
-    while i < end {
-        flags[i] = is_word(i, word) as u8;
-        i += 1;
-    }
-    flags
-}
-
 // Which argument is the value of this option; 0 where it is not given.
 pub fn value_of(option: &[u8]) -> usize {
-    let flags = options();
-    let found = find(option);
-    value_in(&flags, &found, count())
-}
-
-fn value_in(options: &[u8], found: &[u8], end: usize) -> usize
-    requires { ⌜ (end ≤ 32) × (end ≤ length (now options)) × (end ≤ length (now found)) ⌝ }
-    ensures { λ r. ⌜ r ≡ behindFirst (now (found .entry)) (stopsOf (now (options .entry)) end) ⌝ }
-{
+    let end = os::arg_count();
     let mut i = 1;
     while i < end {
-        if found[i] != 0 {
+        if is_word(i, option) {
             return i + 1;
         }
-        i = next(options, i);
+        i += 1;
     }
     0
 }
 
-// Whether argument `i` is there as an option's value. One that is too long for a name is: the file then says so.
+// Whether argument `i` is there as an option's value.
 pub fn is_value(i: usize) -> bool {
-    let mut argument = io::buffer();
-    let n = os::arg(i, &mut argument);
-    if os::errno() == libc::EINVAL {
-        return false;
-    }
-    !words::is_option(&argument[..n])
+    i < os::arg_count() && !is_option(i)
 }

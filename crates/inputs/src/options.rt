@@ -1,16 +1,17 @@
 // The options of the questions about a message: a settings store, and the customer whose message it is. Both or neither.
 use crate::arguments;
+use crate::complaints;
 use crate::numbers;
 use crate::numbers::Short;
 use crate::words;
 ghost use mathlib.Core.Path.{_≡_};
 ghost use Prim.Native.Nat.{_<_};
-ghost use Rattle.inputs.specs.declared.options.Options.the-variants.{Wrong};
 ghost use Rattle.inputs.specs.Commands.{isKnown, optionsOf};
 
 pub enum Options {
     Missing,
     Given { customer: u16 },
+    // Standard error has said why.
     Wrong,
 }
 
@@ -26,10 +27,9 @@ fn customer() -> usize {
 fn is_known(option: &[u8]) -> bool
     ensures { λ r. ⌜ r ≡ isKnown (now (option .entry)) ⌝ }
 {
-    words::is_word(option, b"--settings") || words::is_word(option, b"--customer")
+    words::is_either(option, b"--settings", b"--customer")
 }
 
-// What the options say. Where they are wrong, standard error says why.
 pub fn read() -> Options {
     if !are_right() {
         return Options::Wrong;
@@ -47,14 +47,19 @@ fn read_both(store: usize, customer: usize) -> Options {
     if customer == 0 {
         return one_alone(b"--settings", b"goes with --customer N");
     }
-    given_by(numbers::read_short(customer, b"--customer"))
+    read_customer(customer)
 }
 
-fn one_alone(option: &[u8], reason: &[u8]) -> Options
-    ensures { λ r. ⌜ r ≡ Wrong ⌝ }
-{
-    words::complain(option, reason);
+fn one_alone(option: &[u8], reason: &[u8]) -> Options {
+    complaints::complain(option, reason);
     Options::Wrong
+}
+
+fn read_customer(i: usize) -> Options {
+    if !numbers::is_short(i, b"--customer") {
+        return Options::Wrong;
+    }
+    given_by(numbers::short_of(numbers::decimal(i)))
 }
 
 fn given_by(customer: Short) -> Options
@@ -68,42 +73,41 @@ fn given_by(customer: Short) -> Options
 
 // Whether each option is known, has its value, and comes once.
 fn are_right() -> bool {
-    let flags = arguments::options();
-    let end = arguments::count();
+    let end = os::arg_count();
     let mut i = 1;
     while i < end {
         if !is_right(i) {
             return false;
         }
-        i = arguments::next(&flags, i);
+        i += 1;
     }
     true
 }
 
 fn is_right(i: usize) -> bool
-    requires { ⌜ i < 32 ⌝ }
+    requires { ⌜ i < 18446744073709551615 ⌝ }
 {
-    let mut argument = io::buffer();
-    let n = os::arg(i, &mut argument);
-    if !words::is_option(&argument[..n]) {
+    if !arguments::is_option(i) {
         return true;
     }
+    let mut argument = io::buffer();
+    let n = arguments::read(i, &mut argument);
     is_right_option(i, &argument[..n])
 }
 
 fn is_right_option(i: usize, option: &[u8]) -> bool
-    requires { ⌜ i < 32 ⌝ }
+    requires { ⌜ i < 18446744073709551615 ⌝ }
 {
     if !is_known(option) {
-        words::complain(option, b"no such option");
+        complaints::complain(option, b"no such option");
         return false;
     }
     if !arguments::is_value(i + 1) {
-        words::complain(option, b"its value is missing");
+        complaints::complain(option, b"its value is missing");
         return false;
     }
     if arguments::value_of(option) != i + 1 {
-        words::complain(option, b"given twice");
+        complaints::complain(option, b"given twice");
         return false;
     }
     true

@@ -1,5 +1,1 @@
 pub mod Widths
-pub mod Numbers
-pub mod Places
-pub mod Texts
-pub mod Frames

@@ -3,6 +3,7 @@
 // The store is one that passed, so records of nine bytes stand from its start on, and zeros behind them. Nothing here rests on it: where
 // a record is not one, the text stops.
 use crate::print;
+use crate::print::Page;
 ghost use mathlib.Core.Path.{_≡_};
 ghost use mathlib.Core.Bool.{_&&_};
 ghost use Prim.Native.Nat.{_+_, _*_, _/_, _≤_};
@@ -41,49 +42,54 @@ fn newest(store: &[u8], customer: usize) -> usize
     0
 }
 
-fn print_fault(number: usize, is_ignored: bool) {
+fn print_fault(page: &mut Page, number: usize, is_ignored: bool) {
     if is_ignored {
-        print::space();
-        print::number(number);
+        print::space(page);
+        print::number(page, number);
     }
 }
 
 // The faults that are ignored, by number.
-pub fn print_ignored(absent: bool, pads: bool, unused: bool) {
-    print::text(b"ignores");
-    print_fault(4, absent);
-    print_fault(6, pads);
-    print_fault(8, unused);
+pub fn print_ignored(page: &mut Page, absent: bool, pads: bool, unused: bool) {
+    print::text(page, b"ignores");
+    print_fault(page, 4, absent);
+    print_fault(page, 6, pads);
+    print_fault(page, 8, unused);
     if !absent && !pads && !unused {
-        print::text(b" nothing");
+        print::text(page, b" nothing");
     }
 }
 
 // The customer's newest record governs.
-fn print_record(store: &[u8], n: usize)
+fn print_record(page: &mut Page, store: &[u8], n: usize)
     requires { ⌜ 9 * n + 9 ≤ length (now store) ⌝ }
 {
     let at = 9 * n;
     let customer = wire::read_u16(store, at + 2);
-    print::text(b"customer ");
-    print::number(customer);
-    print::text(b" version ");
-    print::number(wire::read_u16(store, at + 4));
-    print::space();
-    print_ignored(store[at + 6] == 1, store[at + 7] == 1, store[at + 8] == 1);
+    print::text(page, b"customer ");
+    print::number(page, customer);
+    print::text(page, b" version ");
+    print::number(page, wire::read_u16(store, at + 4));
+    print::space(page);
+    print_ignored(
+        page,
+        store[at + 6] == 1,
+        store[at + 7] == 1,
+        store[at + 8] == 1,
+    );
     if newest(store, customer) == n + 1 {
-        print::text(b" (governs)");
+        print::text(page, b" (governs)");
     }
-    print::end_line();
+    print::end_line(page);
 }
 
-pub fn print_store(store: &[u8]) {
+pub fn print_store(page: &mut Page, store: &[u8]) {
     let mut n = 0;
     while n < store.len() / 9 {
         if !is_record(store, n) {
             return;
         }
-        print_record(store, n);
+        print_record(page, store, n);
         n += 1;
     }
 }

@@ -1,158 +1,198 @@
-// Values as text.
-use crate::lines;
+// Values as text, the same wherever one is shown. A date, a time and a float are as people read them, with the number that they are
+// beside them.
+use crate::letters;
 use crate::print;
-use crate::rows;
-use libc::STDOUT_FILENO;
+use crate::print::Page;
 use reading::Number;
-ghost use mathlib.Core.Path.{_≡_};
-ghost use Rattle.printing.specs.Text.{control, half, printable};
+
+// NUMBERS
 
 // By its bits in two's complement: those of a negative number are the upper half.
-fn print_signed(x: i64) {
+fn print_signed(page: &mut Page, x: i64) {
     let bits = wire::i64_to_bits(x);
     if bits < 0x8000_0000_0000_0000 {
-        io::print_decimal(STDOUT_FILENO, bits);
+        print::wide(page, bits);
         return;
     }
     let below = 0xffff_ffff_ffff_ffff - bits + 1;
-    print::text(b"-");
-    io::print_decimal(STDOUT_FILENO, below);
+    print::text(page, b"-");
+    print::wide(page, below);
 }
 
-fn print_exponent(x: i8) {
-    print_signed(x as i64);
+fn print_raw(page: &mut Page, x: i64) {
+    print::text(page, b" (");
+    print_signed(page, x);
+    print::text(page, b")");
 }
 
-fn print_bits(bits: u64) {
-    io::print_hex(STDOUT_FILENO, bits, 16);
+fn print_raw_unsigned(page: &mut Page, x: u64) {
+    print::text(page, b" (");
+    print::wide(page, x);
+    print::text(page, b")");
 }
 
-// A float is its bits in hex. One that is no NaN equals itself, and a NaN does not come as a float.
-fn print_float(x: f64) {
-    if x == x {
-        print_bits(f64::to_bits(x));
+fn print_date(page: &mut Page, x: i64) {
+    let mut text = [0u8; 48];
+    let n = values::date(x, &mut text);
+    print::text(page, &text[..n]);
+    print_raw(page, x);
+}
+
+fn print_millitime(page: &mut Page, x: i64) {
+    let mut text = [0u8; 48];
+    let n = values::millitime(x, &mut text);
+    print::text(page, &text[..n]);
+    print_raw(page, x);
+}
+
+fn print_nanotime(page: &mut Page, x: i64) {
+    let mut text = [0u8; 48];
+    let n = values::nanotime(x, &mut text);
+    print::text(page, &text[..n]);
+    print_raw(page, x);
+}
+
+fn print_time_of_day_milli(page: &mut Page, x: u64) {
+    let mut text = [0u8; 48];
+    let n = values::time_of_day_milli(x, &mut text);
+    print::text(page, &text[..n]);
+    print_raw_unsigned(page, x);
+}
+
+fn print_time_of_day_nano(page: &mut Page, x: u64) {
+    let mut text = [0u8; 48];
+    let n = values::time_of_day_nano(x, &mut text);
+    print::text(page, &text[..n]);
+    print_raw_unsigned(page, x);
+}
+
+// A number by the type of its field.
+
+fn print_signed_as(page: &mut Page, number: u8, x: i64) {
+    match number {
+        12 => print_date(page, x),
+        13 => print_millitime(page, x),
+        14 => print_nanotime(page, x),
+        _ => print_signed(page, x),
     }
 }
 
-fn print_bool(x: bool) {
+fn print_unsigned_as(page: &mut Page, number: u8, x: u64) {
+    match number {
+        15 => print_time_of_day_milli(page, x),
+        16 => print_time_of_day_nano(page, x),
+        _ => print::wide(page, x),
+    }
+}
+
+fn print_bool(page: &mut Page, x: bool) {
     if x {
-        print::text(b"true");
+        print::text(page, b"true");
     } else {
-        print::text(b"false");
+        print::text(page, b"false");
     }
+}
+
+fn print_exponent(page: &mut Page, x: i8) {
+    print_signed(page, x as i64);
 }
 
 // A decimal is the pair of its mantissa and its exponent, so it is not reckoned out.
-fn print_decimal(mantissa: i64, exponent: i8) {
-    print_signed(mantissa);
-    print::text(b"e");
-    print_exponent(exponent);
+fn print_decimal(page: &mut Page, mantissa: i64, exponent: i8) {
+    print_signed(page, mantissa);
+    print::text(page, b"e");
+    print_exponent(page, exponent);
 }
 
-pub fn print_number(n: Number) {
+// The float of these bits.
+fn print_bits(page: &mut Page, bits: u64) {
+    let mut text = [0u8; 32];
+    let n = floats::text(bits, &mut text);
+    print::text(page, &text[..n]);
+    print::text(page, b" (");
+    print::hex_number(page, bits, 16);
+    print::text(page, b")");
+}
+
+// One that is no NaN equals itself, and a NaN does not come as a float.
+fn print_float(page: &mut Page, x: f64) {
+    if x == x {
+        print_bits(page, f64::to_bits(x));
+    }
+}
+
+// A number of a field of this type; nothing of a refusal.
+pub fn print_number(page: &mut Page, number: u8, n: Number) {
     match n {
-        Number::Signed(x) => print_signed(x),
-        Number::Unsigned(x) => {
-            io::print_decimal(STDOUT_FILENO, x);
-        }
-        Number::Bool(x) => print_bool(x),
-        Number::Decimal { exponent, mantissa } => print_decimal(mantissa, exponent),
-        Number::Float(x) => print_float(x),
-        Number::NanBits(x) => print_bits(x),
+        Number::Signed(x) => print_signed_as(page, number, x),
+        Number::Unsigned(x) => print_unsigned_as(page, number, x),
+        Number::Bool(x) => print_bool(page, x),
+        Number::Decimal { exponent, mantissa } => print_decimal(page, mantissa, exponent),
+        Number::Float(x) => print_float(page, x),
+        Number::NanBits(x) => print_bits(page, x),
         Number::Refused { number, place } => {}
     }
 }
 
-// The kind of number that an answer is; nothing of a refusal.
-pub fn print_kind(n: Number) {
-    match n {
-        Number::Signed(x) => print::text(b"signed"),
-        Number::Unsigned(x) => print::text(b"unsigned"),
-        Number::Bool(x) => print::text(b"bool"),
-        Number::Decimal { exponent, mantissa } => print::text(b"decimal"),
-        Number::Float(x) => print::text(b"float"),
-        Number::NanBits(x) => print::text(b"float"),
-        Number::Refused { number, place } => {}
-    }
-}
-
-// Whether a byte of UTF-8 text, with the one after it, begins a control character (C2 80 to C2 9F are controls too).
-fn is_control(byte: u8, next: u8) -> bool
-    ensures { λ r. ⌜ r ≡ control byte next ⌝ }
-{
-    (byte < 32) | ((byte == 127) | ((byte == 0xc2) & (next < 0xa0)))
-}
-
-// And whether it begins half of a pair (ED A0 80 and on).
-fn is_half(byte: u8, next: u8) -> bool
-    ensures { λ r. ⌜ r ≡ half byte next ⌝ }
-{
-    (byte == 0xed) & (0xa0 <= next)
-}
-
-// Whether a text is safe to print between quotes.
-fn is_printable(text: &[u8]) -> bool
-    ensures { λ r. ⌜ r ≡ printable (now (text .entry)) ⌝ }
-{
-    let mut i = 0;
-    while i < text.len() {
-        let b = text[i];
-        let next = rows::byte_at(text, i + 1);
-        if is_control(b, next) | (is_half(b, next) | (b == b'"')) {
-            return false;
-        }
-        i += 1;
-    }
-    true
-}
-
-// A string between quotes where it can be printed, else in hex.
-fn print_string(text: &[u8]) {
-    if is_printable(text) {
-        print::text(b"\"");
-        print::text(text);
-        print::text(b"\"");
-        return;
-    }
-    print::hex(text);
-}
-
-// The bytes of a field of this type.
-pub fn print_bytes(number: u8, bytes: &[u8]) {
-    if number == 17 {
-        print_string(bytes);
-        return;
-    }
-    print::hex(bytes);
-}
+// TYPES
 
 // The types' names, those of Blink's schema language where it has one.
-const TYPES: [u8; 235] = *b" 1 u8
- 2 i8
- 3 u16
- 4 i16
- 5 u32
- 6 i32
- 7 u64
- 8 i64
- 9 f64
-10 decimal
-11 bool
-12 date
-13 millitime
-14 nanotime
-15 timeOfDayMilli
-16 timeOfDayNano
-17 string
-18 binary
-19 fixed
-20 enumeration
-21 static group
-22 dynamic group
-23 object
-";
 
-pub fn print_type(number: u8) {
-    let text = TYPES;
-    lines::print_words(&text, number);
+fn print_integer_type(page: &mut Page, number: u8) {
+    match number {
+        1 => print::text(page, b"u8"),
+        2 => print::text(page, b"i8"),
+        3 => print::text(page, b"u16"),
+        4 => print::text(page, b"i16"),
+        5 => print::text(page, b"u32"),
+        6 => print::text(page, b"i32"),
+        7 => print::text(page, b"u64"),
+        _ => print::text(page, b"i64"),
+    }
+}
+
+fn print_scalar_type(page: &mut Page, number: u8) {
+    match number {
+        9 => print::text(page, b"f64"),
+        10 => print::text(page, b"decimal"),
+        11 => print::text(page, b"bool"),
+        12 => print::text(page, b"date"),
+        13 => print::text(page, b"millitime"),
+        14 => print::text(page, b"nanotime"),
+        15 => print::text(page, b"timeOfDayMilli"),
+        _ => print::text(page, b"timeOfDayNano"),
+    }
+}
+
+fn print_other_type(page: &mut Page, number: u8) {
+    match number {
+        17 => print::text(page, b"string"),
+        18 => print::text(page, b"binary"),
+        19 => print::text(page, b"fixed"),
+        20 => print::text(page, b"enumeration"),
+        21 => print::text(page, b"static group"),
+        22 => print::text(page, b"dynamic group"),
+        _ => print::text(page, b"object"),
+    }
+}
+
+pub fn print_type(page: &mut Page, number: u8) {
+    if number <= 8 {
+        print_integer_type(page, number);
+    } else if number <= 16 {
+        print_scalar_type(page, number);
+    } else {
+        print_other_type(page, number);
+    }
+}
+
+// BYTES
+
+// The bytes of a field of this type: a string as text, all others in hex.
+pub fn print_bytes(page: &mut Page, number: u8, bytes: &[u8]) {
+    if number == 17 {
+        letters::print_string(page, bytes);
+    } else {
+        print::hex(page, bytes);
+    }
 }

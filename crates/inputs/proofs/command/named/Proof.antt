@@ -1,39 +1,19 @@
 use borrow.Author.Needs.{needs}
-use borrow.Author.Tests.{ne-eqb}
-use Rattle.inputs.specs.Commands.{commandOf}
+use Rattle.inputs.proofs.Laws.{too-few, too-many, as-many}
+use mathlib.Core.Path.{sym, _∙_}
+use native.Mathlib.Omega.{arith}
 use Rattle.inputs.proofs.command.named.Statement.{statement}
 use Rattle.inputs.proofs.command.named.Tie as tie
 
 returns : tie.Need-returns
-unfolding commandOf
-returns c = rw (c .before .match .keys1) (c .alone .ensures)
+returns c = sym (too-few (c .before .before .args .word) (c .before .before .args .last) _ _ _ _ (omega arith))
 
 returns-2 : tie.Need-returns-2
-unfolding commandOf
-returns-2 c = rw (c .before .match .keys2) (c .on-two-files .ensures)
+returns-2 c = sym (too-many (c .before .before .before .before .args .word) (c .before .before .before .before .args .last) _ _ _ _ (omega arith))
 
 returns-3 : tie.Need-returns-3
-unfolding commandOf
-returns-3 c = rw (c .before .match .keys3) (c .on-three .ensures)
-
-returns-4 : tie.Need-returns-4
-unfolding commandOf
-returns-4 c = rw (c .before .match .keys4) (c .on-four .ensures)
-
-returns-5 : tie.Need-returns-5
-unfolding commandOf
-returns-5 c = let n = c .match .rest in simp (ne-eqb _ _ (n .0 .0 .0 .1), ne-eqb _ _ (n .0 .0 .1), ne-eqb _ _ (n .0 .1), ne-eqb _ _ (n .1))
+returns-3 c = c .asked .ensures ∙ sym (as-many (c .before .before .before .before .before .args .word) (c .before .before .before .before .before .args .last) _ _ _ _ (omega arith) (omega arith))
 
 pub named-spec : {M : Type 1} → statement M
 named-spec =
-    tie.close
-    (tie.spec
-    (λ c κs. search needs)
-    (λ c κs. search needs)
-    (λ c κs. search needs)
-    (λ c κs. search needs)
-    returns
-    returns-2
-    returns-3
-    returns-4
-    returns-5)
+    tie.close (tie.spec (λ c κs. search needs) returns (λ c κs. search needs) returns-2 (λ c κs. search needs) returns-3)

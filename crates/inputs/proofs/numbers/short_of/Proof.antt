@@ -6,7 +6,7 @@ use Rattle.inputs.proofs.numbers.short_of.Tie as tie
 
 returns : tie.Need-returns
 unfolding shortOf
-returns c = rw (c .before .before .before .n .given .1, lt-leb _ 65535 (c .before .if1 .taken)) (c .no-short .ensures)
+returns c = rw (c .before .before .n .given .1, lt-leb _ 65535 (c .if1 .taken))
 
 returns-2 : tie.Need-returns-2
 unfolding shortOf
@@ -14,17 +14,7 @@ returns-2 c = rw (c .before .before .n .given .1, le-leb _ 65535 (c .if1 .left))
 
 returns-3 : tie.Need-returns-3
 unfolding shortOf
-returns-3 c = rw (c .before .enum-told .given .1) (c .no-short2 .ensures)
+returns-3 c = rw (c .enum-told .given .1)
 
 pub short-of-spec : {M : Type 1} → statement M
-short-of-spec =
-    tie.close
-    (tie.spec
-    (λ c. search needs)
-    (λ c κs. search needs)
-    returns
-    (λ c. search needs)
-    (λ c. search needs)
-    (λ c κs. search needs)
-    returns-2
-    returns-3)
+short-of-spec = tie.close (tie.spec (λ c. search needs) returns (λ c. search needs) (λ c. search needs) returns-2 returns-3)

@@ -1,13 +1,13 @@
 use borrow.Author.Needs.{needs}
-use Prim.Native.Nat.{_≤_, _-_}
+use Prim.Native.Nat.{_-_, _≤_}
 use Rattle.inputs.proofs.options.are_right.Statement.{statement}
 use Rattle.inputs.proofs.options.are_right.Tie as tie
 
 abbrev Inv-loop : tie.InvT-loop
-Inv-loop flags end i₀ i = end ≤ 32
+Inv-loop end i₀ i = 1 ≤ i
 
 abbrev μ-loop : tie.MeasureT-loop
-μ-loop flags end i₀ i = end - i
+μ-loop end i₀ i = end - i
 
 pub are-right-spec : {M : Type 1} → statement M
 are-right-spec =
@@ -16,12 +16,10 @@ are-right-spec =
     Inv-loop
     μ-loop
     (λ c κs. search needs)
-    (λ c κs. search needs)
     (λ c. search needs)
     (λ c κs. search needs)
     (λ c. search needs)
     (λ c. search needs)
-    (λ c κs. search needs)
     (λ c. search needs)
     (λ c. search needs)
     (λ c. search needs))

@@ -5,10 +5,10 @@ use Rattle.printing.proofs.print.hex.Statement.{statement}
 use Rattle.printing.proofs.print.hex.Tie as tie
 
 abbrev Inv-loop : tie.InvT-loop
-Inv-loop bytes i₀ i = i ≤ length bytes
+Inv-loop page₀ bytes i₀ page i = i ≤ length bytes
 
 abbrev μ-loop : tie.MeasureT-loop
-μ-loop bytes i₀ i = length bytes - i
+μ-loop page₀ bytes i₀ page i = length bytes - i
 
 pub hex-spec : {M : Type 1} → statement M
 hex-spec =

@@ -4,10 +4,10 @@ use Rattle.printing.proofs.print.indent.Statement.{statement}
 use Rattle.printing.proofs.print.indent.Tie as tie
 
 abbrev Inv-loop : tie.InvT-loop
-Inv-loop depth i₀ i = i ≤ depth
+Inv-loop page₀ depth i₀ page i = i ≤ depth
 
 abbrev μ-loop : tie.MeasureT-loop
-μ-loop depth i₀ i = depth - i
+μ-loop page₀ depth i₀ page i = depth - i
 
 pub indent-spec : {M : Type 1} → statement M
 indent-spec =

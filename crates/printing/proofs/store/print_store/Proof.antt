@@ -5,10 +5,10 @@ use Rattle.printing.proofs.store.print_store.Statement.{statement}
 use Rattle.printing.proofs.store.print_store.Tie as tie
 
 abbrev Inv-loop : tie.InvT-loop
-Inv-loop store n₀ n = n ≤ length store / 9
+Inv-loop page₀ store n₀ page n = n ≤ length store / 9
 
 abbrev μ-loop : tie.MeasureT-loop
-μ-loop store n₀ n = length store / 9 - n
+μ-loop page₀ store n₀ page n = length store / 9 - n
 
 pub print-store-spec : {M : Type 1} → statement M
 print-store-spec =

@@ -13,7 +13,7 @@ no-nan (inf s) h = tt
 no-nan (fin s m e) h = tt
 
 float-to-bits-print-bits : tie.Need-float-to-bits-print-bits
-float-to-bits-print-bits c = no-nan (c .before .args .x) (c .if1 .taken)
+float-to-bits-print-bits c = no-nan (c .before .before .args .x) (c .before .if1 .taken)
 
 pub print-float-spec : {M : Type 1} → statement M
 print-float-spec =

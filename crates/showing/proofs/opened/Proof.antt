@@ -1,0 +1,10 @@
+use mathlib.Core.Path.{refl}
+use Rattle.showing.proofs.opened.Statement.{statement}
+use Rattle.showing.proofs.opened.Tie as tie
+
+returns : tie.Need-returns
+returns c = refl
+
+pub opened-spec : {M : Type 1} → statement M
+opened-spec =
+    tie.close (tie.spec returns)

@@ -14,7 +14,8 @@ use Rattle.schema.specs.declared.Verdict.the-variants.{Accepted}
 use Rattle.reading.specs.declared.Number.{Number}
 use Rattle.reading.specs.declared.Number.the-variants.{Signed, Unsigned, Bool as Flag, Decimal, Float, NanBits, Refused}
 use Rattle.reading.proofs.Number as number
-use Rattle.codec.specs.Answers.{under, bytesVerdict}
+use Rattle.opening.specs.Opening.{under}
+use Rattle.codec.specs.Answers.{bytesVerdict}
 use Rattle.answers.specs.Faults.{between, orBytes}
 
 module _ (low high n : ℕ) where

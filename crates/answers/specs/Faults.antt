@@ -7,7 +7,8 @@ use Rattle.schema.specs.declared.Verdict.{Verdict}
 use Rattle.schema.specs.declared.Verdict.the-variants.{Accepted, Refused}
 use Rattle.reading.specs.declared.Number.{Number}
 use Rattle.reading.specs.declared.Number.the-variants.{Signed, Unsigned, Bool as Flag, Decimal, Float, NanBits, Refused as NotRead}
-use Rattle.codec.specs.Answers.{Under, numberAnswer, bytesVerdict}
+use Rattle.opening.specs.Opening.{Under}
+use Rattle.codec.specs.Answers.{numberAnswer, bytesVerdict}
 
 unfoldable pub between : ℕ → ℕ → ℕ → Bool
 between low high n = leb low n && leb n high

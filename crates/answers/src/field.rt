@@ -6,7 +6,8 @@ use printing::print::Page;
 use printing::value;
 ghost use mathlib.Core.Path.{_≡_};
 ghost use lib.ListN.{length};
-ghost use Rattle.codec.specs.Answers.{under, bytesVerdict};
+ghost use Rattle.opening.specs.Opening.{under};
+ghost use Rattle.codec.specs.Answers.{bytesVerdict};
 ghost use Rattle.answers.specs.Faults.{fieldVerdict};
 
 // Prints the value, or answers why there is none.

@@ -10,7 +10,7 @@ use printing::print::Page;
 ghost use mathlib.Core.Path.{_≡_};
 ghost use lib.ListN.{length};
 ghost use Rattle.schema.specs.Table.{tableVerdict};
-ghost use Rattle.codec.specs.Answers.{under, messageVerdict};
+ghost use Rattle.opening.specs.Opening.{under, messageVerdict};
 ghost use Rattle.answers.specs.Outcomes.{outcomeOf};
 ghost use Rattle.answers.specs.Faults.{fieldVerdict};
 

@@ -12,7 +12,8 @@ use Rattle.reading.specs.declared.Number.the-variants.{Signed, Unsigned, Bool a
 use Rattle.sheet.specs.Written.{Writing, stopped, wrote}
 use Rattle.codec.specs.declared.Span.{Span}
 use Rattle.codec.specs.declared.Span.the-variants.{Bytes as Lie, Refused as NoBytes}
-use Rattle.codec.specs.Answers.{Under, under, writtenOf}
+use Rattle.opening.specs.Opening.{Under, under}
+use Rattle.codec.specs.Answers.{writtenOf}
 use Rattle.codec.specs.Demands.{Numbered}
 use Rattle.codec.proofs.Demands.{demands}
 use Rattle.blink_native.specs.Boundary.{exported, exportedWritten, exportedNumber, exportedSpan, exportedSettings}

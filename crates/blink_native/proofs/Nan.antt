@@ -14,7 +14,8 @@ use Rattle.reading.specs.declared.Number.{Number}
 use Rattle.reading.specs.declared.Number.the-variants.{Float, NanBits}
 use Rattle.reading.specs.Item.{Item, missing, item}
 use Rattle.reading.specs.Number.{unsignedTypes, signedTypes, floatOf, decimalOf, numberOf, numberAt}
-use Rattle.codec.specs.Answers.{Under, messageVerdict, numberUnder, numberAnswer}
+use Rattle.opening.specs.Opening.{Under, messageVerdict}
+use Rattle.codec.specs.Answers.{numberUnder, numberAnswer}
 use Rattle.blink_native.specs.Boundary.{NoNan}
 
 either : (c : Bool) (x y : Number) → NoNan x → NoNan y → NoNan (cond c x y)

@@ -16,7 +16,8 @@ use Rattle.codec.specs.declared.Written.{Written}
 use Rattle.codec.specs.declared.Written.the-variants.{Refused as Unwritten}
 use Rattle.codec.specs.declared.Span.{Span}
 use Rattle.codec.specs.declared.Span.the-variants.{Refused as NoBytes}
-use Rattle.codec.specs.Answers.{Under, messageVerdict, writtenOf, toSheet, toMessage, rewriting, numberAnswer, spanAnswer}
+use Rattle.opening.specs.Opening.{Under, messageVerdict}
+use Rattle.codec.specs.Answers.{writtenOf, toSheet, toMessage, rewriting, numberAnswer, spanAnswer}
 use Rattle.blink_native.specs.Boundary.{exported, exportedWritten, exportedNumber, exportedSpan, exportedSettings}
 
 abbrev pub VerdictTold : Verdict → Type 0

@@ -4,7 +4,8 @@ ghost use mathlib.Core.Path.{_≡_};
 ghost use lib.ListN.{length};
 ghost use Rattle.schema.specs.Table.{tableVerdict};
 ghost use Rattle.settings.specs.Store.{storeVerdict, settingAt, addVerdict, storeAfter};
-ghost use Rattle.codec.specs.Answers.{under, messageVerdict, scratchAfter, writtenOf, roomAfter, toSheet, toMessage, rewriting, rooms, numberAnswer, spanAnswer};
+ghost use Rattle.opening.specs.Opening.{under, messageVerdict, scratchAfter};
+ghost use Rattle.codec.specs.Answers.{writtenOf, roomAfter, toSheet, toMessage, rewriting, rooms, numberAnswer, spanAnswer};
 ghost use Rattle.faults.specs.Words.{fitted};
 ghost use Rattle.blink_native.specs.Boundary.{exported, exportedWritten, exportedNumber, exportedSpan, exportedSettings, answered, NoNan, faultWords, version};
 

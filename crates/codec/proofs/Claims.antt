@@ -17,9 +17,10 @@ use Rattle.reading.specs.Item.{itemFrom, itemOf}
 use Rattle.reading.proofs.Items.{item-front}
 use Rattle.reading.proofs.Alike.{walk-laxer, laxest}
 use Rattle.sheet.proofs.RoundTrip.{means-walk}
-use Rattle.codec.specs.Answers.{Under, under, messageReading, messageVerdict, verdictOf, scratchAfter, toSheet, toMessage, rewriting, numberAnswer, partAnswer, bytesVerdict, spanAnswer}
+use Rattle.opening.specs.Opening.{Under, under, messageReading, messageVerdict, verdictOf, scratchAfter}
+use Rattle.codec.specs.Answers.{toSheet, toMessage, rewriting, numberAnswer, partAnswer, bytesVerdict, spanAnswer}
 use Rattle.codec.specs.Demands.{Means}
-use Rattle.codec.proofs.Laws.{reading-under}
+use Rattle.opening.proofs.Laws.{reading-under}
 use Rattle.codec.specs.Claims.{Below, SameAnswers, Claims}
 
 same-item : (t b : List ℕ) → tableVerdict t ≡ Accepted → (a : ℕ) → Below t b a → (n i : ℕ) → n < length (fieldsOf (schema t) a)

@@ -41,10 +41,12 @@ use Rattle.sheet.specs.Written.{Writing, stopped, wrote, sheetW, fitted, writte
 use Rattle.sheet.specs.Rewritten.{Rooms, Enough, sheetIn, onward, rewritten}
 use Rattle.sheet.specs.Canonical as canonical
 use Rattle.sheet.proofs.RoundTrip as trip
-use Rattle.codec.specs.Answers.{accepted, Under, under, messageReading, verdictOf, messageVerdict, roomAfter, toSheet, toMessage, rewriting, numberUnder, numberAnswer, partUnder, partAnswer, bytesVerdict}
+use Rattle.opening.specs.Opening.{accepted, Under, under, messageReading, verdictOf, messageVerdict}
+use Rattle.codec.specs.Answers.{roomAfter, toSheet, toMessage, rewriting, numberUnder, numberAnswer, partUnder, partAnswer, bytesVerdict}
 use Rattle.codec.specs.Demands.{Demand1, Means, Makes, Demand2, OneForm, Demand3, Demands}
 use Rattle.codec.proofs.Numbered.{numbered}
-use Rattle.codec.proofs.Laws.{sized, reading-under, message-under, strictest}
+use Rattle.opening.proofs.Laws.{sized, reading-under, strictest}
+use Rattle.codec.proofs.Laws.{message-under}
 
 -- DEMAND 1
 

@@ -26,7 +26,8 @@ use Rattle.reading.specs.Part.{partOf, partAt}
 use Rattle.reading.specs.Part as parts
 use Rattle.codec.specs.declared.Span.{Span}
 use Rattle.codec.specs.declared.Span.the-variants.{Bytes as Lie, Refused as NoBytes}
-use Rattle.codec.specs.Answers.{Under, messageReading, verdictOf, messageVerdict, toSheet, toMessage, rewriting, numberUnder, numberAnswer, bytesVerdict, spanOf, spanUnder, spanAnswer}
+use Rattle.opening.specs.Opening.{Under, messageReading, verdictOf, messageVerdict}
+use Rattle.codec.specs.Answers.{toSheet, toMessage, rewriting, numberUnder, numberAnswer, bytesVerdict, spanOf, spanUnder, spanAnswer}
 use Rattle.codec.specs.Demands.{Numbered as AllNumbered}
 use Rattle.schema.proofs.Numbered.{in-need, in-cond, Numbered, accepts, refuses, not-zero, tested, numbered-also, table}
 use Rattle.meaning.proofs.Numbered.{NumberedR, reads, refusesR, read, message}

@@ -14,7 +14,8 @@ use Rattle.meaning.specs.Ignorable.{SameValues}
 use Rattle.reading.specs.Item.{itemFrom, itemOf}
 use Rattle.sheet.specs.Rewritten.{Rooms}
 use Rattle.codec.specs.Demands.{Means}
-use Rattle.codec.specs.Answers.{Under, messageReading, messageVerdict, scratchAfter, toSheet, toMessage, rewriting, numberAnswer, partAnswer, bytesVerdict, spanAnswer}
+use Rattle.opening.specs.Opening.{Under, messageReading, messageVerdict, scratchAfter}
+use Rattle.codec.specs.Answers.{toSheet, toMessage, rewriting, numberAnswer, partAnswer, bytesVerdict, spanAnswer}
 
 -- The group of the message b is a, or has a above it.
 abbrev pub Below : List ℕ → List ℕ → ℕ → Type 0

@@ -23,7 +23,8 @@ use Rattle.reading.specs.declared.Number.the-variants.{Refused as NotRead}
 use Rattle.sheet.specs.Written.{stopped, wrote, sheetW}
 use Rattle.sheet.specs.Rewritten.{Rooms, Enough}
 use Rattle.codec.specs.declared.Span.the-variants.{Refused as NoBytes}
-use Rattle.codec.specs.Answers.{Under, under, messageReading, messageVerdict, roomAfter, toSheet, toMessage, rewriting, numberAnswer, partAnswer, bytesVerdict, spanAnswer}
+use Rattle.opening.specs.Opening.{Under, under, messageReading, messageVerdict}
+use Rattle.codec.specs.Answers.{roomAfter, toSheet, toMessage, rewriting, numberAnswer, partAnswer, bytesVerdict, spanAnswer}
 
 -- DEMAND 1
 -- "Any bytes may arrive as message, schema table or value sheet. Every public question answers or refuses with the first number and place that

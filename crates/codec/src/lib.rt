@@ -8,17 +8,16 @@ pub use settings::Ignored;
 pub use settings::Setting;
 ghost use mathlib.Core.Path.{_≡_};
 ghost use Prim.Native.Nat.{_+_};
-ghost use lib.ListN.{length, replicate};
+ghost use lib.ListN.{length};
 ghost use denote.Ref.{ptr};
 ghost use Rattle.schema.specs.Table.{schema, tableVerdict};
 ghost use Rattle.schema.specs.Layout.{Layout};
-ghost use Rattle.table.specs.Index.{Checked};
 ghost use Rattle.settings.specs.Store.{storeVerdict, settingAt, addVerdict, storeAfter};
-ghost use Rattle.message.specs.declared.Walked.the-variants.{Refused as Failed};
 ghost use Rattle.sheet.specs.Written.{written};
 ghost use Rattle.sheet.specs.Rewritten.{onward};
 ghost use Rattle.reading.specs.Part.{bytesIn, startOf};
-ghost use Rattle.codec.specs.Answers.{Under, under, messageVerdict, scratchAfter, Known, Opened, writtenOf, roomAfter, Writes, toSheet, toMessage, Allowed, Within, rooms, rewriting, numberAnswer, partAnswer, bytesVerdict, spanOf, spanAnswer};
+ghost use Rattle.opening.specs.Opening.{Under, under, messageVerdict, scratchAfter, Known};
+ghost use Rattle.codec.specs.Answers.{writtenOf, roomAfter, Writes, toSheet, toMessage, Allowed, Within, rooms, rewriting, numberAnswer, partAnswer, bytesVerdict, spanOf, spanAnswer};
 
 // How many bytes were written, or why none.
 pub enum Written {
@@ -80,7 +79,7 @@ pub fn check_message(
     ensures { λ _. ⌜ now (scratch .exit) ≡ scratchAfter (now (table .entry)) (now (store .entry)) (now (message .entry)) (now (scratch .entry)) ⌝ }
 {
     let mut index = [0u16; 322];
-    let walked = open_message(table, &mut index, store, customer, message, scratch);
+    let walked = opening::open_message(table, &mut index, store, customer, message, scratch);
     match walked {
         Walked::Counted { length } => Verdict::Accepted,
         Walked::Refused { number, place } => Verdict::Refused { number, place },
@@ -101,7 +100,7 @@ pub fn message_to_sheet(
     ensures { λ _. ⌜ now (sheet .exit) ≡ roomAfter (toSheet (now (table .entry)) (now (message .entry)) (under (now (store .entry)) customer (length (now (scratch .entry)))) (length (now (sheet .entry)))) (now (sheet .entry)) ⌝ }
 {
     let mut index = [0u16; 322];
-    let walked = open_message(table, &mut index, store, customer, message, scratch);
+    let walked = opening::open_message(table, &mut index, store, customer, message, scratch);
     match walked {
         Walked::Counted { length } => sheet_of(table, &index, message, length, sheet),
         Walked::Refused { number, place } => Written::Refused { number, place },
@@ -140,7 +139,7 @@ pub fn rewrite(
     ensures { λ _. ⌜ now (output .exit) ≡ roomAfter (rewriting (now (table .entry)) (now (message .entry)) (now (store .entry)) customer (rooms (now (scratch .entry)) (now (sheet .entry)) (now (output .entry)))) (now (output .entry)) ⌝ }
 {
     let mut index = [0u16; 322];
-    let walked = open_message(table, &mut index, store, customer, message, scratch);
+    let walked = opening::open_message(table, &mut index, store, customer, message, scratch);
     match walked {
         Walked::Counted { length } => {
             rewrite_under(table, &index, message, length, sheet, output)
@@ -163,7 +162,7 @@ pub fn read_number(
     ensures { λ _. ⌜ now (scratch .exit) ≡ scratchAfter (now (table .entry)) (now (store .entry)) (now (message .entry)) (now (scratch .entry)) ⌝ }
 {
     let mut index = [0u16; 322];
-    let walked = open_message(table, &mut index, store, customer, message, scratch);
+    let walked = opening::open_message(table, &mut index, store, customer, message, scratch);
     match walked {
         Walked::Counted { length } => reading::read_number(table, &index, message, field, item),
         Walked::Refused { number, place } => Number::Refused { number, place },
@@ -186,7 +185,7 @@ pub fn read_bytes<'a>(
     ensures { λ _. ⌜ now (scratch .exit) ≡ scratchAfter (now (table .entry)) (now (store .entry)) (now (message .entry)) (now (scratch .entry)) ⌝ }
 {
     let mut index = [0u16; 322];
-    let walked = open_message(table, &mut index, store, customer, message, scratch);
+    let walked = opening::open_message(table, &mut index, store, customer, message, scratch);
     match walked {
         Walked::Counted { length } => reading::read_bytes(table, &index, message, field, item),
         Walked::Refused { number, place } => &message[0..0],
@@ -207,7 +206,7 @@ pub fn read_bytes_verdict(
     ensures { λ _. ⌜ now (scratch .exit) ≡ scratchAfter (now (table .entry)) (now (store .entry)) (now (message .entry)) (now (scratch .entry)) ⌝ }
 {
     let mut index = [0u16; 322];
-    let walked = open_message(table, &mut index, store, customer, message, scratch);
+    let walked = opening::open_message(table, &mut index, store, customer, message, scratch);
     match walked {
         Walked::Counted { length } => reading::read_bytes_verdict(
             table,
@@ -234,7 +233,7 @@ pub fn find_bytes(
     ensures { λ _. ⌜ now (scratch .exit) ≡ scratchAfter (now (table .entry)) (now (store .entry)) (now (message .entry)) (now (scratch .entry)) ⌝ }
 {
     let mut index = [0u16; 322];
-    let walked = open_message(table, &mut index, store, customer, message, scratch);
+    let walked = opening::open_message(table, &mut index, store, customer, message, scratch);
     match walked {
         Walked::Counted { length } => {
             span_of(reading::find_part(table, &index, message, field, item))
@@ -249,58 +248,6 @@ fn span_of(part: Part) -> Span
     match part {
         Part::Refusal { number } => Span::Refused { number, place: 0 },
         Part::Lies { start, length } => Span::Bytes { start, length },
-    }
-}
-
-// Checks the table and the message; where both pass, the index is the table's.
-fn open_message(
-    table: &[u8],
-    index: &mut [u16],
-    store: &[u8],
-    customer: u16,
-    message: &[u8],
-    scratch: &mut [u8],
-) -> Walked
-    requires { ⌜ now index ≡ replicate 322 0 ⌝ }
-    ensures { λ r. ⌜ Opened (now (table .entry)) (now (message .entry)) (under (now (store .entry)) customer (length (now (scratch .entry)))) (now (index .exit)) r ⌝ }
-    ensures { λ _. ⌜ now (scratch .exit) ≡ scratchAfter (now (table .entry)) (now (store .entry)) (now (message .entry)) (now (scratch .entry)) ⌝ }
-{
-    let v = table::index_table(table, index);
-    match v {
-        Verdict::Accepted => open_under(table, index, store, customer, message, scratch),
-        Verdict::Refused { number, place } => refused(20),
-    }
-}
-
-fn refused(number: u8) -> Walked
-    ensures { λ r. ⌜ r ≡ Failed number 0 ⌝ }
-{
-    Walked::Refused { number, place: 0 }
-}
-
-// "23, 21, 50, 22", and the walk, under an accepted table.
-fn open_under(
-    table: &[u8],
-    index: &[u16],
-    store: &[u8],
-    customer: u16,
-    message: &[u8],
-    scratch: &mut [u8],
-) -> Walked
-    requires { ⌜ Checked (now table) (now index) Verdict.Accepted ⌝ }
-    ensures { λ r. ⌜ Opened (now (table .entry)) (now (message .entry)) (under (now (store .entry)) customer (length (now (scratch .entry)))) (now (index .entry)) r ⌝ }
-    ensures { λ _. ⌜ now (scratch .exit) ≡ scratchAfter (now (table .entry)) (now (store .entry)) (now (message .entry)) (now (scratch .entry)) ⌝ }
-{
-    if 65536 < message.len() {
-        return refused(23);
-    }
-    if scratch.len() < message.len() {
-        return refused(21);
-    }
-    let setting = store::find_settings(store, customer);
-    match setting {
-        Setting::Ignores { ignored } => message::check(table, index, message, ignored, scratch),
-        Setting::Refused { number, place } => Walked::Refused { number, place },
     }
 }
 

@@ -1,7 +1,7 @@
 use mathlib.Core.Path.{sym}
 use lib.ListN.{length}
-use Rattle.codec.specs.Answers.{under}
-use Rattle.codec.proofs.Laws.{verdict-accepted, verdict-refused}
+use Rattle.opening.specs.Opening.{under}
+use Rattle.opening.proofs.Laws.{verdict-accepted, verdict-refused}
 use borrow.Author.Needs.{needs}
 use Rattle.codec.proofs.check_message.Statement.{statement}
 use Rattle.codec.proofs.check_message.Tie as tie

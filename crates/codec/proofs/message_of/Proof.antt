@@ -1,7 +1,8 @@
 use mathlib.Core.Path.{sym, _∙_}
 use lib.ListN.{length}
 use Rattle.schema.specs.Table.{schema}
-use Rattle.codec.proofs.Laws.{sized, writes-nothing, written-refused, parsed-refuses, parsed-allows}
+use Rattle.opening.proofs.Laws.{sized}
+use Rattle.codec.proofs.Laws.{writes-nothing, written-refused, parsed-refuses, parsed-allows}
 use borrow.Author.Needs.{needs}
 use Rattle.codec.proofs.message_of.Statement.{statement}
 use Rattle.codec.proofs.message_of.Tie as tie

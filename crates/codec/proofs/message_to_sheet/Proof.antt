@@ -1,5 +1,5 @@
 use lib.ListN.{length}
-use Rattle.codec.specs.Answers.{under}
+use Rattle.opening.specs.Opening.{under}
 use Rattle.codec.proofs.Laws.{writes-nothing, sheet-refused}
 use borrow.Author.Needs.{needs}
 use Rattle.codec.proofs.message_to_sheet.Statement.{statement}

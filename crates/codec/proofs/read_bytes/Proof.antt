@@ -6,7 +6,7 @@ use lib.ListN.{length}
 use denote.Ref.{ptr}
 use Rattle.reading.specs.declared.Part.{Part}
 use Rattle.reading.specs.Part.{bytesIn, startOf}
-use Rattle.codec.specs.Answers.{under}
+use Rattle.opening.specs.Opening.{under}
 use Rattle.codec.proofs.Laws.{part-read, part-refused}
 use borrow.Author.Needs.{needs}
 use Rattle.codec.proofs.read_bytes.Statement.{statement}

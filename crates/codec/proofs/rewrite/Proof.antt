@@ -1,4 +1,5 @@
-use Rattle.codec.specs.Answers.{under, rewriting}
+use Rattle.opening.specs.Opening.{under}
+use Rattle.codec.specs.Answers.{rewriting}
 use lib.ListN.{length}
 use Rattle.codec.proofs.Laws.{writes-nothing, sheet-refused, onward-refused}
 use borrow.Author.Needs.{needs}

@@ -1,8 +1,8 @@
 use mathlib.Core.Path.{refl, sym, _∙_}
-use Rattle.codec.proofs.Laws.{opens-nothing, reading-23, scratch-23, reading-21, scratch-21, reading-50, scratch-50, opened, scratch-cleared}
+use Rattle.opening.proofs.Laws.{opens-nothing, reading-23, scratch-23, reading-21, scratch-21, reading-50, scratch-50, opened, scratch-cleared}
 use borrow.Author.Needs.{needs}
-use Rattle.codec.proofs.open_under.Statement.{statement}
-use Rattle.codec.proofs.open_under.Tie as tie
+use Rattle.opening.proofs.open_under.Statement.{statement}
+use Rattle.opening.proofs.open_under.Tie as tie
 
 returns : tie.Need-returns
 returns c = let a = c .before .before .before .before .before .before .before .args in (

@@ -1,10 +1,10 @@
 use mathlib.Core.Path.{sym, _∙_}
 use lib.ListN.{length}
-use Rattle.codec.specs.Answers.{under}
-use Rattle.codec.proofs.Laws.{opens-nothing, reading-20, scratch-20}
+use Rattle.opening.specs.Opening.{under}
+use Rattle.opening.proofs.Laws.{opens-nothing, reading-20, scratch-20}
 use borrow.Author.Needs.{needs}
-use Rattle.codec.proofs.open_message.Statement.{statement}
-use Rattle.codec.proofs.open_message.Tie as tie
+use Rattle.opening.proofs.open_message.Statement.{statement}
+use Rattle.opening.proofs.open_message.Tie as tie
 
 open-under-requires : tie.Need-open-under-requires
 open-under-requires c κs = rw (c .before .before .enum-told .given .1) at (c .before .before .before .before .before .before .index-table .ensures)

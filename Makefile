@@ -64,6 +64,8 @@ run: command
 	$(BLINK) dump samples/blank.table samples/dusty.message $(REFUSED)
 	$(BLINK) show samples/blank.table samples/good.message > target/shown.text
 	$(BLINK) show samples/widths.table samples/good.message | cmp - target/shown.text
+	$(BLINK) tape samples/blank.table samples/shift.tape $(REFUSED)
+	$(BLINK) tape samples/blank.table samples/cut.tape $(REFUSED)
 	$(BLINK) read samples/blank.table samples/good-no-note.message 1
 	$(BLINK) read samples/blank.table samples/good-no-note.message 4 $(REFUSED)
 	$(BLINK) check samples/blank.table samples/dusty.message $(REFUSED)
@@ -104,33 +106,44 @@ try: command
 
 SAMPLES = samples/blank.table samples/good.message samples/dusty.message
 UNDER = --under samples/customers.store 12 samples/blank.table samples/rubbish.message
-EXAMPLE = cargo run --offline --quiet --manifest-path bindings/rust/Cargo.toml --example check --
+TAPE = samples/blank.table samples/shift.tape
+EXAMPLE = cargo run --offline --quiet --manifest-path bindings/rust/Cargo.toml --example
 
 # The examples in C, Rust and Python, on the stored samples, and the Rust wrapper's tests. Not part of the gate.
-examples: library
-	mkdir -p target/examples
-	$(CC) -std=c99 -Wall -Wextra -Wpedantic -Werror -Iinclude examples/check.c $(ARCHIVE) -o target/examples/check
+examples: library target/examples/check target/examples/tape
 	target/examples/check $(SAMPLES)
 	target/examples/check $(UNDER)
-	$(EXAMPLE) $(SAMPLES)
-	$(EXAMPLE) $(UNDER)
+	target/examples/tape $(TAPE)
+	$(EXAMPLE) check -- $(SAMPLES)
+	$(EXAMPLE) check -- $(UNDER)
+	$(EXAMPLE) tape -- $(TAPE)
 	cargo test --offline --quiet --manifest-path bindings/rust/Cargo.toml
 	LD_LIBRARY_PATH=target/shared python3 examples/check.py $(SAMPLES)
+	LD_LIBRARY_PATH=target/shared python3 examples/tape.py $(TAPE)
+
+target/examples/%: examples/%.c include/blink_native.h $(ARCHIVE)
+	mkdir -p $(@D)
+	$(CC) -std=c99 -Wall -Wextra -Wpedantic -Werror -Iinclude $< $(ARCHIVE) -o $@
 
 # Timings beside the same loops in Rust, beside the second program and, where Debian's libflatbuffers-dev and
 # flatbuffers-compiler are installed, beside FlatBuffers; then the stack. Not part of the gate.
 TIMED = cargo run --release --offline --quiet --manifest-path bench/Cargo.toml --bin
+FLAT = $(CXX) -std=c++17 -O3 -Wall -Wextra -iquote target/flatbuffers -Iinclude
 
 bench: $(ARCHIVE)
 	rt staticlib wire_bench
+	rt staticlib tape_bench
 	$(TIMED) leaves
 	$(TIMED) questions
+	$(TIMED) tape -- target/blanks.tape
 ifneq ($(and $(wildcard /usr/include/flatbuffers/reflection.h),$(shell command -v flatc)),)
 	mkdir -p target/flatbuffers
 	flatc --cpp -o target/flatbuffers bench/flatbuffers/blank.fbs
 	flatc --binary --schema -o target/flatbuffers bench/flatbuffers/blank.fbs
-	$(CXX) -std=c++17 -O3 -Wall -Wextra -iquote target/flatbuffers -Iinclude bench/flatbuffers/compare.cpp $(ARCHIVE) -lflatbuffers -o target/flatbuffers/compare
+	$(FLAT) bench/flatbuffers/compare.cpp $(ARCHIVE) -lflatbuffers -o target/flatbuffers/compare
 	target/flatbuffers/compare samples/blank.table target/flatbuffers/blank.bfbs
+	$(FLAT) bench/flatbuffers/tape.cpp target/staticlib/libtape_bench.a $(ARCHIVE) -lflatbuffers -o target/flatbuffers/tape
+	target/flatbuffers/tape samples/blank.table target/flatbuffers/blank.bfbs target/blanks.tape
 endif
 	$(TIMED) stack
 

@@ -1,10 +1,12 @@
-//! Links the benchmark of the leaves with its own proved static library (`rt staticlib wire_bench` writes it); the others
-//! come by bindings/rust.
+//! Links the benchmarks of the leaves and of the tape with proved static libraries of their own (`rt staticlib` writes
+//! them); the others come by bindings/rust.
 use std::path::Path;
 
 fn main() {
     let root = Path::new(env!("CARGO_MANIFEST_DIR")).parent().expect("bench/ stands in the repository");
-    let archive = root.join("target/staticlib/libwire_bench.a");
-    println!("cargo:rerun-if-changed={}", archive.display());
-    println!("cargo:rustc-link-arg-bin=leaves={}", archive.display());
+    for (program, library) in [("leaves", "wire_bench"), ("tape", "tape_bench")] {
+        let archive = root.join(format!("target/staticlib/lib{library}.a"));
+        println!("cargo:rerun-if-changed={}", archive.display());
+        println!("cargo:rustc-link-arg-bin={program}={}", archive.display());
+    }
 }

@@ -15,18 +15,21 @@
  *   A store is lent like other bytes: records of 9 bytes from its start on, zeros behind them. samples/README.md says how
  *   one is written, blink_add_settings adds a record. It is checked in every call, in time linear in its length.
  *
+ * Tapes: messages end to end, of any length. blink_next_message reads one message after another, past those that are
+ *   refused.
+ *
  * Answers: a struct by value. `number` is 0 exactly where nothing is refused; else it is the first fault's number and
  *   `place` its byte, counted from 0 at the start of the message, table, store or sheet.
  *
  * Scratch: working room, at least as long as the message (else fault 21); 65536 bytes are enough for every message.
- *   After faults 20, 21, 23 and 50 it is untouched. After every other answer its first bytes, as many as the message has, are
- *   zero, and the rest is untouched.
+ *   After faults 20, 21, 23 and 50 it is untouched, and where a tape ends or is cut. After every other answer its first bytes,
+ *   as many as the message has, are zero, and the rest is untouched.
  * Other rooms: on success the first `length` bytes are written and the rest is untouched. On a refusal they are untouched,
  *   but for the sheet room of blink_rewrite, which says its own rule.
  *
  * Stack: a question takes less than 28 KiB, and less than 516 KiB with a store of more than 256 records. Measured, not
- *   proved: 26,847 bytes for a message to level 9 in static groups four deep, 10,063 for a table of 64 static groups, and
- *   525,703 for a store of 116,508 records (`make bench`). So a thread that asks wants a stack of 64 KiB, or of 640 KiB.
+ *   proved: 26,799 bytes for a message to level 9 in static groups four deep, 10,063 for a table of 64 static groups, and
+ *   525,655 for a store of 116,508 records (`make bench`). So a thread that asks wants a stack of 64 KiB, or of 640 KiB.
  *
  * Faults; blink_fault_words gives the words, and an enumeration below has a name for each:
  *  1 a group's size is under 12: too short for its type id and its extension offset
@@ -83,7 +86,7 @@
  *   of 43 the first byte behind the record;
  *   of 50 the store's first record at fault, or what follows its last record; where an addition is refused by it, where
  *   the new record would stand;
- *   of 20 to 23, 28 to 30, 42, 46 to 48, 51 and 59 always 0. */
+ *   of 20 to 23, 28 to 30, 42, 46 to 48, 51 and 59 always 0, but of 22 on a tape where the cut message starts on it. */
 #ifndef BLINK_NATIVE_H
 #define BLINK_NATIVE_H
 
@@ -96,7 +99,7 @@ extern "C" {
 
 /* The version of this header; blink_version() is that of the library. */
 #define BLINK_VERSION_MAJOR 0
-#define BLINK_VERSION_MINOR 2
+#define BLINK_VERSION_MINOR 3
 #define BLINK_VERSION_PATCH 0
 #define BLINK_VERSION (BLINK_VERSION_MAJOR << 16 | BLINK_VERSION_MINOR << 8 | BLINK_VERSION_PATCH)
 
@@ -206,6 +209,16 @@ typedef struct {
     uint32_t unused;
 } BlinkSettings;
 
+/* One step along a tape. An accepted message is `length` bytes from `tape + offset`. */
+typedef struct {
+    uint32_t number; /* 0: the message is accepted, or the tape has ended */
+    uint64_t place;  /* of 22 where the cut message starts on the tape; of others as in a BlinkVerdict */
+    uint32_t ended;  /* 1: no bytes are left; else 0 */
+    uint64_t offset; /* 0 on a refusal and at the end; so too the length */
+    uint64_t length;
+    uint64_t next; /* where on the tape to go on: behind the message */
+} BlinkStep;
+
 /* The library's version, as BLINK_VERSION is the header's: major << 16 | minor << 8 | patch. */
 uint32_t blink_version(void);
 
@@ -233,6 +246,29 @@ BlinkVerdict blink_check_message(const uint8_t *table, size_t table_length,
                                  const uint8_t *store, size_t store_length, uint16_t customer,
                                  const uint8_t *message, size_t message_length,
                                  uint8_t *scratch, size_t scratch_length);
+
+/* Reads the message at the place `at` of a tape. Its size word leads past it, refused or not. Faults 20, then 22 if the
+ * message is cut: 1 to 3 bytes are left, or its size passes the tape's end; these two end the tape, so `next` is its length.
+ * Then 23, 21, 50, 1 to 14 and 24 to 27, as blink_check_message has them for the message's bytes alone. With no bytes left
+ * nothing is refused: `ended` is 1, and `next` is `at`. A whole tape is read by
+ *
+ *     uint64_t at = 0;
+ *     for (;;) {
+ *         BlinkStep step = blink_next_message(table, table_length, NULL, 0, 0, tape, tape_length, at, scratch, sizeof scratch);
+ *         if (step.ended) {
+ *             break;
+ *         }
+ *         if (step.number == 0) {
+ *             use_message(tape + step.offset, step.length);
+ *         } else {
+ *             report_fault(at, step.number, step.place);
+ *         }
+ *         at = step.next;
+ *     } */
+BlinkStep blink_next_message(const uint8_t *table, size_t table_length,
+                             const uint8_t *store, size_t store_length, uint16_t customer,
+                             const uint8_t *tape, size_t tape_length, uint64_t at,
+                             uint8_t *scratch, size_t scratch_length);
 
 /* Writes the message's sheet, its meaning as a row of records. A sheet room of 11 * message_length bytes is always
  * enough. Faults of the message, then 46. */

@@ -599,7 +599,8 @@ class StandardOutput(Shop):
     QUESTIONS = [['check', 'blank.table'], ['check', 'blank.table', 'good.message'], ['check', 'blank.table', 'dusty.message'],
                  ['check', 'blank.table', 'good.message', 'dusty.message'], ['check', 'missing'], ['table', 'blank.table'],
                  ['read', 'blank.table', 'good.message', '1'], ['show', 'blank.table', 'good.message'],
-                 ['dump', 'blank.table', 'good.message'], ['settings', 'customers.store'], ['settings', 'get', 'customers.store', '7', '1'],
+                 ['dump', 'blank.table', 'good.message'], ['tape', 'blank.table', 'shift.tape'], ['settings', 'customers.store'],
+                 ['settings', 'get', 'customers.store', '7', '1'],
                  ['faults'], ['faults', '9'], ['help'], ['--help'], ['version'], ['show', 'bytes.table', 'longest.message'],
                  ['dump', 'bytes.table', 'longest.message'], ['sheet', 'blank.table', 'good.message', '-'],
                  ['sheet', 'bytes.table', 'longest.message', '-'], ['rewrite', 'blank.table', 'good.message', '/dev/stdout']]
@@ -781,9 +782,10 @@ class ClosedDescriptors(Shop):
     def test_standard_input_asked_for(self, closed):
         """Nothing is accepted of an input that is not there."""
         if 0 in closed:
-            answer = self.blink('check', 'blank.table', '-', before=closing(*closed))
-            self.assertNotIn(b'accepted', answer.out)
-            self.assertNotEqual(answer.status, 0)
+            for command in ['check', 'tape']:
+                answer = self.blink(command, 'blank.table', '-', before=closing(*closed))
+                self.assertNotIn(b'accepted', answer.out)
+                self.assertNotEqual(answer.status, 0)
 
 
 class Limits(Shop):
@@ -875,8 +877,8 @@ class Limits(Shop):
     def test_folder_as_input(self):
         os.mkdir(self.path('folder'))
         reason = 'folder: Is a directory'
-        for command, more in [('check', []), ('read', ['1']), ('show', []), ('dump', []), ('sheet', ['out']), ('write', ['out']),
-                              ('rewrite', ['out'])]:
+        for command, more in [('check', []), ('read', ['1']), ('show', []), ('dump', []), ('tape', []), ('sheet', ['out']),
+                              ('write', ['out']), ('rewrite', ['out'])]:
             self.expect([command, 'folder', 'good.message', *more], 'error', reason)
             self.expect([command, 'blank.table', 'folder', *more], 'error', reason)
         self.expect(['check', 'folder'], 'error', reason)
@@ -1215,6 +1217,11 @@ class Stack(Shop):
             with self.subTest('several', table=kind):
                 answer = self.blink('check', names[0], *4 * [names[1]], before=before)
                 self.assertEqual(answer.lines, 4 * [names[1] + ': accepted'] + [''])
+            with self.subTest('tape', table=kind):
+                self.put('tape', 3 * self.get(names[1]))
+                for more in [[], ['--settings', 'longest.store', '--customer', '9']]:
+                    answer = self.blink('tape', names[0], 'tape', *more, before=before)
+                    self.assertEqual(answer.lines[-2:], ['3 messages: 3 accepted, 0 refused', ''])
         with self.subTest('read'):
             self.expect(['read', 'bytes.table', 'longest.message', '0', '65511'], 'u8 %d' % LONGEST.values[0][-1], before=before)
         with self.subTest('settings'):
@@ -1415,9 +1422,9 @@ class Dash(Shop):
 
     def test_asked_for_twice(self):
         reason = '-: standard input is asked for twice'
-        for line in ['check - -', 'check blank.table - -', 'check - good.message -', 'read - - 1', 'show - -', 'dump - -', 'sheet - - out',
-                     'write - - out', 'rewrite - - out', 'check blank.table - --settings - --customer 7',
-                     'check - good.message --settings - --customer 7']:
+        for line in ['check - -', 'check blank.table - -', 'check - good.message -', 'read - - 1', 'show - -', 'dump - -', 'tape - -',
+                     'sheet - - out', 'write - - out', 'rewrite - - out', 'check blank.table - --settings - --customer 7',
+                     'check - good.message --settings - --customer 7', 'tape blank.table - --settings - --customer 7']:
             self.expect(line.split(), 'error', reason, stdin=sample('good.message'))
 
     def test_output(self):
@@ -1520,12 +1527,154 @@ class SeveralMessages(Shop):
         self.assertLess(time.monotonic() - start, 10)
 
 
+class Tape(Shop):
+    """`tape`: a line for each message of a tape, past those that are refused, and how many there are."""
+    GOOD, DUSTY, CLEAN = [sample(name + '.message') for name in ('good', 'dusty', 'good-no-note')]
+    BAD_STORE = ['--settings', 'good.message', '--customer', '7']
+    NONE = '0 messages: 0 accepted, 0 refused'
+
+    def answers(self, tape, lines, status, more=(), table='blank.table', name='tape', **how):
+        self.put('tape', tape)
+        due = folder_contents(self.folder)
+        answer = self.blink('tape', table, name, *more, **how)
+        self.same_folder(due, str(answer))
+        self.assertEqual(answer.lines, [*lines, ''])
+        self.assertEqual(answer.err, b'')
+        self.has_status(answer, status)
+
+    def test_samples(self):
+        self.assertEqual(sample('shift.tape'), self.GOOD + self.DUSTY + self.CLEAN)
+        self.assertEqual(sample('cut.tape'), sample('shift.tape')[:177])
+
+    def test_all_accepted(self):
+        self.answers(self.GOOD, ['0: accepted, 81 bytes', '1 message: 1 accepted, 0 refused'], 0)
+        self.answers(2 * self.GOOD + self.CLEAN, ['0: accepted, 81 bytes', '81: accepted, 81 bytes', '162: accepted, 56 bytes',
+                                                  '3 messages: 3 accepted, 0 refused'], 0)
+
+    def test_refused_messages_are_passed_over(self):
+        """Wherever they stand, the status is theirs."""
+        self.answers(self.GOOD + self.DUSTY + self.CLEAN, ['0: accepted, 81 bytes', '81: refused 9 at 41', '137: accepted, 56 bytes',
+                                                           '3 messages: 2 accepted, 1 refused'], 1)
+        self.answers(self.DUSTY + self.GOOD, ['0: refused 9 at 41', '56: accepted, 81 bytes', '2 messages: 1 accepted, 1 refused'], 1)
+        self.answers(self.GOOD + self.DUSTY, ['0: accepted, 81 bytes', '81: refused 9 at 41', '2 messages: 1 accepted, 1 refused'], 1)
+        self.answers(self.DUSTY, ['0: refused 9 at 41', '1 message: 0 accepted, 1 refused'], 1)
+
+    def test_empty(self):
+        """It ends without a refusal, whatever the table and the store are."""
+        for table in ['blank.table', 'stale.table', '/dev/null']:
+            self.answers(b'', [self.NONE], 0, table=table)
+            self.answers(b'', [self.NONE], 0, self.BAD_STORE, table=table)
+        self.answers(b'', [self.NONE], 0, name='/dev/null')
+
+    def test_cut_tail(self):
+        for before, lines, refused in [(b'', [], 0), (self.GOOD, ['0: accepted, 81 bytes'], 0), (self.DUSTY, ['0: refused 9 at 41'], 1)]:
+            at, total = len(before), '%d message%s: %d accepted, %d refused' % (len(lines) + 1, 's' if lines else '',
+                                                                              len(lines) - refused, refused + 1)
+            for left in range(1, len(self.GOOD)):
+                said = '%d byte%s left' % (left, ' is' if left == 1 else 's are')
+                why = 'too few for a size word' if left < 4 else 'and by its size word it has 81'
+                self.answers(before + self.GOOD[:left], [*lines, '%d: refused 22 at %d' % (at, at),
+                                                         'the tape ends inside this message: %s, %s' % (said, why), total], 1)
+
+    def test_cut_tail_of_the_greatest_size(self):
+        self.answers(b'\xff' * 4, ['0: refused 22 at 0', 'the tape ends inside this message: 4 bytes are left, and by its size word it has '
+                                   '4294967299', '1 message: 0 accepted, 1 refused'], 1)
+
+    def test_table_refused(self):
+        """It is said once, and no message is looked at."""
+        due = ['0: refused 20 at 0', *self.expect(['check', 'stale.table', 'good.message'], 'refused 20 at 0').lines[1:-1],
+               '1 message: 0 accepted, 1 refused']
+        for tape in [self.GOOD, self.DUSTY + self.GOOD, b'x', b'\xff' * 4]:
+            self.answers(tape, due, 1, table='stale.table')
+            self.answers(tape, due, 1, self.BAD_STORE, table='stale.table')
+
+    def test_store_refused(self):
+        """It is said of each message, after the tape's own 22 and a message's 23."""
+        self.answers(self.GOOD + self.DUSTY, ['0: refused 50 at 0', '81: refused 50 at 0', '2 messages: 0 accepted, 2 refused'], 1,
+                     self.BAD_STORE)
+        self.answers(u32(65533) + bytes(65533) + b'x',
+                     ['0: refused 23 at 0', '65537: refused 22 at 65537',
+                      'the tape ends inside this message: 1 byte is left, too few for a size word', '2 messages: 0 accepted, 2 refused'], 1,
+                     self.BAD_STORE)
+
+    def test_settings(self):
+        tape = self.GOOD + sample('rubbish.message') + self.CLEAN
+        for customer, answer in [('12', 'accepted, 64 bytes'), ('7', 'refused 6 at 37'), ('300', 'refused 4 at 33'),
+                                 ('9', 'refused 4 at 33')]:
+            refused = int(answer.startswith('refused'))
+            self.answers(tape, ['0: accepted, 81 bytes', '81: ' + answer, '145: accepted, 56 bytes',
+                                '3 messages: %d accepted, %d refused' % (3 - refused, refused)], refused,
+                         ['--settings', 'customers.store', '--customer', customer])
+
+    def test_standard_input(self):
+        lines = ['0: accepted, 81 bytes', '1 message: 1 accepted, 0 refused']
+        self.answers(b'', lines, 0, name='-', stdin=self.GOOD)
+        self.answers(b'', [self.NONE], 0, name='-')
+        self.answers(self.GOOD, lines, 0, table='-', stdin=sample('blank.table'))
+        self.answers(self.GOOD, lines, 0, ['--settings', '-', '--customer', '7'], stdin=sample('customers.store'))
+
+    def test_each_answer_is_that_of_the_message_alone(self):
+        """Whole and damaged messages in an order by chance, with sizes that none may have among them."""
+        chance = random.Random(10)
+        messages = [self.GOOD, self.DUSTY, self.CLEAN, sample('padded.message'), sample('rubbish.message')]
+        messages += [u32(size) + bytes(size) for size in [0, 1, 11, 12, 32, 65532, 65533, 70000]]
+        for _ in range(40):
+            message = bytearray(chance.choice(messages[:5]))
+            message[chance.randrange(4, len(message))] = chance.randrange(256)
+            messages.append(bytes(message))
+        for n, message in enumerate(messages):
+            self.put('message%d' % n, message)
+        names = ['message%d' % n for n in range(len(messages))]
+        alone = self.blink('check', 'blank.table', *names).lines
+        verdicts = [line.split(': ')[1] for line in alone[:-1]]
+        order = [chance.randrange(len(messages)) for _ in range(400)]
+        at, lines = 0, []
+        for n in order:
+            length = ', %d bytes' % len(messages[n]) if verdicts[n] == 'accepted' else ''
+            lines.append('%d: %s%s' % (at, verdicts[n], length))
+            at += len(messages[n])
+        accepted = sum(verdicts[n] == 'accepted' for n in order)
+        lines.append('400 messages: %d accepted, %d refused' % (accepted, 400 - accepted))
+        self.answers(b''.join(messages[n] for n in order), lines, 1)
+
+    def test_longest(self):
+        """No fault says that a tape is too long, so it is an error."""
+        most = 64 << 20
+        self.answers(u32(most - 4) + bytes(most - 4), ['0: refused 23 at 0', '1 message: 0 accepted, 1 refused'], 1)
+        self.put('tape', bytes(most + 1))
+        self.expect(['tape', 'blank.table', 'tape'], 'error', 'tape: longer than 67108864 bytes')
+        self.expect(['tape', 'blank.table', '/dev/zero'], 'error', '/dev/zero: longer than 67108864 bytes')
+
+    def test_unreadable(self):
+        self.expect(['tape', 'blank.table', 'missing'], 'error', 'missing: No such file or directory')
+        self.expect(['tape', 'missing', 'shift.tape'], 'error', 'missing: No such file or directory')
+        self.expect(['tape', 'blank.table', 'shift.tape', '--settings', 'missing', '--customer', '7'], 'error',
+                    'missing: No such file or directory')
+
+    def test_thousands(self):
+        start = time.monotonic()
+        lines = ['%d: accepted, 81 bytes' % (81 * n) for n in range(20000)]
+        self.answers(20000 * self.GOOD, [*lines, '20000 messages: 20000 accepted, 0 refused'], 0)
+        self.assertLess(time.monotonic() - start, 10)
+
+    def test_pipe_closed_in_the_middle(self):
+        self.put('tape', 20000 * self.GOOD)
+        with subprocess.Popen([COMMAND['path'], 'tape', 'blank.table', 'tape'], cwd=self.folder, preexec_fn=limited(),
+                              stdout=subprocess.PIPE, stderr=subprocess.PIPE) as process:
+            self.assertEqual(process.stdout.readline(), b'0: accepted, 81 bytes\n')
+            process.stdout.close()
+            said = process.stderr.read()
+            answer = Answer(process.wait(), b'', said)
+        self.assertIn(b'standard output: Broken pipe', said)
+        self.has_status(answer, 2)
+
+
 class HelpAndVersion(Shop):
     """8. `--help`, `-h`, `--version`, `faults N`."""
 
     def test_help(self):
         text = self.blink('help')
-        for word in ['check', 'read', 'show', 'dump', 'table', 'sheet', 'write', 'rewrite', 'settings', 'faults', 'help', 'version',
+        for word in ['check', 'read', 'show', 'dump', 'tape', 'table', 'sheet', 'write', 'rewrite', 'settings', 'faults', 'help', 'version',
                      '--settings', '--customer']:
             self.assertRegex(text.out.decode(), r'(?<!\w)%s\b' % word)
         self.assertEqual([line for line in text.lines if len(line) > 80], [])
@@ -1538,7 +1687,7 @@ class HelpAndVersion(Shop):
     def test_version(self):
         for word in ['version', '--version']:
             answer = self.blink(word)
-            self.assertEqual((answer.out, answer.err), (b'blink 0.2.0\n', b''))
+            self.assertEqual((answer.out, answer.err), (b'blink 0.3.0\n', b''))
             self.has_status(answer, 0)
 
     def test_faults(self):
@@ -1576,7 +1725,8 @@ class WrongArguments(Shop):
 
     def test_missing(self):
         for line in ['check TABLE', 'read TABLE', 'read blank.table MESSAGE', 'read blank.table good.message FIELD', 'show TABLE',
-                     'show blank.table MESSAGE', 'dump TABLE', 'dump blank.table MESSAGE', 'table TABLE', 'sheet TABLE',
+                     'show blank.table MESSAGE', 'dump TABLE', 'dump blank.table MESSAGE', 'tape TABLE', 'tape blank.table TAPE',
+                     'table TABLE', 'sheet TABLE',
                      'sheet blank.table MESSAGE', 'sheet blank.table good.message OUT', 'write TABLE', 'write blank.table SHEET',
                      'write blank.table good.sheet OUT', 'rewrite TABLE', 'rewrite blank.table MESSAGE',
                      'rewrite blank.table good.message OUT']:
@@ -1589,8 +1739,8 @@ class WrongArguments(Shop):
 
     def test_extra(self):
         for line in ['read blank.table good.message 1 0', 'show blank.table good.message', 'dump blank.table good.message',
-                     'table blank.table', 'sheet blank.table good.message out', 'write blank.table good.sheet out',
-                     'rewrite blank.table good.message out']:
+                     'tape blank.table shift.tape', 'table blank.table', 'sheet blank.table good.message out',
+                     'write blank.table good.sheet out', 'rewrite blank.table good.message out']:
             arguments = line.split()
             self.wrong([*arguments, 'X'], '%s: extra argument: X' % arguments[0])
             self.wrong([*arguments, 'X', 'Y'], '%s: extra argument: X' % arguments[0])

@@ -7,73 +7,22 @@
 // offsets and lengths lie in the buffer and that strings end; not UTF-8, not symbols, not that bytes are used once.
 #include "blank_generated.h"
 #include "blink_native.h"
+#include "timing.h"
 
 #include <flatbuffers/reflection.h>
 
-#include <algorithm>
-#include <chrono>
-#include <cstdio>
-#include <cstdlib>
-#include <cstring>
-#include <functional>
 #include <string>
-#include <vector>
 
 namespace {
 
-constexpr int kRounds = 15;
-constexpr double kLeastSeconds = 0.004;
 constexpr std::uint64_t kBarcode = 0;
-
-using Bytes = std::vector<std::uint8_t>;
 
 // What is read goes here, so that the compiler cannot leave a reading out.
 volatile std::uint64_t sink;
 
-[[noreturn]] void fail(const char *what) {
-    std::fprintf(stderr, "compare: %s\n", what);
-    std::exit(1);
-}
-
-Bytes load(const char *name) {
-    std::FILE *file = std::fopen(name, "rb");
-    if (file == nullptr) {
-        fail(name);
-    }
-    Bytes bytes(65536);
-    bytes.resize(std::fread(bytes.data(), 1, bytes.size(), file));
-    std::fclose(file);
-    return bytes;
-}
-
-// Seconds for one call, over as many calls as take at least kLeastSeconds.
-double once(const std::function<void()> &f) {
-    for (std::uint64_t calls = 1;; calls *= 2) {
-        auto start = std::chrono::steady_clock::now();
-        for (std::uint64_t i = 0; i < calls; i++) {
-            f();
-        }
-        std::chrono::duration<double> seconds = std::chrono::steady_clock::now() - start;
-        if (seconds.count() >= kLeastSeconds) {
-            return seconds.count() / static_cast<double>(calls);
-        }
-    }
-}
-
-double median(std::vector<double> times) {
-    std::sort(times.begin(), times.end());
-    return times[times.size() / 2];
-}
-
-// Both sides in turn within each round, so that a busy moment of the machine meets both.
 void compare(const char *name, const std::function<void()> &proved, const std::function<void()> &other) {
-    std::vector<double> ours, theirs;
-    for (int round = 0; round < kRounds; round++) {
-        ours.push_back(once(proved));
-        theirs.push_back(once(other));
-    }
-    double a = median(ours) * 1e6, b = median(theirs) * 1e6;
-    std::printf("%-46s %10.3f %10.3f %7.2f\n", name, a, b, a / b);
+    auto [ours, theirs, ratio] = timed(proved, other);
+    std::printf("%-46s %10.3f %11.3f %7.2f\n", name, ours * 1e6, theirs * 1e6, ratio);
 }
 
 const std::string kCode = "QZ-2026-11-0417";
@@ -201,7 +150,7 @@ int main(int count, char **names) {
     };
 
     std::printf("Blank: %zu bytes here, %zu as a FlatBuffer\n", message.size(), size);
-    std::printf("%-46s %10s %10s %7s\n", "microseconds a call, median", "proved", "FlatBuffers", "ratio");
+    heading("microseconds a call, median");
     compare("check: generated code", check, verify);
     compare("check: the schema as data", check, reflect);
     compare("check, read the barcode: generated code", barcode, verify_barcode);

@@ -38,16 +38,30 @@ fn sequence_of(values: &[Vec<u8>]) -> Vec<u8> {
     body
 }
 
-/// Barcode, density, sound speed, grade and a note: what a test station sends.
-fn station() -> Case {
-    let (barcode, note) = (text(b"BC-0042-19-A"), text(b"knot left"));
+/// What a test station measures of a blank, and may note about it.
+pub struct Blank<'a> {
+    pub barcode: &'a [u8],
+    pub density: u32,
+    pub speed: u32,
+    pub grade: u32,
+    pub note: Option<&'a [u8]>,
+}
+
+/// What a test station sends.
+pub fn blank_message(blank: &Blank) -> Vec<u8> {
+    let (barcode, note) = (text(blank.barcode), blank.note.map(text));
     let mut fields = 21u32.to_le_bytes().to_vec();
-    fields.extend(612u32.to_le_bytes());
-    fields.extend(4870u32.to_le_bytes());
-    fields.extend(2u32.to_le_bytes());
-    fields.push(1);
-    fields.extend((4 + barcode.len() as u32).to_le_bytes());
-    Case { name: "a station's", table: blank(), message: dynamic(1, &fields, &[barcode, note].concat()) }
+    fields.extend(blank.density.to_le_bytes());
+    fields.extend(blank.speed.to_le_bytes());
+    fields.extend(blank.grade.to_le_bytes());
+    fields.push(u8::from(note.is_some()));
+    fields.extend(note.as_ref().map_or(0, |_| 4 + barcode.len() as u32).to_le_bytes());
+    dynamic(1, &fields, &[barcode, note.unwrap_or_default()].concat())
+}
+
+fn station() -> Case {
+    let measured = Blank { barcode: b"BC-0042-19-A", density: 612, speed: 4870, grade: 2, note: Some(b"knot left") };
+    Case { name: "a station's", table: blank(), message: blank_message(&measured) }
 }
 
 fn one_field(name: &'static str, record: Vec<u8>, value: &[u8]) -> Case {

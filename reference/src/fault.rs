@@ -52,7 +52,8 @@ pub enum FaultNumber {
 }
 
 /// A refusal: the first fault in the papers' order, and its place, counted
-/// from the first byte of the message, table, sheet or store.
+/// from the first byte of the message, table, sheet or store; that of a tape's
+/// cut tail from the first byte of the tape.
 #[derive(Clone, Copy, Debug, PartialEq, Eq)]
 pub struct Fault {
     pub number: FaultNumber,

@@ -35,13 +35,22 @@
 //! let mut store = [0; 90];
 //! blink_reference::add_settings(&mut store, 7, 1, 1, 0, 0)?;
 //! schema.check_message(Settings::of(&store, 7), &untipped, &mut scratch)?;
+//!
+//! // Messages end to end: a refused one is passed over.
+//! let tape = [&untipped[..], message].concat();
+//! let mut reader = blink_reference::TapeReader::new(&tape);
+//! let first = schema.next_message(Settings::NONE, &mut reader, &mut scratch).unwrap();
+//! assert_eq!((first.answer, first.bytes), (Err(fault), &[][..]));
+//! let second = schema.next_message(Settings::NONE, &mut reader, &mut scratch).unwrap();
+//! assert_eq!((second.answer, second.bytes), (Ok(()), &message[..]));
+//! assert_eq!(schema.next_message(Settings::NONE, &mut reader, &mut scratch), None);
 //! # Ok::<(), blink_reference::Fault>(())
 //! ```
 //!
 //! No question allocates. Lent bytes are left as the papers say: after
-//! faults 20, 23, 21 and 50 the scratch is untouched, after all else its
-//! first bytes, as many as the message has, are zero. A refusal leaves an
-//! output or a store untouched.
+//! faults 20, 23, 21 and 50, and the 22 of a tape's cut tail, the scratch is
+//! untouched, after all else its first bytes, as many as the message has, are
+//! zero. A refusal leaves an output or a store untouched.
 
 mod area;
 mod check;
@@ -54,6 +63,7 @@ mod schema;
 mod settings;
 mod sheet;
 mod table;
+mod tape;
 mod utf8;
 pub mod vectors;
 mod wire;
@@ -66,6 +76,7 @@ pub use read::Number;
 pub use schema::{Schema, Type};
 pub use settings::{add_settings, check_store, read_settings, Ignored, Settings};
 pub use table::check_table;
+pub use tape::{TapeMessage, TapeReader};
 
 /// Asks under the schema of a table, or gives fault 20, whatever the table's
 /// own place.
@@ -172,4 +183,23 @@ pub fn read_bytes_verdict(
     item: u64,
 ) -> Result<(), Fault> {
     read_bytes(table, store, customer, message, scratch, field, item).map(|_| ())
+}
+
+/// As [`Schema::next_message`]; where bytes are left, a table that is refused
+/// ends the tape.
+pub fn next_message<'t>(
+    table: &[u8],
+    store: &[u8],
+    customer: u16,
+    reader: &mut TapeReader<'t>,
+    scratch: &mut [u8],
+) -> Option<TapeMessage<'t>> {
+    if reader.has_ended() {
+        return None;
+    }
+    let settings = Settings::of(store, customer);
+    match under(table, |schema| Ok(schema.next_message(settings, reader, scratch))) {
+        Ok(message) => message,
+        Err(fault) => Some(reader.end(fault)),
+    }
 }

@@ -4,9 +4,9 @@
 use std::ops::Range;
 
 use crate::{
-    add_settings, check_message, check_store, check_table, message_to_sheet, read_bytes, read_bytes_part,
-    read_bytes_verdict, read_number, read_settings, rewrite, sheet_to_message, Fault, FaultNumber, Ignored,
-    Number, Settings,
+    add_settings, check_message, check_store, check_table, message_to_sheet, next_message, read_bytes,
+    read_bytes_part, read_bytes_verdict, read_number, read_settings, rewrite, sheet_to_message, Fault,
+    FaultNumber, Ignored, Number, Schema, Settings, TapeMessage, TapeReader,
 };
 
 /// The public questions, with the numbers that stored cases use.
@@ -24,10 +24,11 @@ pub enum Kind {
     CheckStore = 9,
     ReadSettings,
     AddSettings,
+    ReadTape,
 }
 
 impl Kind {
-    pub const ALL: [Kind; 10] = [
+    pub const ALL: [Kind; 11] = [
         Kind::CheckTable,
         Kind::CheckMessage,
         Kind::MessageToSheet,
@@ -38,6 +39,7 @@ impl Kind {
         Kind::CheckStore,
         Kind::ReadSettings,
         Kind::AddSettings,
+        Kind::ReadTape,
     ];
 
     /// The questions about a message, which settings may govern.
@@ -64,16 +66,17 @@ impl Kind {
 #[derive(Clone, Debug, PartialEq, Eq)]
 pub struct Question {
     pub kind: Kind,
-    /// The table, message, sheet or store that the question is about. A store
-    /// that settings are added to is lent too.
+    /// The table, message, sheet, store or tape that the question is about. A
+    /// store that settings are added to is lent too.
     pub input: Vec<u8>,
     /// Lengths of the lent scratch, sheet room and output.
     pub scratch: usize,
     pub sheet: usize,
     pub output: usize,
-    /// The field, or a customer.
+    /// The field, a customer, or where a tape's reader starts.
     pub field: u64,
-    /// The item, or a version; behind the version of an addition its flags.
+    /// The item, a version, or how many of a tape's answers are not asked for;
+    /// behind the version of an addition its flags.
     pub item: u64,
 }
 
@@ -93,6 +96,11 @@ impl Question {
         let [absent, pads, unused] = flags;
         let item = u64::from_le_bytes([low, high, absent, pads, unused, 0, 0, 0]);
         Question { field: customer.into(), item, ..Question::new(Kind::AddSettings, store) }
+    }
+
+    /// All of a tape.
+    pub fn read_tape(tape: Vec<u8>, scratch: usize) -> Question {
+        Question { scratch, ..Question::new(Kind::ReadTape, tape) }
     }
 
     fn customer(&self) -> u16 {
@@ -120,6 +128,31 @@ pub enum Answer {
     /// A part of the message.
     Part(Range<usize>),
     Settings(Ignored),
+    /// All steps of a tape's reader, the last of which found that it has
+    /// ended.
+    Steps(Vec<Step>),
+}
+
+/// One step of a tape's reader.
+#[derive(Clone, Debug, PartialEq)]
+pub struct Step {
+    /// The reader's place before and after.
+    pub start: usize,
+    pub next: usize,
+    /// What the check answered, or nothing where the tape has ended.
+    pub answer: Option<Result<(), Fault>>,
+    /// What was handed out.
+    pub bytes: Vec<u8>,
+    /// The scratch afterwards; before each step it holds its pattern.
+    pub scratch: Vec<u8>,
+}
+
+/// Fault number and place, 0 and 0 if there is no fault.
+pub fn verdict<T>(answer: &Result<T, Fault>) -> (u8, usize) {
+    match answer {
+        Ok(_) => (0, 0),
+        Err(fault) => (fault.number as u8, fault.place),
+    }
 }
 
 /// The answer or refusal, and every lent byte afterwards.
@@ -131,6 +164,18 @@ pub struct Reply {
     pub output: Vec<u8>,
     /// The store that settings were added to; else empty.
     pub store: Vec<u8>,
+}
+
+impl Reply {
+    /// Fault number and place; of a tape, those of each message.
+    pub fn verdicts(&self) -> Vec<(u8, usize)> {
+        match &self.answer {
+            Ok(Answer::Steps(steps)) => {
+                steps.iter().filter_map(|step| step.answer.as_ref()).map(verdict).collect()
+            }
+            answer => vec![verdict(answer)],
+        }
+    }
 }
 
 /// What lent bytes hold before a question.
@@ -179,6 +224,11 @@ pub fn ask(table: &[u8], settings: Settings<'_>, question: &Question) -> Reply {
             add_settings(&mut lent_store, question.customer(), version, absent, pads, unused)
                 .map(|()| Answer::Accepted)
         }
+        Kind::ReadTape => {
+            let next =
+                |reader: &mut _, scratch: &mut _| next_message(table, store, customer, reader, scratch);
+            Ok(Answer::Steps(steps(question, next)))
+        }
     };
     let reply = Reply { answer, scratch, sheet, output, store: lent_store };
     assert_scratch(question, &reply);
@@ -186,7 +236,32 @@ pub fn ask(table: &[u8], settings: Settings<'_>, question: &Question) -> Reply {
     assert_output(question, &reply);
     assert_store(question, &reply);
     assert_twins(table, settings, question, &reply);
+    assert_steps(table, settings, question, &reply);
     reply
+}
+
+/// Reads a tape until it ends.
+fn steps<'q>(
+    question: &'q Question,
+    mut next: impl FnMut(&mut TapeReader<'q>, &mut [u8]) -> Option<TapeMessage<'q>>,
+) -> Vec<Step> {
+    let place = question.field.try_into().expect("a place is no longer than a length");
+    let mut reader = TapeReader { tape: &question.input, place };
+    let mut steps: Vec<Step> = Vec::new();
+    while steps.last().is_none_or(|step| step.answer.is_some()) {
+        assert!(steps.len() <= question.input.len(), "there are no more messages than bytes");
+        let start = reader.place;
+        let mut scratch = pattern(question.scratch);
+        let message = next(&mut reader, &mut scratch);
+        steps.push(Step {
+            start,
+            next: reader.place,
+            answer: message.map(|message| message.answer),
+            bytes: message.map_or(Vec::new(), |message| message.bytes.to_vec()),
+            scratch,
+        });
+    }
+    steps
 }
 
 /// Whether a lent buffer holds its pattern from `from` on.
@@ -197,16 +272,43 @@ fn untouched_from(lent: &[u8], from: usize) -> bool {
 /// After 20, 23, 21 and 50 untouched; after all else its first bytes, as many
 /// as the message has, are zero and the rest untouched.
 fn assert_scratch(question: &Question, reply: &Reply) {
-    use FaultNumber::{MessageTooLong, ScratchTooShort, StoreDamaged, TableRefused};
-    let before_walk = reply.answer.as_ref().is_err_and(|fault| {
-        matches!(fault.number, TableRefused | MessageTooLong | ScratchTooShort | StoreDamaged)
-    });
+    let before_walk = reply.answer.as_ref().is_err_and(is_before_walk);
     let cleared = match question.kind.is_of_message() && !before_walk {
         true => question.input.len(),
         false => 0,
     };
-    assert!(reply.scratch[..cleared].iter().all(|&byte| byte == 0));
-    assert!(untouched_from(&reply.scratch, cleared));
+    assert_cleared(&reply.scratch, cleared);
+}
+
+fn is_before_walk(fault: &Fault) -> bool {
+    use FaultNumber::{MessageTooLong, ScratchTooShort, StoreDamaged, TableRefused};
+    matches!(fault.number, TableRefused | MessageTooLong | ScratchTooShort | StoreDamaged)
+}
+
+fn assert_cleared(scratch: &[u8], cleared: usize) {
+    assert!(scratch[..cleared].iter().all(|&byte| byte == 0));
+    assert!(untouched_from(scratch, cleared));
+}
+
+/// Of a tape, the same by message. A message that is there is as long as its
+/// size word says, so that 22 is that of a cut tail, and leaves the scratch
+/// untouched. With a prepared schema all answers are the same.
+fn assert_steps(table: &[u8], settings: Settings, question: &Question, reply: &Reply) {
+    let Ok(Answer::Steps(given)) = &reply.answer else {
+        return;
+    };
+    for step in given {
+        let cleared = match &step.answer {
+            None => 0,
+            Some(Err(fault)) if is_before_walk(fault) || fault.number == FaultNumber::LengthNotSize => 0,
+            Some(_) => step.next - step.start,
+        };
+        assert_cleared(&step.scratch, cleared);
+    }
+    if let Ok(schema) = check_table(table) {
+        let next = |reader: &mut _, scratch: &mut _| Schema::next_message(&schema, settings, reader, scratch);
+        assert!(*given == steps(question, next));
+    }
 }
 
 /// Untouched on a refusal, but for a rewriting refused by 47: then, as after

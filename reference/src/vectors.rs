@@ -1,12 +1,13 @@
 //! Stored cases: the files that the proved program is run on. Their format
 //! is described in crates/conformance/README.md.
 
-use crate::question::{ask, Answer, Kind, Question, Reply};
+use crate::question::{ask, verdict, Answer, Kind, Question, Reply, Step};
 use crate::{Ignored, Number, Settings};
 
 /// The stored files, by name, and the kinds of questions each holds. Those of
-/// the last are asked under stores, all before it under none.
-pub const FILES: [(&str, &[Kind]); 9] = [
+/// `settings` are asked under stores, those of `tape` at times, all others
+/// under none.
+pub const FILES: [(&str, &[Kind]); 10] = [
     ("table", &[Kind::CheckTable]),
     ("check", &[Kind::CheckMessage]),
     ("sheet", &[Kind::MessageToSheet]),
@@ -16,6 +17,7 @@ pub const FILES: [(&str, &[Kind]); 9] = [
     ("bytes", &[Kind::ReadBytes]),
     ("store", &Kind::OF_STORES),
     ("settings", &Kind::OF_MESSAGES),
+    ("tape", &[Kind::ReadTape]),
 ];
 
 const HEADER: usize = 40;
@@ -100,8 +102,9 @@ pub fn decode(mut file: &[u8]) -> Option<Vec<Entry>> {
     Some(entries)
 }
 
-/// The line that answers each question, and its fault number (0 for none).
-pub fn answer_lines(entries: &[Entry]) -> Vec<(String, u8)> {
+/// The line that answers each question, and its fault numbers (0 for none):
+/// one, or of a tape those of each message.
+pub fn answer_lines(entries: &[Entry]) -> Vec<(String, Vec<u8>)> {
     let mut table: &[u8] = &[];
     let mut settings = Settings::NONE;
     let mut lines = Vec::new();
@@ -111,8 +114,8 @@ pub fn answer_lines(entries: &[Entry]) -> Vec<(String, u8)> {
             Entry::Settings(store, customer) => settings = Settings::of(store, *customer),
             Entry::Ask(question) => {
                 let reply = ask(table, settings, question);
-                let number = reply.answer.as_ref().map_or_else(|f| f.number as u8, |_| 0);
-                lines.push((answer_line(question, &reply), number));
+                let numbers = reply.verdicts().into_iter().map(|(number, _)| number).collect();
+                lines.push((answer_line(question, &reply), numbers));
             }
         }
     }
@@ -120,12 +123,13 @@ pub fn answer_lines(entries: &[Entry]) -> Vec<(String, u8)> {
 }
 
 fn answer_line(question: &Question, reply: &Reply) -> String {
-    let (number, place) = match &reply.answer {
-        Ok(_) => (0, 0),
-        Err(fault) => (fault.number as u8, fault.place),
-    };
-    let mut words = vec![number.to_string(), place.to_string()];
     let answer = reply.answer.as_ref().ok();
+    if let Some(Answer::Steps(steps)) = answer {
+        let asked = steps.iter().skip(question.item as usize);
+        return asked.map(step_words).collect::<Vec<_>>().join("; ");
+    }
+    let (number, place) = verdict(&reply.answer);
+    let mut words = vec![number.to_string(), place.to_string()];
     match question.kind {
         Kind::CheckTable | Kind::CheckMessage | Kind::CheckStore | Kind::AddSettings => {}
         Kind::ReadSettings => {
@@ -156,6 +160,7 @@ fn answer_line(question: &Question, reply: &Reply) -> String {
             words.push(part.len().to_string());
             words.push(adler32(&question.input[part]).to_string());
         }
+        Kind::ReadTape => unreachable!("a tape's steps were answered before"),
     }
     for lent in lent_buffers(question.kind, reply) {
         words.push(adler32(lent).to_string());
@@ -172,7 +177,20 @@ fn lent_buffers(kind: Kind, reply: &Reply) -> Vec<&[u8]> {
         Kind::MessageToSheet => vec![&reply.scratch, &reply.sheet],
         Kind::SheetToMessage => vec![&reply.output],
         Kind::Rewrite => vec![&reply.scratch, &reply.sheet, &reply.output],
+        Kind::ReadTape => vec![],
     }
+}
+
+fn step_words(step: &Step) -> String {
+    let answer = match &step.answer {
+        None => "ended".to_string(),
+        Some(answer) => {
+            let (number, place) = verdict(answer);
+            format!("{number} {place}")
+        }
+    };
+    let (length, part, scratch) = (step.bytes.len(), adler32(&step.bytes), adler32(&step.scratch));
+    format!("{answer} {} {length} {part} {scratch}", step.next)
 }
 
 fn number_words(number: Number) -> String {

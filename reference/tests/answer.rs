@@ -139,6 +139,35 @@ fn questions_about_stores() {
 }
 
 #[test]
+fn tapes() {
+    let untipped = MESSAGE.replace("0164", "0064");
+    let store = &STORE[..18];
+    let questions = format!(
+        "tape {TABLE} - 0 - 0\n\
+         tape 00 - 0 01 0\n\
+         tape {TABLE} {MESSAGE} 25 - 0\n\
+         tape {TABLE} {MESSAGE}{untipped}{MESSAGE} 25 - 0\n\
+         tape {TABLE} {MESSAGE}{untipped}{MESSAGE} 25 {store} 7\n\
+         tape {TABLE} {MESSAGE}00000000{MESSAGE}000000 24 - 0\n\
+         tape {TABLE} {MESSAGE}00000000{MESSAGE}ffffffff 25 {store}01 7\n\
+         tape 00 {MESSAGE}00 25 {store}01 7\n\
+         tape 00 00 0 - 0\n"
+    );
+    let answers = "-\n\
+         -\n\
+         0:0:25\n\
+         0:0:25;4:21:0;0:0:25\n\
+         0:0:25;0:0:25;0:0:25\n\
+         21:0:0;1:0:0;21:0:0;22:54:0\n\
+         50:9:0;50:9:0;50:9:0;22:54:0\n\
+         20:0:0\n\
+         20:0:0\n";
+    let output = run(&questions);
+    assert_eq!(String::from_utf8(output.stdout).unwrap(), answers);
+    assert!(output.status.success());
+}
+
+#[test]
 fn answers_of_each_type() {
     let table = |ty: &str| format!("47520100000000000000010000010000 4644{ty}").replace(' ', "");
     let message = |size: &str, field: &str| format!("{size}000000010000000000000000000000{field}");
@@ -174,17 +203,18 @@ fn lines_that_are_no_question() {
         check 00 00 0 - 65536\n\
         storeget 00 0 65536\n\
         storeadd 00 0 0 0 256 0\n\
+        tape 00 00 0\n\
         table 00\n";
     let output = run(input);
     let stdout = String::from_utf8(output.stdout).unwrap();
     let lines: Vec<&str> = stdout.lines().collect();
-    assert_eq!(lines.len(), 15);
-    for line in &lines[..14] {
+    assert_eq!(lines.len(), 16);
+    for line in &lines[..15] {
         assert!(line.starts_with("error: "), "{line}");
     }
-    assert_eq!(lines[14], "30 0");
+    assert_eq!(lines[15], "30 0");
     assert_eq!(output.status.code(), Some(1));
     let stderr = String::from_utf8(output.stderr).unwrap();
-    assert_eq!(stderr.lines().count(), 14);
+    assert_eq!(stderr.lines().count(), 15);
     assert!(stderr.starts_with("line 1: "));
 }

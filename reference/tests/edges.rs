@@ -8,13 +8,9 @@ fn edges_answer_as_the_papers_say() {
     let wrong: Vec<String> = edges()
         .iter()
         .filter_map(|edge| {
-            let reply = ask(&edge.table, edge.settings(), &edge.question);
-            let given = match reply.answer {
-                Ok(_) => (0, 0),
-                Err(fault) => (fault.number as u8, fault.place),
-            };
-            (given != edge.fault).then(|| {
-                let (kind, due) = (edge.question.kind, edge.fault);
+            let given = ask(&edge.table, edge.settings(), &edge.question).verdicts();
+            (given != edge.verdicts).then(|| {
+                let (kind, due) = (edge.question.kind, &edge.verdicts);
                 format!("{kind:?} {}: {given:?}, due {due:?}", edge.name)
             })
         })

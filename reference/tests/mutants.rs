@@ -103,9 +103,10 @@ fn stored_cases_notice_every_mutant() {
         let copy = copy_library(&edit.name);
         edit.apply(&copy);
         // It saves time to begin where a difference is likely.
-        let first: &[&str] = match edit.name.starts_with("settings-") {
-            true => &["store", "settings"],
-            false => &[],
+        let first: &[&str] = match edit.name.split_once('-') {
+            Some(("settings", _)) => &["store", "settings"],
+            Some(("tape", _)) => &["tape"],
+            _ => &[],
         };
         if !differs(&copy, first) {
             unnoticed.push(edit.name);

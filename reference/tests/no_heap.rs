@@ -6,8 +6,8 @@ use std::sync::atomic::{AtomicUsize, Ordering};
 use blink_reference::generate::edges;
 use blink_reference::question::{Kind, Question};
 use blink_reference::{
-    add_settings, check_message, check_store, check_table, message_to_sheet, read_bytes, read_number,
-    read_settings, rewrite, sheet_to_message, Settings,
+    add_settings, check_message, check_store, check_table, message_to_sheet, next_message, read_bytes,
+    read_number, read_settings, rewrite, sheet_to_message, Settings, TapeReader,
 };
 
 /// The system's heap, with a count of how often it was asked.
@@ -53,6 +53,11 @@ fn ask(table: &[u8], settings: Settings, question: &mut Question, rooms: &mut Ro
         Kind::CheckStore => check_store(input).is_ok(),
         Kind::ReadSettings => read_settings(input, field as u16, item as u16).is_ok(),
         Kind::AddSettings => add_settings(input, field as u16, item as u16, 1, 0, 1).is_ok(),
+        Kind::ReadTape => {
+            let mut reader = TapeReader::new(input);
+            while next_message(table, store, customer, &mut reader, scratch).is_some() {}
+            reader.has_ended()
+        }
     }
 }
 

@@ -1,8 +1,9 @@
-//! Compares the proved questions with the second program on random tables, messages, sheets and settings stores, good and
-//! damaged: `fuzz [BATCHES [FIRST SEED]]`. It stops at the first difference, and says which seed makes it.
+//! Compares the proved questions with the second program on random tables, messages, sheets, settings stores and tapes, good
+//! and damaged: `fuzz [BATCHES [FIRST SEED]]`. It stops at the first difference, and says which seed makes it.
 use blink_bench::answers::{our_flags, our_number, ours, their_flags, their_number, theirs, Answer};
-use blink_reference::generate::{batch, settings_batch};
-use blink_reference::question::{Kind, Question};
+use blink_bench::steps::{self, Step};
+use blink_reference::generate::{batch, settings_batch, tape_batch, Random};
+use blink_reference::question::{pattern, Kind, Question};
 use blink_reference::Settings;
 use std::collections::BTreeMap;
 
@@ -18,9 +19,8 @@ struct Rooms {
 
 impl Rooms {
     fn lent(question: &Question) -> Rooms {
-        let room = |length: usize| (0..length).map(|i| 2 + (i % 251) as u8).collect();
         let store = if question.kind == Kind::AddSettings { question.input.clone() } else { Vec::new() };
-        Rooms { scratch: room(question.scratch), sheet: room(question.sheet), output: room(question.output), store }
+        Rooms { scratch: pattern(question.scratch), sheet: pattern(question.sheet), output: pattern(question.output), store }
     }
 }
 
@@ -46,6 +46,7 @@ fn ask_ours(table: &[u8], settings: Settings, q: &Question, rooms: &mut Rooms) -
             let [_, _, absent, pads, unused, ..] = q.item.to_le_bytes();
             ours(blink_native::add_settings(store, customer, version, [absent, pads, unused])).map(|()| String::new())
         }
+        Kind::ReadTape => unreachable!("a tape is read step by step"),
     }
 }
 
@@ -72,6 +73,7 @@ fn ask_theirs(table: &[u8], settings: Settings, q: &Question, rooms: &mut Rooms)
             let [_, _, absent, pads, unused, ..] = q.item.to_le_bytes();
             theirs(blink_reference::add_settings(store, customer, version, absent, pads, unused)).map(|()| String::new())
         }
+        Kind::ReadTape => unreachable!("a tape is read step by step"),
     }
 }
 
@@ -88,11 +90,37 @@ fn compare(seed: u64, table: &[u8], settings: Settings, question: &Question) -> 
     answer.err().map_or(0, |(number, _)| number)
 }
 
+/// Both sides' step at a place of a tape.
+fn compare_step(seed: u64, table: &[u8], settings: Settings, question: &Question, at: u64) -> Step {
+    let (mut scratch, mut other) = (pattern(question.scratch), pattern(question.scratch));
+    let step = steps::ours(table, settings, &question.input, at, &mut scratch);
+    let due = steps::theirs(table, settings, &question.input, at, &mut other);
+    assert!(
+        step == due && scratch == other,
+        "seed {seed} differs at {at}: {step:?}, due {due:?}, scratch {}: table {table:02x?}, {settings:02x?}, {question:02x?}",
+        if scratch == other { "alike" } else { "differs" },
+    );
+    step
+}
+
+/// All steps of a tape, and some from places where perhaps no message starts or no bytes are left; gives their fault numbers.
+fn compare_tape(seed: u64, table: &[u8], settings: Settings, question: &Question) -> Vec<u8> {
+    let step_at = |at| compare_step(seed, table, settings, question, at);
+    let mut steps = vec![step_at(question.field)];
+    while let Some(Step { ended: 0, next, .. }) = steps.last() {
+        steps.push(step_at(*next));
+    }
+    let (mut random, length) = (Random::new(seed), question.input.len());
+    let others = [random.below(length + 1), random.below(length + 1), length, length + 1, usize::MAX];
+    steps.extend(others.map(|at| step_at(at as u64)));
+    steps.iter().map(|step| step.number as u8).collect()
+}
+
 fn main() {
     let mut arguments = std::env::args().skip(1).map(|word| word.parse().expect("a number"));
     let batches: u64 = arguments.next().unwrap_or(100_000);
     let first: u64 = arguments.next().unwrap_or(0);
-    let mut counts = BTreeMap::<u8, u64>::new();
+    let (mut counts, mut steps) = (BTreeMap::<u8, u64>::new(), 0);
     for seed in first..first + batches {
         let mut count = |number| *counts.entry(number).or_default() += 1;
         let plain = batch(seed);
@@ -103,8 +131,14 @@ fn main() {
         for asked in &governed.asked {
             count(compare(seed, &governed.table, asked.settings(), &asked.question));
         }
+        let tapes = tape_batch(seed);
+        for asked in &tapes.asked {
+            let numbers = compare_tape(seed, &tapes.table, asked.settings(), &asked.question);
+            steps += numbers.len();
+            numbers.into_iter().for_each(&mut count);
+        }
     }
-    println!("{} questions agree; by fault number (0: none):", counts.values().sum::<u64>());
+    println!("{} questions agree, {steps} of them steps of tapes; by fault number (0: none):", counts.values().sum::<u64>());
     for (number, count) in counts {
         println!("{number:>4} {count:>10}");
     }

@@ -122,6 +122,8 @@ impl Asker {
     fn about_message(&mut self, most: &mut Most, case: &str, table: &[u8], under: Settings, message: &[u8]) {
         let Asker { stack, scratch, sheet, output } = self;
         most.keep("check_message", stack.used(&mut || answered(under.check_message(table, message, scratch))), case);
+        let mut tape = under.tape(table, message);
+        most.keep("next_message", stack.used(&mut || answered(tape.next())), case);
         let mut to_sheet = || answered(under.message_to_sheet(table, message, scratch, sheet));
         most.keep("message_to_sheet", stack.used(&mut to_sheet), case);
         if let Ok(written) = under.message_to_sheet(table, message, scratch, sheet) {

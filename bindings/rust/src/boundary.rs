@@ -39,6 +39,16 @@ pub struct BlinkSettings {
     pub unused: u32,
 }
 
+#[repr(C)]
+pub struct BlinkStep {
+    pub number: u32,
+    pub place: u64,
+    pub ended: u32,
+    pub offset: u64,
+    pub length: u64,
+    pub next: u64,
+}
+
 extern "C" {
     pub fn blink_version() -> u32;
 
@@ -57,6 +67,19 @@ extern "C" {
         scratch: *mut u8,
         scratch_length: usize,
     ) -> BlinkVerdict;
+
+    pub fn blink_next_message(
+        table: *const u8,
+        table_length: usize,
+        store: *const u8,
+        store_length: usize,
+        customer: u16,
+        tape: *const u8,
+        tape_length: usize,
+        at: u64,
+        scratch: *mut u8,
+        scratch_length: usize,
+    ) -> BlinkStep;
 
     pub fn blink_message_to_sheet(
         table: *const u8,

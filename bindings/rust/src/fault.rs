@@ -12,7 +12,7 @@ pub struct Fault {
     /// Which fault it is: 1 to 14, 20 to 37, 40 to 48, 50, 51 or 59.
     pub number: u8,
     /// Its byte, counted from 0 at the start of the message, table, sheet or settings store; 0 where the fault has no
-    /// place.
+    /// place. A [tape](crate::TapeReader)'s 22 has its place on the tape.
     pub place: usize,
 }
 
@@ -50,8 +50,12 @@ impl Fault {
         self.number == 29
     }
 
+    /// Of 22 only a cut tape's has one.
     fn has_place(&self) -> bool {
-        !matches!(self.number, 20..=23 | 28..=30 | 42 | 46..=48 | 51 | 59)
+        match self.number {
+            22 => self.place != 0,
+            number => !matches!(number, 20 | 21 | 23 | 28..=30 | 42 | 46..=48 | 51 | 59),
+        }
     }
 }
 

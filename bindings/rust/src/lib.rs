@@ -12,6 +12,8 @@
 //! Some customers' stations leave rubbish in bytes that mean nothing. [`Settings`] say, by customer, in which; they answer
 //! the same questions.
 //!
+//! A tape is a station's messages end to end. A [`TapeReader`] hands out one after another, past those that are refused.
+//!
 //! ```
 //! // A bill has an amount and, perhaps, a tip.
 //! let table = b"GR\x02\0\0\0\0\0\0\0\x01\0\0\x02\0\0\
@@ -37,11 +39,13 @@ mod boundary;
 mod fault;
 mod settings;
 mod table;
+mod tape;
 mod text;
 
 pub use fault::Fault;
 pub use settings::{add_settings, check_store, read_settings, Ignored, Settings};
 pub use table::{Table, Under};
+pub use tape::TapeReader;
 pub use text::TextError;
 
 /// No message is longer, in bytes.
@@ -59,7 +63,7 @@ pub const SHEET_FACTOR: usize = 11;
 /// The version of the library that is linked: major, minor, patch.
 ///
 /// ```
-/// assert_eq!(blink_native::version(), [0, 2, 0]);
+/// assert_eq!(blink_native::version(), [0, 3, 0]);
 /// ```
 pub fn version() -> [u8; 3] {
     // SAFETY: it takes nothing.
@@ -139,6 +143,24 @@ pub fn check_table(table: &[u8]) -> Verdict {
 /// ```
 pub fn check_message(table: &[u8], message: &[u8], scratch: &mut [u8]) -> Verdict {
     Settings::NONE.check_message(table, message, scratch)
+}
+
+/// Reads a tape, messages end to end, from its start: an iterator over the accepted messages and the others' faults.
+///
+/// ```
+/// # let table = b"GR\x02\0\0\0\0\0\0\0\x01\0\0\x02\0\0\
+/// #               FD\x05\0\0\0\0\0\0\0\0\0\0\0\0\0\
+/// #               FD\x05\x01\0\0\0\0\0\0\0\0\0\0\0\0";
+/// # let message = b"\x15\0\0\0\x02\0\0\0\0\0\0\0\0\0\0\0\xe8\x03\0\0\x01\x64\0\0\0";
+/// // Three bills; the second one's tip has a wrong flag.
+/// let mut tape = message.repeat(3);
+/// tape[45] = 2;
+///
+/// let bills: Vec<_> = blink_native::tape(table, &tape).collect();
+/// assert_eq!(bills, [Ok(&message[..]), Err(blink_native::Fault { number: 11, place: 20 }), Ok(&message[..])]);
+/// ```
+pub fn tape<'a, 't>(table: &'a [u8], tape: &'t [u8]) -> TapeReader<'a, 't> {
+    Settings::NONE.tape(table, tape)
 }
 
 /// Writes the message's sheet, its meaning as a row of records, at the start of the room `sheet`, and answers that part.

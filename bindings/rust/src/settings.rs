@@ -1,5 +1,5 @@
 use crate::text::{text, TextError};
-use crate::{boundary, verdict, written, Fault, Number, Verdict};
+use crate::{boundary, verdict, written, Fault, Number, TapeReader, Verdict};
 
 /// Which bytes may hold anything: none of them means anything, and none reaches a sheet or a rewritten message.
 #[derive(Clone, Copy, Debug, Default, PartialEq, Eq, Hash)]
@@ -80,6 +80,36 @@ impl<'a> Settings<'a> {
             )
         };
         verdict(answer.number, answer.place)
+    }
+
+    /// As [`tape`](crate::tape()), under these settings. Fault 50 is said of each message, and does not end the tape.
+    pub fn tape<'t>(self, table: &'a [u8], tape: &'t [u8]) -> TapeReader<'a, 't> {
+        TapeReader::new(self, table, tape)
+    }
+
+    /// The step along a tape from a place on.
+    pub(crate) fn next_message(
+        self,
+        table: &[u8],
+        tape: &[u8],
+        place: usize,
+        scratch: &mut [u8],
+    ) -> boundary::BlinkStep {
+        // SAFETY: pointers and lengths are slices' own, and no slice shares a byte with the scratch.
+        unsafe {
+            boundary::blink_next_message(
+                table.as_ptr(),
+                table.len(),
+                self.store.as_ptr(),
+                self.store.len(),
+                self.customer,
+                tape.as_ptr(),
+                tape.len(),
+                place as u64,
+                scratch.as_mut_ptr(),
+                scratch.len(),
+            )
+        }
     }
 
     /// As [`message_to_sheet`](crate::message_to_sheet), under these settings.

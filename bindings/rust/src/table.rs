@@ -1,4 +1,4 @@
-use crate::{check_table, Fault, Number, Settings, TextError, Verdict};
+use crate::{check_table, Fault, Number, Settings, TapeReader, TextError, Verdict};
 
 /// A schema table that is accepted. It keeps its bytes, and the questions about messages and sheets are its methods, each as
 /// the function of the same name: none of them gives fault 20.
@@ -61,6 +61,11 @@ impl Table {
     /// As [`check_message`](crate::check_message).
     pub fn check_message(&self, message: &[u8], scratch: &mut [u8]) -> Verdict {
         self.strict().check_message(message, scratch)
+    }
+
+    /// As [`tape`](crate::tape()).
+    pub fn tape<'t>(&self, tape: &'t [u8]) -> TapeReader<'_, 't> {
+        self.strict().tape(tape)
     }
 
     /// As [`message_to_sheet`](crate::message_to_sheet).
@@ -130,10 +135,15 @@ pub struct Under<'a> {
     settings: Settings<'a>,
 }
 
-impl Under<'_> {
+impl<'a> Under<'a> {
     /// As [`Settings::check_message`].
     pub fn check_message(self, message: &[u8], scratch: &mut [u8]) -> Verdict {
         self.settings.check_message(self.table, message, scratch)
+    }
+
+    /// As [`Settings::tape`].
+    pub fn tape<'t>(self, tape: &'t [u8]) -> TapeReader<'a, 't> {
+        self.settings.tape(self.table, tape)
     }
 
     /// As [`Settings::message_to_sheet`].

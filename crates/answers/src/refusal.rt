@@ -17,7 +17,7 @@ pub fn print_words(page: &mut Page, number: u8) {
     print::text(page, rows::part(&words, 0, n));
 }
 
-fn print_line(page: &mut Page, number: u8, place: usize) {
+pub fn print_line(page: &mut Page, number: u8, place: usize) {
     print::text(page, b"refused ");
     print::number(page, wire::wide(number));
     print::text(page, b" at ");

@@ -17,6 +17,7 @@ use Rattle.codec.specs.Answers.{writtenOf}
 use Rattle.codec.specs.Demands.{Numbered}
 use Rattle.codec.proofs.Demands.{demands}
 use Rattle.blink_native.specs.Boundary.{exported, exportedWritten, exportedNumber, exportedSpan, exportedSettings}
+use Rattle.blink_native.proofs.Steps.{step}
 use Rattle.blink_native.specs.Claims.{VerdictTold, WrittenTold, SettingTold, NumberTold, SpanTold, Claims}
 
 verdict : (v : Verdict) → ((p : ℕ) → v ≡ Refused 0 p → ⊥) → VerdictTold v
@@ -62,6 +63,7 @@ claims = record {
   settings = λ st c v. setting _ (numbered [] [] [] (alone st) .settings c v);
   addition = λ st c v absent pads unused. verdict _ (numbered [] [] [] (alone st) .addition c v absent pads unused);
   message = λ t b u. verdict _ (numbered t b [] u .message);
+  tape = λ t s u at. step t s u at (λ b. numbered t b [] u .message);
   number = λ t b u field item. number _ (numbered t b [] u .number field item);
   span = λ t b u field item. span _ (numbered t b [] u .span field item);
   to-sheet = λ t b u room. written _ (numbered t b [] u .to-sheet room);

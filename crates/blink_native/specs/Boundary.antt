@@ -1,7 +1,7 @@
 -- The answers as C takes them.
 use mathlib.Core.Bool.{not, cond}
 use mathlib.Core.List.{List, []}
-use Prim.Native.Nat.{ℕ, _+_, _*_}
+use Prim.Native.Nat.{ℕ, _+_, _-_, _*_}
 use lib.Dec.{T, ltb}
 use lib.IntN.{ℤ, pos}
 use lib.Ieee.{binary64, isNan, toBits}
@@ -16,12 +16,16 @@ use Rattle.codec.specs.declared.Written.{Written}
 use Rattle.codec.specs.declared.Written.the-variants.{Bytes, Refused as Unwritten}
 use Rattle.codec.specs.declared.Span.{Span}
 use Rattle.codec.specs.declared.Span.the-variants.{Bytes as Lie, Refused as NoBytes}
+use Rattle.tape.specs.declared.Answer.{Answer}
+use Rattle.tape.specs.declared.Answer.the-variants.{Ended, Accepted as HandedOut, Refused as PassedOver}
+use Rattle.tape.specs.declared.Step.{Step}
 use Rattle.faults.specs.Words.{wordsOf, faults}
 use Rattle.blink_native.specs.declared.BlinkVerdict.{BlinkVerdict}
 use Rattle.blink_native.specs.declared.BlinkWritten.{BlinkWritten}
 use Rattle.blink_native.specs.declared.BlinkNumber.{BlinkNumber}
 use Rattle.blink_native.specs.declared.BlinkPart.{BlinkPart}
 use Rattle.blink_native.specs.declared.BlinkSettings.{BlinkSettings}
+use Rattle.blink_native.specs.declared.BlinkStep.{BlinkStep}
 
 -- A fault's number and place; both 0 where nothing is refused.
 unfoldable pub exported : Verdict → BlinkVerdict
@@ -42,6 +46,15 @@ exportedSpan (NoBytes n p) = record { number = n; place = p; offset = 0; length 
 unfoldable pub exportedSettings : Setting → BlinkSettings
 exportedSettings (Ignores x) = record { number = 0; place = 0; absent = cond (x .absent) 1 0; pads = cond (x .pads) 1 0; unused = cond (x .unused) 1 0 }
 exportedSettings (Unknown n p) = record { number = n; place = p; absent = 0; pads = 0; unused = 0 }
+
+-- What a tape's reader answers at a place, and where the next message starts: none of the tape's bytes where one is refused or the tape has ended.
+unfoldable pub exportedAnswer : ℕ → ℕ → Answer → BlinkStep
+exportedAnswer at next Ended = record { number = 0; place = 0; ended = 1; offset = 0; length = 0; next = next }
+exportedAnswer at next HandedOut = record { number = 0; place = 0; ended = 0; offset = at; length = next - at; next = next }
+exportedAnswer at next (PassedOver n p) = record { number = n; place = p; ended = 0; offset = 0; length = 0; next = next }
+
+abbrev pub exportedStep : ℕ → Step → BlinkStep
+exportedStep at s = exportedAnswer at (s .next) (s .answer)
 
 -- An answer that is a number, of a kind.
 abbrev pub answered : ℕ → ℤ → ℕ → BlinkNumber

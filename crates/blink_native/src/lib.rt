@@ -1,13 +1,15 @@
 // The public questions for C and Rust. A slice passes as a pointer and a length, an answer as a struct of numbers by
 // value; include/blink_native.h declares them.
 ghost use mathlib.Core.Path.{_≡_};
+ghost use Prim.Native.Nat.{_≤_};
 ghost use lib.ListN.{length};
 ghost use Rattle.schema.specs.Table.{tableVerdict};
 ghost use Rattle.settings.specs.Store.{storeVerdict, settingAt, addVerdict, storeAfter};
 ghost use Rattle.opening.specs.Opening.{under, messageVerdict, scratchAfter};
+ghost use Rattle.tape.specs.Tape.{tapeStep, tapeScratch};
 ghost use Rattle.codec.specs.Answers.{writtenOf, roomAfter, toSheet, toMessage, rewriting, rooms, numberAnswer, spanAnswer};
 ghost use Rattle.faults.specs.Words.{fitted};
-ghost use Rattle.blink_native.specs.Boundary.{exported, exportedWritten, exportedNumber, exportedSpan, exportedSettings, answered, NoNan, faultWords, version};
+ghost use Rattle.blink_native.specs.Boundary.{exported, exportedWritten, exportedNumber, exportedSpan, exportedSettings, exportedStep, answered, NoNan, faultWords, version};
 
 // number 0: accepted.
 #[repr(C)]
@@ -52,6 +54,17 @@ pub struct BlinkSettings {
     pub absent: u32,
     pub pads: u32,
     pub unused: u32,
+}
+
+// ended 1: no bytes are left. Else number 0: the message lies there on the tape. next: where the next one starts.
+#[repr(C)]
+pub struct BlinkStep {
+    pub number: u32,
+    pub place: u64,
+    pub ended: u32,
+    pub offset: u64,
+    pub length: u64,
+    pub next: u64,
 }
 
 fn export(v: codec::Verdict) -> BlinkVerdict
@@ -126,6 +139,40 @@ fn export_settings(s: codec::Setting) -> BlinkSettings
     }
 }
 
+fn export_step(at: usize, step: tape::Step) -> BlinkStep
+    requires { ⌜ at ≤ step .next ⌝ }
+    ensures { λ r. ⌜ r ≡ exportedStep at step ⌝ }
+{
+    let next = step.next;
+    let answer = step.answer;
+    match answer {
+        tape::Answer::Ended => BlinkStep {
+            number: 0,
+            place: 0,
+            ended: 1,
+            offset: 0,
+            length: 0,
+            next: next as u64,
+        },
+        tape::Answer::Accepted => BlinkStep {
+            number: 0,
+            place: 0,
+            ended: 0,
+            offset: at as u64,
+            length: (next - at) as u64,
+            next: next as u64,
+        },
+        tape::Answer::Refused { number, place } => BlinkStep {
+            number: number as u32,
+            place: place as u64,
+            ended: 0,
+            offset: 0,
+            length: 0,
+            next: next as u64,
+        },
+    }
+}
+
 fn answer(kind: u32, exponent: i32, bits: u64) -> BlinkNumber
     ensures { λ r. ⌜ r ≡ answered kind exponent bits ⌝ }
 {
@@ -161,12 +208,12 @@ fn export_number(n: codec::Number) -> BlinkNumber
     }
 }
 
-// 0.2.0.
+// 0.3.0.
 #[no_mangle]
 pub extern "C" fn blink_version() -> u32
-    ensures { λ r. ⌜ r ≡ version 0 2 0 ⌝ }
+    ensures { λ r. ⌜ r ≡ version 0 3 0 ⌝ }
 {
-    0x00_02_00
+    0x00_03_00
 }
 
 // What a fault's number means: how long the words are, and as many of them as fit. 0 where no fault has the number.
@@ -229,6 +276,22 @@ pub extern "C" fn blink_check_message(
     ensures { λ _. ⌜ now (scratch .exit) ≡ scratchAfter (now (table .entry)) (now (store .entry)) (now (message .entry)) (now (scratch .entry)) ⌝ }
 {
     export(codec::check_message(table, store, customer, message, scratch))
+}
+
+#[no_mangle]
+pub extern "C" fn blink_next_message(
+    table: &[u8],
+    store: &[u8],
+    customer: u16,
+    tape: &[u8],
+    at: u64,
+    scratch: &mut [u8],
+) -> BlinkStep
+    ensures { λ r. ⌜ r ≡ exportedStep at (tapeStep (now (table .entry)) (now (tape .entry)) at (under (now (store .entry)) customer (length (now (scratch .entry))))) ⌝ }
+    ensures { λ _. ⌜ now (scratch .exit) ≡ tapeScratch (now (table .entry)) (now (store .entry)) (now (tape .entry)) at (now (scratch .entry)) ⌝ }
+{
+    let at = at as usize;
+    export_step(at, tape::step_at(table, store, customer, tape, at, scratch))
 }
 
 #[no_mangle]

@@ -102,13 +102,15 @@ fn list_table(page: &mut Page, room: &mut Short) -> Outcome {
     questions::list_table(page, rows::part(room, 0, table.length))
 }
 
-// A message has an answer for people, several have a line each.
+// Messages that are files, or those of a tape.
 fn check_messages(
     page: &mut Page,
+    command: Command,
     customer: u16,
     tables: &mut Short,
     stores: &mut Short,
     messages: &mut Long,
+    tape: &mut [u8],
     scratch: &mut Message,
 ) -> Outcome {
     let table = read_table(tables);
@@ -121,10 +123,10 @@ fn check_messages(
     }
     let table = rows::part(tables, 0, table.length);
     let store = rows::part(stores, 0, store.length);
-    if command::INPUT < arguments::count_plain() {
-        return check::check_each(page, table, store, customer, messages, scratch);
+    match command {
+        Command::Tape => check::check_tape(page, table, store, customer, tape, scratch),
+        _ => check::check_messages(page, table, store, customer, messages, scratch),
     }
-    check::check_one(page, table, store, customer, messages, scratch)
 }
 
 // How much room the input takes: one byte more than a sheet or a message may have, so that a longer one is refused by its number.
@@ -348,6 +350,7 @@ fn run(
     tables: &mut Short,
     stores: &mut Short,
     messages: &mut Long,
+    tape: &mut [u8],
     scratch: &mut Message,
     sheet: &mut Sheet,
     output: &mut Message,
@@ -370,7 +373,16 @@ fn run(
             output,
             labels,
         ),
-        Command::Check => check_messages(page, customer, tables, stores, messages, scratch),
+        Command::Check | Command::Tape => check_messages(
+            page,
+            command,
+            customer,
+            tables,
+            stores,
+            messages,
+            tape,
+            scratch,
+        ),
         _ => run_alone(page, command, tables, stores),
     }
 }
@@ -390,6 +402,7 @@ pub extern "C" fn blink_run(
     tables: &mut Short,
     stores: &mut Short,
     messages: &mut Long,
+    tape: &mut [u8],
     scratch: &mut Message,
     sheet: &mut Sheet,
     output: &mut Message,
@@ -402,6 +415,7 @@ pub extern "C" fn blink_run(
         tables,
         stores,
         messages,
+        tape,
         scratch,
         sheet,
         output,

@@ -25,7 +25,7 @@ const LONGEST: usize = 65536;
 // Whether the store that argument `i` names has no more. No fault says this, so standard error does.
 pub fn fits(i: usize, length: usize) -> bool {
     if LONGEST < length {
-        named::complain_of(i, b"longer than 65536 bytes");
+        named::complain_long(i, LONGEST);
         return false;
     }
     true

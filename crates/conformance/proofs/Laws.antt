@@ -1,4 +1,4 @@
--- One turn of each loop over a lent buffer, and what a load leaves in a room.
+-- One turn of each loop over a lent buffer, what a load leaves in a room, and that a tape's reader moves on.
 use Prim.Native.Nat.{ℕ, zero, suc, _+_, _-_, _*_, _%_, _<_, _≤_}
 use mathlib.Core.Path.{_≡_, sym}
 use mathlib.Core.List.{List, _++_, append-nil}
@@ -9,6 +9,9 @@ use lib.Seq.{drop-length, drop-at}
 use borrow.Author.Tests.{le-leb}
 use Rattle.wire.specs.Bytes.{splice}
 use Rattle.wire.proofs.Laws.{drop-more, splice-cons, splice-nil}
+use Rattle.opening.specs.Opening.{Under}
+use Rattle.tape.specs.Tape.{tapeStep}
+use Rattle.tape.proofs.Whole.{step-past}
 use Rattle.conformance.specs.Room.{filled, adlerFrom}
 use Rattle.conformance.specs.Vectors.{behind}
 
@@ -54,3 +57,8 @@ pub loaded : (k n : ℕ) (got f room : List ℕ) → f ≡ splice n 0 (replicate
 unfolding behind
 loaded k n got f room is e h l =
     rw (le-leb n (length room) l, le-leb k n h, drop-at got (drop (k - 0) f) k e, sub-zero, is) (drop-zeros k n (drop n room) h)
+
+-- A TAPE'S READER
+
+pub moved-on : (t s : List ℕ) (u : Under) (p next : ℕ) → next ≡ tapeStep t s p u .next → p < length s → p < next
+moved-on t s u p next e h = rw e (step-past t s u p h)

@@ -1,11 +1,14 @@
-// Runs the stored questions through the codec and prints one answer a line, to be compared with what the second
-// program answered. README.md describes the files. What is read of them and printed has no contract.
+// Runs the stored questions through the codec and the tape's reader and prints one answer a line, to be compared with
+// what the second program answered. README.md describes the files. What is read of them and printed has no contract.
 mod print;
 mod record;
 mod room;
 
 ghost use mathlib.Core.Path.{_≡_};
 ghost use Prim.Native.Nat.{_%_, _^_};
+ghost use lib.ListN.{length};
+ghost use Rattle.opening.specs.Opening.{under};
+ghost use Rattle.tape.specs.Tape.{tapeStep};
 ghost use Rattle.conformance.specs.Vectors.{heldAfter, writes};
 use record::Record;
 
@@ -153,6 +156,47 @@ fn answer_addition(store: &mut [u8], customer: u16, item: u64) {
     print::sum(store);
 }
 
+// One step of a tape's reader, printed if it is asked for.
+fn answer_step(
+    table: &[u8],
+    store: &[u8],
+    customer: u16,
+    tape: &[u8],
+    at: usize,
+    scratch: &mut [u8],
+    asked: bool,
+) -> usize
+    ensures { λ r. ⌜ r ≡ tapeStep (now (table .entry)) (now (tape .entry)) at (under (now (store .entry)) customer (length (now (scratch .entry)))) .next ⌝ }
+{
+    let s = tape::step_at(table, store, customer, tape, at, scratch);
+    let answer = s.answer;
+    if asked {
+        print::step(s, tape::part_at(tape, at, answer), scratch);
+    }
+    s.next
+}
+
+// All steps from a place on; the last finds that the tape has ended. The first ones may be left out.
+fn answer_tape(
+    table: &[u8],
+    store: &[u8],
+    customer: u16,
+    tape: &[u8],
+    scratch: &mut [u8],
+    from: usize,
+    left_out: usize,
+) {
+    let mut at = from;
+    let mut taken = 0;
+    while at < tape.len() {
+        room::fill(scratch);
+        at = answer_step(table, store, customer, tape, at, scratch, left_out <= taken);
+        taken += 1;
+    }
+    room::fill(scratch);
+    answer_step(table, store, customer, tape, at, scratch, true);
+}
+
 // A question about a store, which is the input.
 fn ask_store(r: Record, store: &mut [u8]) {
     let kind = r.kind;
@@ -172,6 +216,7 @@ fn ask(r: Record, table: &[u8], store: &[u8], customer: u16, input: &mut [u8], s
         2 => answer_check(table, store, customer, input, scratch),
         6 => answer_number(table, store, customer, input, scratch, field, item),
         7 => answer_bytes(table, store, customer, input, scratch, field, item),
+        12 => answer_tape(table, store, customer, input, scratch, field, item),
         _ => ask_store(r, input),
     }
 }
@@ -399,4 +444,5 @@ fn main() {
     answer_file(b"bytes.vec");
     answer_file(b"store.vec");
     answer_file(b"settings.vec");
+    answer_file(b"tape.vec");
 }

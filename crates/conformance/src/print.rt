@@ -6,6 +6,8 @@ use codec::Span;
 use codec::Verdict;
 use codec::Written;
 use libc::STDOUT_FILENO;
+use tape::Answer;
+use tape::Step;
 
 pub fn number(n: usize) {
     io::print_decimal(STDOUT_FILENO, n as u64);
@@ -98,6 +100,37 @@ pub fn answer(n: Number) {
             text(b" refused");
         }
     }
+}
+
+// A step of a tape's reader: its answer, where it goes on, what it hands out, and the scratch. More steps follow
+// until the tape has ended.
+pub fn step(s: Step, part: &[u8], scratch: &[u8]) {
+    let answer = s.answer;
+    match answer {
+        Answer::Ended => {
+            text(b"ended");
+            handed(s.next, part, scratch);
+        }
+        Answer::Accepted => {
+            fault(0, 0);
+            handed(s.next, part, scratch);
+            text(b"; ");
+        }
+        Answer::Refused { number, place } => {
+            fault(number as usize, place);
+            handed(s.next, part, scratch);
+            text(b"; ");
+        }
+    }
+}
+
+fn handed(next: usize, part: &[u8], scratch: &[u8]) {
+    space();
+    number(next);
+    space();
+    number(part.len());
+    sum(part);
+    sum(scratch);
 }
 
 // A lent buffer's checksum, after a space.

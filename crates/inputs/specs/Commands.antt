@@ -20,7 +20,7 @@ use Rattle.inputs.specs.declared.store_command.Ignored.{Ignored}
 use Rattle.inputs.specs.declared.store_command.Ignored.the-variants.{Are, Wrong as NoFaults}
 use Rattle.inputs.specs.declared.command.StoreQuestion.the-variants.{List as Listing, Get, Add}
 use Rattle.inputs.specs.declared.command.Command.{Command}
-use Rattle.inputs.specs.declared.command.Command.the-variants.{Help, Version, Faults, Fault, CheckTable, Check, ListTable, Message, Store, NewStore, Wrong}
+use Rattle.inputs.specs.declared.command.Command.the-variants.{Help, Version, Faults, Fault, CheckTable, Check, Tape, ListTable, Message, Store, NewStore, Wrong}
 
 -- HOW MANY
 -- The number of the last plain argument that a command must have, and of the last that it may have. The command's word is plain argument 1.
@@ -33,6 +33,7 @@ leastOf word.Check = 2
 leastOf word.Read = 4
 leastOf word.Show = 3
 leastOf word.Dump = 3
+leastOf word.Tape = 3
 leastOf word.Table = 2
 leastOf word.Sheet = 4
 leastOf word.Write = 4
@@ -51,6 +52,7 @@ mostOf word.Check = 18446744073709551615
 mostOf word.Read = 5
 mostOf word.Show = 3
 mostOf word.Dump = 3
+mostOf word.Tape = 3
 mostOf word.Table = 2
 mostOf word.Sheet = 4
 mostOf word.Write = 4
@@ -125,6 +127,7 @@ askedOf word.Check last second fourth fifth ignored = checkOf last
 askedOf word.Read last second fourth fifth ignored = readOf last fourth fifth
 askedOf word.Show last second fourth fifth ignored = Message Show
 askedOf word.Dump last second fourth fifth ignored = Message Dump
+askedOf word.Tape last second fourth fifth ignored = Tape
 askedOf word.Table last second fourth fifth ignored = ListTable
 askedOf word.Sheet last second fourth fifth ignored = Message Sheet
 askedOf word.Write last second fourth fifth ignored = Message Write
@@ -165,6 +168,7 @@ takesSettings Faults = false
 takesSettings (Fault number) = false
 takesSettings CheckTable = false
 takesSettings Check = true
+takesSettings Tape = true
 takesSettings ListTable = false
 takesSettings (Message question) = takesQuestion question
 takesSettings (Store question) = false

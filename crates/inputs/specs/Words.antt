@@ -4,7 +4,7 @@ use mathlib.Core.List.{List, [], _∷_, _++_}
 use Prim.Native.Nat.{ℕ}
 use Rattle.wire.specs.Bytes.{part, same}
 use Rattle.inputs.specs.declared.words.Word.{Word}
-use Rattle.inputs.specs.declared.words.Word.the-variants.{Help, Version, Faults, Check, Read, Show, Dump, Table, Sheet, Write, Rewrite, Settings, Get, Add, New, Other}
+use Rattle.inputs.specs.declared.words.Word.the-variants.{Help, Version, Faults, Check, Read, Show, Dump, Tape, Table, Sheet, Write, Rewrite, Settings, Get, Add, New, Other}
 
 abbrev pub HELP : List ℕ
 HELP = 104 ∷ (101 ∷ (108 ∷ (112 ∷ [])))
@@ -26,6 +26,9 @@ SHOW = 115 ∷ (104 ∷ (111 ∷ (119 ∷ [])))
 
 abbrev pub DUMP : List ℕ
 DUMP = 100 ∷ (117 ∷ (109 ∷ (112 ∷ [])))
+
+abbrev pub TAPE : List ℕ
+TAPE = 116 ∷ (97 ∷ (112 ∷ (101 ∷ [])))
 
 abbrev pub TABLE : List ℕ
 TABLE = 116 ∷ (97 ∷ (98 ∷ (108 ∷ (101 ∷ []))))
@@ -96,7 +99,8 @@ wordOf w =
     (cond (same w READ) Read
     (cond (same w SHOW) Show
     (cond (same w DUMP) Dump
-    (fileWord w))))
+    (cond (same w TAPE) Tape
+    (fileWord w)))))
 
 -- By the word behind `settings`.
 unfoldable pub storeWord : List ℕ → Word

@@ -21,6 +21,8 @@ pub enum Command {
     CheckTable,
     // One message or several: the plain arguments from INPUT on.
     Check,
+    // Every message of a tape.
+    Tape,
     ListTable,
     Message { question: Question },
     Store { question: StoreQuestion },
@@ -63,7 +65,7 @@ pub const NUMBER: usize = 2;
 
 pub const TABLE: usize = 2;
 
-// The message or the sheet.
+// The message, the sheet or the tape.
 pub const INPUT: usize = 3;
 
 pub const OUT: usize = 4;
@@ -86,6 +88,7 @@ fn least(word: Word) -> usize
         Word::Read => FIELD,
         Word::Show => INPUT,
         Word::Dump => INPUT,
+        Word::Tape => INPUT,
         Word::Table => TABLE,
         Word::Sheet => OUT,
         Word::Write => OUT,
@@ -110,6 +113,7 @@ fn most(word: Word) -> usize
         Word::Read => ITEM,
         Word::Show => INPUT,
         Word::Dump => INPUT,
+        Word::Tape => INPUT,
         Word::Table => TABLE,
         Word::Sheet => OUT,
         Word::Write => OUT,
@@ -201,6 +205,7 @@ fn asked(
         Word::Read => read_field(last, fourth, fifth),
         Word::Show => about(Question::Show),
         Word::Dump => about(Question::Dump),
+        Word::Tape => Command::Tape,
         Word::Table => Command::ListTable,
         Word::Sheet => about(Question::Sheet),
         Word::Write => about(Question::Write),
@@ -310,6 +315,7 @@ fn explain_second(word: Word) {
 
 fn explain_third(word: Word) {
     match word {
+        Word::Tape => missing(word, b"TAPE"),
         Word::Write => missing(word, b"SHEET"),
         Word::Get | Word::Add | Word::New => missing(word, b"STORE"),
         _ => missing(word, b"MESSAGE"),

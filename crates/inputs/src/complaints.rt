@@ -81,6 +81,11 @@ pub fn complain_value(name: &[u8], argument: &[u8], reason: &[u8]) {
     say(name, b": ", argument, b" ", reason);
 }
 
+// A file has more than its most bytes, which are a number as text.
+pub fn complain_long(name: &[u8], most: &[u8]) {
+    say(name, b": longer than ", most, b" bytes", b"");
+}
+
 // The last line, where the arguments are wrong.
 pub fn suggest_help() {
     say(b"try blink help", b"", b"", b"", b"");

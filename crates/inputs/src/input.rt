@@ -14,13 +14,14 @@ fn end_of_inputs(command: Command) -> usize {
     match command {
         Command::Check => os::arg_count(),
         Command::CheckTable => arguments::plain(command::INPUT),
+        Command::Tape => arguments::plain(command::OUT),
         Command::ListTable => arguments::plain(command::INPUT),
         Command::Message { question: _ } => arguments::plain(command::OUT),
         _ => 0,
     }
 }
 
-// Whether more than one of them is standard input: the table, the messages or the sheet, and the settings of the options.
+// Whether more than one of them is standard input: the table, the messages, the sheet or the tape, and the settings of the options.
 pub fn is_asked_twice(command: Command) -> bool {
     let end = end_of_inputs(command);
     let mut i = arguments::plain(command::TABLE);

@@ -40,6 +40,7 @@ fn takes_settings(command: Command) -> bool
         Command::Fault { number: _ } => false,
         Command::CheckTable => false,
         Command::Check => true,
+        Command::Tape => true,
         Command::ListTable => false,
         Command::Message { question } => takes_question(question),
         Command::Store { question: _ } => false,
@@ -75,7 +76,7 @@ fn test(command: Command, options: Options) -> Request {
     if !agree(command, options) {
         complaints::complain(
             b"--settings",
-            b"only for check with messages, read, show, dump, sheet and rewrite",
+            b"only for check with messages, read, show, dump, tape, sheet and rewrite",
         );
         return wrong();
     }

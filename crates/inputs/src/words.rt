@@ -15,6 +15,7 @@ pub enum Word {
     Read,
     Show,
     Dump,
+    Tape,
     Table,
     Sheet,
     Write,
@@ -61,7 +62,7 @@ fn is_version(word: &[u8]) -> bool
     is_either(word, b"version", b"--version")
 }
 
-// By the command's word alone. Questions about a message come first.
+// By the command's word alone. Questions about messages come first.
 pub fn word_of(word: &[u8]) -> Word
     ensures { λ r. ⌜ r ≡ wordOf (now (word .entry)) ⌝ }
 {
@@ -76,6 +77,9 @@ pub fn word_of(word: &[u8]) -> Word
     }
     if is_word(word, b"dump") {
         return Word::Dump;
+    }
+    if is_word(word, b"tape") {
+        return Word::Tape;
     }
     file_word(word)
 }

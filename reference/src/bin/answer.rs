@@ -13,15 +13,18 @@
 //! store STORE
 //! storeadd STORE CUSTOMER VERSION ABSENT PADS UNUSED
 //! storeget STORE CUSTOMER VERSION
+//! tape T TAPE SCRATCH STORE CUSTOMER
 //! ```
 //!
 //! The answer is one line: fault number and place, `0 0` and the answer if
-//! there is no fault, or `error: ...` for a line that is no question.
+//! there is no fault, or `error: ...` for a line that is no question. That of
+//! a tape is `NUMBER:PLACE:LENGTH` for each message, joined by `;`, with the
+//! length of what is handed out, or `-` for a tape of no bytes.
 
 use std::io::{self, BufRead, BufReader, BufWriter, Write};
 use std::process::ExitCode;
 
-use blink_reference::question::{ask, Answer, Kind, Question, Reply};
+use blink_reference::question::{ask, verdict, Answer, Kind, Question, Reply, Step};
 use blink_reference::{Ignored, Number, Settings};
 
 /// The longest room that is lent; a longer one is a mistake in the line.
@@ -58,6 +61,7 @@ fn answer(line: &str) -> Result<String, String> {
     let Line { table, store, customer, question } = parse(line)?;
     let reply = ask(&table, Settings::of(&store, customer), &question);
     Ok(match &reply.answer {
+        Ok(Answer::Steps(steps)) => tape_words(steps),
         Ok(answer) => format!("0 0{}", answer_words(answer, &question, &reply)),
         Err(fault) => format!("{} {}", fault.number as u8, fault.place),
     })
@@ -85,13 +89,14 @@ fn parse(line: &str) -> Result<Line, String> {
         "store" => Kind::CheckStore,
         "storeadd" => Kind::AddSettings,
         "storeget" => Kind::ReadSettings,
+        "tape" => Kind::ReadTape,
         "" => return Err("no question".to_string()),
         other => return Err(format!("unknown question `{other}`")),
     };
     let due = match kind {
         Kind::CheckTable | Kind::CheckStore => 1,
         Kind::SheetToMessage | Kind::ReadSettings => 3,
-        Kind::CheckMessage => 5,
+        Kind::CheckMessage | Kind::ReadTape => 5,
         Kind::MessageToSheet | Kind::AddSettings => 6,
         Kind::Rewrite | Kind::ReadNumber | Kind::ReadBytes => 7,
     };
@@ -210,6 +215,19 @@ fn answer_words(answer: &Answer, question: &Question, reply: &Reply) -> String {
             let bytes = &question.input[part.clone()];
             format!(" {} {} {}", part.start, part.len(), hex(bytes))
         }
+        Answer::Steps(_) => unreachable!("a tape has its own words"),
+    }
+}
+
+fn tape_words(steps: &[Step]) -> String {
+    let entry = |step: &Step| {
+        let (number, place) = verdict(step.answer.as_ref()?);
+        Some(format!("{number}:{place}:{}", step.bytes.len()))
+    };
+    let entries: Vec<String> = steps.iter().filter_map(entry).collect();
+    match entries.is_empty() {
+        true => "-".to_string(),
+        false => entries.join(";"),
     }
 }
 

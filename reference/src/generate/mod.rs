@@ -9,9 +9,11 @@ mod settings;
 pub mod store;
 pub mod stored;
 pub mod table;
+mod tape;
 pub mod text;
 
 pub use batch::{batch, Batch};
 pub use edges::{edges, Edge};
 pub use random::Random;
 pub use settings::{settings_batch, Asked, SettingsBatch};
+pub use tape::tape_batch;

@@ -71,7 +71,7 @@ pub fn settings_batch(seed: u64) -> SettingsBatch {
     SettingsBatch { table, asked }
 }
 
-fn random_damaged(random: &mut Random) -> Vec<u8> {
+pub(super) fn random_damaged(random: &mut Random) -> Vec<u8> {
     let store = random_store(random);
     damage_store(random, store)
 }

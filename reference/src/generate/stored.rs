@@ -3,7 +3,7 @@
 
 use std::collections::BTreeMap;
 
-use super::{batch, edges, settings_batch};
+use super::{batch, edges, settings_batch, tape_batch};
 use crate::question::{ask, Kind, Question};
 use crate::vectors::{answer_lines, encode, stored_length, Entry, FILES};
 use crate::{FaultNumber, Settings};
@@ -12,6 +12,8 @@ use crate::{FaultNumber, Settings};
 const BATCHES: u64 = 3_500;
 /// How many of them under settings.
 const SETTINGS_BATCHES: u64 = 2_500;
+/// How many of tapes.
+const TAPE_BATCHES: u64 = 4_000;
 /// Longer random inputs are left out, but for zeros at their end.
 const LONGEST: usize = 320;
 /// Questions under a longer random table too: long lists of symbols are
@@ -32,14 +34,13 @@ pub struct File {
 /// All stored files, in the order of [`FILES`].
 pub fn stored_files() -> Vec<File> {
     let mut shelves: Vec<Shelf> = FILES.iter().map(|_| Shelf::new()).collect();
-    let (governed, plain) = shelves.split_last_mut().expect("there are files");
     for edge in edges() {
         let settings = edge.settings();
-        let mut put = |question: Question| match edge.settings {
-            Some(_) => governed.put(&edge.table, settings, question),
-            None => shelf_of(plain, question.kind).put(&edge.table, settings, question),
+        let governed = edge.settings.is_some();
+        let mut put = |question: Question| {
+            shelf_of(&mut shelves, question.kind, governed).put(&edge.table, settings, question);
         };
-        if edge.question.kind == Kind::CheckMessage && edge.fault.0 == 0 && edge.settings.is_none() {
+        if edge.question.kind == Kind::CheckMessage && edge.verdicts == [(0, 0)] && !governed {
             rewritings(&edge.question).into_iter().for_each(&mut put);
         }
         put(edge.question.clone());
@@ -47,16 +48,14 @@ pub fn stored_files() -> Vec<File> {
     for seed in 0..BATCHES {
         let batch = batch(seed);
         for question in batch.questions {
-            shelf_of(plain, question.kind).put_if_wanted(&batch.table, Settings::NONE, question);
+            let shelf = shelf_of(&mut shelves, question.kind, false);
+            shelf.put_if_wanted(&batch.table, Settings::NONE, question);
         }
     }
-    for seed in 0..SETTINGS_BATCHES {
-        let batch = settings_batch(seed);
+    let batches = (0..SETTINGS_BATCHES).map(settings_batch).chain((0..TAPE_BATCHES).map(tape_batch));
+    for batch in batches {
         for asked in batch.asked {
-            let shelf = match asked.question.kind.is_of_message() {
-                true => &mut *governed,
-                false => shelf_of(plain, asked.question.kind),
-            };
+            let shelf = shelf_of(&mut shelves, asked.question.kind, true);
             shelf.put_if_wanted(&batch.table, asked.settings(), asked.question.clone());
         }
     }
@@ -71,8 +70,13 @@ fn rewritings(check: &Question) -> [Question; 2] {
     [sheet, rewrite]
 }
 
-fn shelf_of(shelves: &mut [Shelf], kind: Kind) -> &mut Shelf {
-    let at = FILES.iter().position(|(_, kinds)| kinds.contains(&kind));
+/// The shelf of a kind; questions about a message have another one under
+/// settings.
+fn shelf_of(shelves: &mut [Shelf], kind: Kind, governed: bool) -> &mut Shelf {
+    let at = FILES.iter().position(|(name, kinds)| match governed && kind.is_of_message() {
+        true => *name == "settings",
+        false => kinds.contains(&kind),
+    });
     &mut shelves[at.expect("there is a file for each kind")]
 }
 
@@ -94,7 +98,8 @@ impl Shelf {
     }
 
     fn put(&mut self, table: &[u8], settings: Settings, question: Question) {
-        let under_table = question.kind.is_of_message() || question.kind == Kind::SheetToMessage;
+        let under_table =
+            question.kind.is_of_message() || matches!(question.kind, Kind::SheetToMessage | Kind::ReadTape);
         if under_table && (self.table != table || self.entries.is_empty()) {
             self.table = table.to_vec();
             self.entries.push(Entry::Table(table.to_vec()));
@@ -114,19 +119,24 @@ impl Shelf {
         {
             return;
         }
-        let number = |settings| match ask(table, settings, &question).answer {
-            Ok(_) => 0,
-            Err(fault) => fault.number as u8,
-        };
-        let governed = number(settings);
-        let strict = if settings == Settings::NONE { governed } else { number(Settings::NONE) };
-        let count = self.counts.entry((question.kind, governed, strict)).or_default();
-        let quota = match settings == Settings::NONE {
+        let verdicts = |settings| ask(table, settings, &question).verdicts();
+        let governed = verdicts(settings);
+        let strict = if settings == Settings::NONE { governed.clone() } else { verdicts(Settings::NONE) };
+        let quota = |governed, strict| match settings == Settings::NONE {
             true => quota(question.kind, governed),
             false => quota_under(governed, strict),
         };
-        if *count < quota {
-            *count += 1;
+        // A tape has as many messages under all settings.
+        let numbers = governed.iter().zip(&strict).map(|(governed, strict)| (governed.0, strict.0));
+        let kind = question.kind;
+        let is_wanted = |(governed, strict)| {
+            let count = self.counts.get(&(kind, governed, strict));
+            count.is_none_or(|&count| count < quota(governed, strict))
+        };
+        if numbers.clone().any(is_wanted) {
+            for (governed, strict) in numbers {
+                *self.counts.entry((kind, governed, strict)).or_default() += 1;
+            }
             self.put(table, settings, question);
         }
     }
@@ -134,8 +144,8 @@ impl Shelf {
     fn file(self, name: &'static str) -> File {
         let mut counts = BTreeMap::new();
         let mut expected = String::new();
-        for (line, number) in answer_lines(&self.entries) {
-            *counts.entry(number).or_default() += 1;
+        for (line, numbers) in answer_lines(&self.entries) {
+            numbers.into_iter().for_each(|number| *counts.entry(number).or_default() += 1);
             expected.push_str(&line);
             expected.push('\n');
         }
@@ -151,6 +161,8 @@ fn quota(kind: Kind, number: u8) -> usize {
         Kind::CheckTable | Kind::CheckMessage | Kind::SheetToMessage if number > 0 => 24,
         Kind::CheckStore | Kind::ReadSettings | Kind::AddSettings if number > 0 => 60,
         Kind::CheckTable => 40,
+        Kind::ReadTape if number > 0 => 8,
+        Kind::ReadTape => 60,
         _ if number > 0 => 10,
         Kind::CheckMessage => 100,
         Kind::MessageToSheet | Kind::SheetToMessage | Kind::Rewrite => 120,

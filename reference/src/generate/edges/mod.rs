@@ -10,20 +10,23 @@ mod store;
 mod supers;
 mod symbols;
 mod table;
+mod tape;
 mod widths;
 
 use super::table::TablePlan;
 use crate::question::{Kind, Question};
 use crate::Settings;
 
-/// A case and its answer: fault number and place, 0 and 0 if it is accepted.
+/// A case and its answer.
 pub struct Edge {
     pub name: String,
     pub table: Vec<u8>,
     /// The store and the customer it is asked under, where that matters.
     pub settings: Option<(Vec<u8>, u16)>,
     pub question: Question,
-    pub fault: (u8, usize),
+    /// Fault number and place, 0 and 0 if it is accepted: of a tape those of
+    /// each message, else one.
+    pub verdicts: Vec<(u8, usize)>,
 }
 
 impl Edge {
@@ -49,6 +52,7 @@ pub fn edges() -> Vec<Edge> {
     read::add(&mut edges);
     store::add(&mut edges);
     settings::add(&mut edges);
+    tape::add(&mut edges);
     edges.0
 }
 
@@ -57,7 +61,7 @@ struct Edges(Vec<Edge>);
 impl Edges {
     fn add(&mut self, name: &str, table: &[u8], question: Question, fault: (u8, usize)) {
         let (name, table) = (name.to_string(), table.to_vec());
-        self.0.push(Edge { name, table, settings: None, question, fault });
+        self.0.push(Edge { name, table, settings: None, question, verdicts: vec![fault] });
     }
 
     fn store(&mut self, name: &str, question: Question, fault: (u8, usize)) {
@@ -74,7 +78,8 @@ impl Edges {
         fault: (u8, usize),
     ) {
         let (name, table) = (name.to_string(), table.to_vec());
-        self.0.push(Edge { name, table, settings: Some((store.to_vec(), customer)), question, fault });
+        let settings = Some((store.to_vec(), customer));
+        self.0.push(Edge { name, table, settings, question, verdicts: vec![fault] });
     }
 
     fn table(&mut self, name: &str, table: Vec<u8>, fault: (u8, usize)) {

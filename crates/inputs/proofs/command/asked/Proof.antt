@@ -27,28 +27,31 @@ returns-8 : tie.Need-returns-8
 returns-8 c = rw (c .enum-told8 .given .1)
 
 returns-9 : tie.Need-returns-9
-returns-9 c = rw (c .before .enum-told9 .given .1) (c .about3 .ensures)
+returns-9 c = rw (c .enum-told9 .given .1)
 
 returns-10 : tie.Need-returns-10
-returns-10 c = rw (c .before .enum-told10 .given .1) (c .about4 .ensures)
+returns-10 c = rw (c .before .enum-told10 .given .1) (c .about3 .ensures)
 
 returns-11 : tie.Need-returns-11
-returns-11 c = rw (c .before .enum-told11 .given .1) (c .about5 .ensures)
+returns-11 c = rw (c .before .enum-told11 .given .1) (c .about4 .ensures)
 
 returns-12 : tie.Need-returns-12
-returns-12 c = rw (c .before .enum-told12 .given .1) (c .list .ensures)
+returns-12 c = rw (c .before .enum-told12 .given .1) (c .about5 .ensures)
 
 returns-13 : tie.Need-returns-13
-returns-13 c = rw (c .before .enum-told13 .given .1) (c .get .ensures)
+returns-13 c = rw (c .before .enum-told13 .given .1) (c .list .ensures)
 
 returns-14 : tie.Need-returns-14
-returns-14 c = rw (c .before .enum-told14 .given .1) (c .add .ensures)
+returns-14 c = rw (c .before .enum-told14 .given .1) (c .get .ensures)
 
 returns-15 : tie.Need-returns-15
-returns-15 c = rw (c .before .enum-told15 .given .1) (c .create .ensures)
+returns-15 c = rw (c .before .enum-told15 .given .1) (c .add .ensures)
 
 returns-16 : tie.Need-returns-16
-returns-16 c = rw (c .enum-told16 .given .1)
+returns-16 c = rw (c .before .enum-told16 .given .1) (c .create .ensures)
+
+returns-17 : tie.Need-returns-17
+returns-17 c = rw (c .enum-told17 .given .1)
 
 pub asked-spec : {M : Type 1} → statement M
 asked-spec =
@@ -66,6 +69,7 @@ asked-spec =
     (λ c κs. search needs)
     (λ c. search needs)
     (λ c κs. search needs)
+    (λ c. search needs)
     (λ c. search needs)
     (λ c. search needs)
     (λ c κs. search needs)
@@ -97,4 +101,5 @@ asked-spec =
     returns-13
     returns-14
     returns-15
-    returns-16)
+    returns-16
+    returns-17)

@@ -1,0 +1,4 @@
+pub mod Tape
+pub mod Hands
+pub mod Claims
+pub mod Cases

@@ -62,4 +62,4 @@ step t s u p h = by-tests (leb (length s) p) (tableVerdict t) (whole s p) refl r
     by-tests true v w e f g = rw (step-ended t s p u (leb-true _ _ e)) (at-end s p p)
     by-tests false (Refused n q) w e f g = rw (step-20 t s p u n q (leb-false _ _ e) (sym f)) (refused s p 20 0 (length s) (λ z. omega (arith, z)))
     by-tests false Accepted false e f g = rw (step-cut t s p u (leb-false _ _ e) f g) (refused s p 22 p (length s) (λ z. omega (arith, z)))
-    by-tests false Accepted true e f g = rw (step-whole t s p u (leb-false _ _ e) f g) (of-message s p (messageVerdict t (messageAt s p) u) (h (messageAt s p)) g)
+    by-tests false Accepted true e f g = rw (step-whole t s p u f g) (of-message s p (messageVerdict t (messageAt s p) u) (h (messageAt s p)) g)

@@ -16,8 +16,8 @@ use Rattle.tape.specs.declared.Answer.{Answer}
 use Rattle.tape.specs.declared.Answer.the-variants.{Ended, Accepted, Refused}
 use Rattle.tape.specs.Tape.{spanAt, whole, messageAt, answerOf, tapeStep, handed, answersAt, joined, Measured, ownAnswers, tailAnswer}
 use Rattle.tape.specs.Claims.{Stands, Stored, TapeClaims}
-use Rattle.tape.proofs.Laws.{cut-short, stands, whole-inside, handed-some, step-ended, step-20, step-cut, step-whole, scratch-cut}
-use Rattle.tape.proofs.Whole.{onward, answers-end, answers-on, only-end}
+use Rattle.tape.proofs.Laws.{cut-short, stands, whole-inside, whole-left, handed-some, step-ended, step-20, step-cut, step-whole, scratch-cut}
+use Rattle.tape.proofs.Whole.{onward, answers-end, answers-on, answers-last, only-end}
 
 -- A PLACE BEHIND OTHER BYTES
 
@@ -32,7 +32,6 @@ stands-there a b rest m =
     let word : part 4 (length a) (a ++ (b ++ rest)) ≡ part 4 0 b = ap (take 4) d ∙ take-append-le 4 b rest (omega (arith, m)) in
     let span : spanAt (a ++ (b ++ rest)) (length a) ≡ length b = ap (λ (x : List ℕ). 4 + le x) word ∙ sym m in
     record {
-      left = omega (arith, m, length-append a (b ++ rest), length-append b rest);
       all = stands (a ++ (b ++ rest)) (length a) (omega (arith, span, length-append a (b ++ rest), length-append b rest));
       bytes = rw (span, d) (take-append-seam b rest);
     }
@@ -94,14 +93,14 @@ module _ (t : List ℕ) (u : Under) where
   stands-long s p b d = sym (length-part _ p s (whole-inside s p (d .all))) ∙ ap length (d .bytes)
 
   passes : (s : List ℕ) (p : ℕ) (b : List ℕ) → Stands s p b → tableVerdict t ≡ Passed → tapeStep t s p u .next ≡ p + length b
-  passes s p b d e = rw (step-whole t s p u (d .left) e (d .all)) (ap (λ n. p + n) (stands-long s p b d))
+  passes s p b d e = rw (step-whole t s p u e (d .all)) (ap (λ n. p + n) (stands-long s p b d))
 
   answers : (s : List ℕ) (p : ℕ) (b : List ℕ) → Stands s p b → tableVerdict t ≡ Passed → tapeStep t s p u .answer ≡ answerOf (messageVerdict t b u)
-  answers s p b d e = rw (step-whole t s p u (d .left) e (d .all)) (ap (λ x. answerOf (messageVerdict t x u)) (d .bytes))
+  answers s p b d e = rw (step-whole t s p u e (d .all)) (ap (λ x. answerOf (messageVerdict t x u)) (d .bytes))
 
   anywhere : (v : Verdict) → tableVerdict t ≡ v → (s s′ : List ℕ) (p p′ : ℕ) (b : List ℕ) → Stands s p b → Stands s′ p′ b → tapeStep t s p u .answer ≡ tapeStep t s′ p′ u .answer
   anywhere Passed e s s′ p p′ b d d′ = answers s p b d e ∙ sym (answers s′ p′ b d′ e)
-  anywhere (Failed n q) e s s′ p p′ b d d′ = rw (step-20 t s p u n q (d .left) (sym e), step-20 t s′ p′ u n q (d′ .left) (sym e))
+  anywhere (Failed n q) e s s′ p p′ b d d′ = rw (step-20 t s p u n q (whole-left s p (d .all)) (sym e), step-20 t s′ p′ u n q (whole-left s′ p′ (d′ .all)) (sym e))
 
   -- from behind the bytes a on, the answers are those of a tail c
   tail-answer : tableVerdict t ≡ Passed → (a c : List ℕ) → whole c 0 ≡ false → answersAt t (a ++ c) u (length a) ≡ tailAnswer (length a) c
@@ -109,7 +108,7 @@ module _ (t : List ℕ) (u : Under) where
   tail-answer e a [] f = answers-end t (a ++ []) u (length a) (omega (arith, length-append a []))
   tail-answer e a (x ∷ c) f =
       let h : length a < length (a ++ (x ∷ c)) = omega (arith, length-append a (x ∷ c)) in
-      answers-on t (a ++ (x ∷ c)) u (length a) h ∙ rw (step-cut t (a ++ (x ∷ c)) (length a) u h e (cut-there a (x ∷ c) f)) (ap (λ (r : List Answer). Refused 22 (length a) ∷ r) (answers-end t (a ++ (x ∷ c)) u (length (a ++ (x ∷ c))) (omega arith)))
+      answers-last t (a ++ (x ∷ c)) u (length a) (Refused 22 (length a)) h (step-cut t (a ++ (x ∷ c)) (length a) u h e (cut-there a (x ∷ c) f))
 
   -- and those of the messages bs and the tail
   in-order : tableVerdict t ≡ Passed → (s : List ℕ) (bs : List (List ℕ)) (c a : List ℕ) → s ≡ a ++ (joined bs ++ c) → Measured bs → whole c 0 ≡ false
@@ -121,7 +120,7 @@ module _ (t : List ℕ) (u : Under) where
       let d : Stands s (length a) b = subst (λ (x : List ℕ). Stands x (length a) b) (sym k) (stands-there a b (joined bs ++ c) (m .0)) in
       let on : tapeStep t s (length a) u .next ≡ length (a ++ b) = passes s (length a) b d e ∙ sym (length-append a b) in
       let rest = in-order e s bs c (a ++ b) (k ∙ sym (append-assoc a b (joined bs ++ c))) (m .1) f in
-      answers-on t s u (length a) (d .left) ∙ rw (answers s (length a) b d e, on, rest, append-assoc a b (joined bs))
+      answers-on t s u (length a) (whole-left s (length a) (d .all)) ∙ rw (answers s (length a) b d e, on, rest, append-assoc a b (joined bs))
 
   module _ (s : List ℕ) where
     end-to-end : (bs : List (List ℕ)) (c : List ℕ) → Stored s bs c → tableVerdict t ≡ Passed → answersAt t s u 0 ≡ ownAnswers t u bs ++ tailAnswer (length (joined bs)) c
@@ -140,6 +139,7 @@ module _ (t : List ℕ) (u : Under) where
       cut-untouched = λ p room w. scratch-cut t (u .store) s p room w;
       anywhere = anywhere (tableVerdict t) refl s;
       table-first = λ p n q h e. step-20 t s p u n q h (sym e);
+      table-alone = λ n q h e. answers-last t s u 0 (Refused 20 0) h (step-20 t s 0 u n q h (sym e));
       moves = λ p h. let x = onward t s u p h in (x .past, x .within);
       step-by-step = answers-on t s u;
       none-left = answers-end t s u;

@@ -48,6 +48,9 @@ module _ (s : List ℕ) (p : ℕ) where
   unfolding whole
   whole-inside w = leb-true _ _ (and-both (leb (p + 4) (length s)) (leb (p + spanAt s p) (length s)) w .1)
 
+  pub whole-left : whole s p ≡ true → p < length s
+  whole-left w = omega (arith, whole-inside w)
+
   -- where it ends, and what is found by that
   pub end-cut : whole s p ≡ false → p ≡ endOf s p
   unfolding endOf
@@ -123,14 +126,14 @@ module _ (t s : List ℕ) (p : ℕ) (u : Under) where
   unfolding tapeStep accepted need
   step-cut h e w = rw (lt-leb _ _ h, e, w)
 
-  pub step-whole : p < length s → tableVerdict t ≡ Passed → whole s p ≡ true → tapeStep t s p u ≡ stepTo (answerOf (messageVerdict t (messageAt s p) u)) (p + spanAt s p)
+  pub step-whole : tableVerdict t ≡ Passed → whole s p ≡ true → tapeStep t s p u ≡ stepTo (answerOf (messageVerdict t (messageAt s p) u)) (p + spanAt s p)
   unfolding tapeStep accepted need
-  step-whole h e w = rw (lt-leb _ _ h, e, w)
+  step-whole e w = rw (lt-leb _ _ (whole-left s p w), e, w)
 
   -- as the code has it: the message is the part from p up to n
-  pub step-goes : (n : ℕ) (e : Ends s p n) (a : Answer) → p < length s → tableVerdict t ≡ Passed
+  pub step-goes : (n : ℕ) (e : Ends s p n) (a : Answer) → tableVerdict t ≡ Passed
       → a ≡ answerOf (messageVerdict t (take (n - p) (drop p s)) u) → stepTo a n ≡ tapeStep t s p u
-  step-goes n e a h v x = (λ i. stepTo ((x ∙ ap (λ m. answerOf (messageVerdict t m u)) (e .bytes)) i) (e .here i)) ∙ sym (step-whole h v (e .all))
+  step-goes n e a v x = (λ i. stepTo ((x ∙ ap (λ m. answerOf (messageVerdict t m u)) (e .bytes)) i) (e .here i)) ∙ sym (step-whole v (e .all))
 
 module _ (t st s : List ℕ) (p : ℕ) (room : List ℕ) where
   pub scratch-cut : whole s p ≡ false → tapeScratch t st s p room ≡ room

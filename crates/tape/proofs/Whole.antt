@@ -1,4 +1,4 @@
--- The whole tape, step by step: what a loop over it needs.
+-- The whole tape, step by step, and what a loop over it needs.
 use Prim.Native.Nat.{ℕ, zero, suc, _+_, _<_, _≤_}
 use mathlib.Core.Path.{_≡_, refl, sym, ap, _∙_}
 use mathlib.Core.Bool.{Bool, true, false}
@@ -10,10 +10,11 @@ use borrow.Author.Tests.{leb-true, leb-false}
 use Rattle.schema.specs.declared.Verdict.{Verdict}
 use Rattle.schema.specs.declared.Verdict.the-variants.{Accepted as Passed, Refused as Failed}
 use Rattle.schema.specs.Table.{tableVerdict}
-use Rattle.opening.specs.Opening.{Under, messageVerdict}
+use Rattle.opening.specs.Opening.{Under, under, messageVerdict}
 use Rattle.tape.specs.declared.Answer.{Answer}
 use Rattle.tape.specs.declared.Answer.the-variants.{Ended, Accepted, Refused}
-use Rattle.tape.specs.Tape.{whole, messageAt, answerOf, tapeStep, before, answersFrom, answersAt}
+use Rattle.tape.specs.declared.Step.{Step}
+use Rattle.tape.specs.Tape.{whole, messageAt, answerOf, stepTo, tapeStep, before, answersFrom, answersAt}
 use Rattle.tape.proofs.Laws.{whole-inside, step-ended, step-20, step-cut, step-whole}
 
 abbrev pub isEnd : Answer → Bool
@@ -46,7 +47,7 @@ module _ (t s : List ℕ) (u : Under) where
       go : (v : Verdict) (w : Bool) → tableVerdict t ≡ v → whole s p ≡ w → Onward p
       go (Failed n q) w e f = let x = step-20 t s p u n q h (sym e) in record { answers = rw x; past = rw x h; within = rw x (omega arith) }
       go Passed false e f = let x = step-cut t s p u h e f in record { answers = rw x; past = rw x h; within = rw x (omega arith) }
-      go Passed true e f = let x = step-whole t s p u h e f in record { answers = rw x (answer-no-end (messageVerdict t (messageAt s p) u)); past = rw x (omega arith); within = rw x (whole-inside s p f) }
+      go Passed true e f = let x = step-whole t s p u e f in record { answers = rw x (answer-no-end (messageVerdict t (messageAt s p) u)); past = rw x (omega arith); within = rw x (whole-inside s p f) }
 
   -- as many steps as bytes are left, or more, read all of them
   none-left : (n p : ℕ) → length s ≤ p → answersFrom n t s u p ≡ []
@@ -75,6 +76,10 @@ module _ (t s : List ℕ) (u : Under) where
       let x = onward p h in
       enough (length s) (suc (length s)) p (omega arith) (omega arith) ∙ before-some (tapeStep t s p u .answer) (answersFrom (length s) t s u (tapeStep t s p u .next)) (x .answers)
 
+  -- an answer that ends the tape is its last
+  pub answers-last : (p : ℕ) (a : Answer) → p < length s → tapeStep t s p u ≡ stepTo a (length s) → answersAt t s u p ≡ a ∷ []
+  answers-last p a h e = answers-on p h ∙ rw e (ap (λ (xs : List Answer). a ∷ xs) (answers-end (length s) (omega arith)))
+
   pub step-past : (p : ℕ) → p < length s → p < tapeStep t s p u .next
   step-past p h = onward p h .past
 
@@ -87,3 +92,15 @@ module _ (t s : List ℕ) (u : Under) where
       by-test : (b : Bool) → leb (length s) p ≡ b → length s ≤ p
       by-test true f = leb-true _ _ f
       by-test false f = let x : true ≡ false = sym (ap isEnd e) ∙ onward p (leb-false _ _ f) .answers in let z : _≡_ {A = ℕ} 0 1 = cc in absurd (omega arith)
+
+-- A turn of a loop: the step x at p goes on behind it and stays on the tape, and its answer is the first of those from p on.
+pub record Turn (t s : List ℕ) (u : Under) (p : ℕ) (x : Step) : Type 0 where
+  pub past : p < x .next
+  pub within : x .next ≤ length s
+  pub rest : answersAt t s u p ≡ x .answer ∷ answersAt t s u (x .next)
+
+-- with a scratch as long as the one that the loop was lent
+pub turn : (t s store : List ℕ) (customer k room p : ℕ) (x : Step) → k ≡ room → p < length s → x ≡ tapeStep t s p (under store customer k) → Turn t s (under store customer room) p x
+turn t s store customer k room p x e h q =
+    let r : x ≡ tapeStep t s p (under store customer room) = q ∙ ap (λ (n : ℕ). tapeStep t s p (under store customer n)) e in
+    rw r (record { past = step-past t s (under store customer room) p h; within = step-within t s (under store customer room) p h; rest = answers-on t s (under store customer room) p h })

@@ -13,7 +13,6 @@ use Rattle.tape.specs.Tape.{whole, messageAt, answerOf, stepTo, tapeStep
 
 -- The message b stands at p of the tape s.
 pub record Stands (s : List ℕ) (p : ℕ) (b : List ℕ) : Type 0 where
-  pub left : p < length s
   pub all : whole s p ≡ true
   pub bytes : messageAt s p ≡ b
 
@@ -42,6 +41,7 @@ pub record TapeClaims (t s : List ℕ) (u : Under) : Type 0 where
   pub anywhere : (s′ : List ℕ) (p p′ : ℕ) (b : List ℕ) → Stands s p b → Stands s′ p′ b → tapeStep t s p u .answer ≡ tapeStep t s′ p′ u .answer
   -- "Where bytes are left, 20 comes first and ends the tape, then that 22"
   pub table-first : (p n q : ℕ) → p < length s → tableVerdict t ≡ Failed n q → tapeStep t s p u ≡ stepTo (Refused 20 0) (length s)
+  pub table-alone : (n q : ℕ) → 0 < length s → tableVerdict t ≡ Failed n q → tapeAnswers t s u ≡ Refused 20 0 ∷ []
   -- The reader always moves on, and never past the end; so its steps, one after the other, are the whole tape's answers.
   pub moves : (p : ℕ) → p < length s → (p < tapeStep t s p u .next) × (tapeStep t s p u .next ≤ length s)
   pub step-by-step : (p : ℕ) → p < length s → answersAt t s u p ≡ tapeStep t s p u .answer ∷ answersAt t s u (tapeStep t s p u .next)

@@ -3,7 +3,8 @@ use mathlib.Core.Path.{_≡_, refl}
 use native.Mathlib.Omega.{arith}
 use lib.ListN.{length}
 use Rattle.opening.specs.Opening.{under}
-use Rattle.tape_bench.proofs.Laws.{Counted, same-room, starts, ends, on, turns, one-at-most}
+use Rattle.tape.proofs.Whole.{turn}
+use Rattle.tape_bench.proofs.Laws.{Counted, starts, ends, turns, one-at-most}
 use borrow.Author.Needs.{needs}
 use Rattle.tape_bench.proofs.count_under.Statement.{statement}
 use Rattle.tape_bench.proofs.count_under.Tie as tie
@@ -25,10 +26,10 @@ add-accepted : tie.Need-add-accepted Inv-loop μ-loop
 add-accepted c = omega (arith, c .before .before .before .before .before .before .loop .inv .1 .few, c .before .before .before .before .before .loop-test .taken, one-at-most (c .before .before .before .step-under .result .answer), c .one-if-accepted .ensures)
 
 loop-less : tie.Need-loop-less Inv-loop μ-loop
-loop-less c = let q = same-room _ _ _ _ _ _ _ _ (c .before .before .before .before .before .before .loop .inv .0) (c .before .before .before .step-under .ensures .0) in omega (arith, on _ _ _ _ _ (c .before .before .before .before .before .loop-test .taken) q, c .before .before .before .before .before .loop-test .taken)
+loop-less c = omega (arith, turn _ _ _ _ _ _ _ _ (c .before .before .before .before .before .before .loop .inv .0) (c .before .before .before .before .before .loop-test .taken) (c .before .before .before .step-under .ensures .0) .past, c .before .before .before .before .before .loop-test .taken)
 
 loop-again : tie.Need-loop-again Inv-loop μ-loop
-loop-again c = let q = same-room _ _ _ _ _ _ _ _ (c .before .before .before .before .before .before .loop .inv .0) (c .before .before .before .step-under .ensures .0) in (search needs, turns _ _ _ _ _ (c .before .before .before .before .before .loop-test .taken) q _ _ (c .one-if-accepted .ensures) (c .before .before .before .before .before .before .loop .inv .1))
+loop-again c = (search needs, turns _ _ _ _ _ (turn _ _ _ _ _ _ _ _ (c .before .before .before .before .before .before .loop .inv .0) (c .before .before .before .before .before .loop-test .taken) (c .before .before .before .step-under .ensures .0)) _ _ (c .one-if-accepted .ensures) (c .before .before .before .before .before .before .loop .inv .1))
 
 same-length : tie.Need-same-length Inv-loop μ-loop
 same-length c = c .before .loop .inv .0

@@ -7,7 +7,8 @@ use Rattle.tape.specs.Tape.{tapeAnswers}
 use Rattle.answers.specs.declared.outcome.Outcome.{Outcome}
 use Rattle.answers.specs.Outcomes.{worseOf}
 use Rattle.tapes.specs.Outcomes.{tapeOutcome}
-use Rattle.tapes.proofs.Laws.{outcomeFrom, outcome-start, outcome-end, turn}
+use Rattle.tape.proofs.Whole.{turn}
+use Rattle.tapes.proofs.Laws.{outcomeFrom, outcome-start, outcome-turn, outcome-end}
 use borrow.Author.Needs.{needs}
 use Rattle.tapes.proofs.check_under.Statement.{statement}
 use Rattle.tapes.proofs.check_under.Tie as tie
@@ -41,7 +42,7 @@ loop-less c = let a = c .before .before .before .before .before .before .before 
 loop-again : tie.Need-loop-again Inv-loop μ-loop
 loop-again c = let a = c .before .before .before .before .before .before .before .before .before .before .before .before .before .before .before .args in let x = turn (a .table .now) (a .tape .now) (a .store .now) (a .customer) _ _ _ _ (c .before .before .before .before .before .before .before .before .before .loop .inv .0) (c .before .before .before .before .before .before .before .before .loop-test .taken) (c .before .before .before .before .before .before .step-under .ensures .0) in
     let i = c .before .before .before .before .before .before .before .before .before .loop .inv in let n = c .refusals .ensures in
-    (search needs, x .within, omega (arith, x .past, i .2), omega (arith, n, i .3), i .4 ∙ x .outcome _ ∙ ap (λ (w : Outcome). outcomeFrom (a .table .now) (a .tape .now) (under (a .store .now) (a .customer) (length (a .scratch .now))) w (c .before .before .before .before .before .before .step-under .result .next)) (ap (worseOf _) (sym (c .before .before .say .ensures)) ∙ sym (c .before .worse .ensures)))
+    (search needs, x .within, omega (arith, x .past, i .2), omega (arith, n, i .3), i .4 ∙ outcome-turn (a .table .now) (a .tape .now) (under (a .store .now) (a .customer) (length (a .scratch .now))) _ _ _ x ∙ ap (λ (w : Outcome). outcomeFrom (a .table .now) (a .tape .now) (under (a .store .now) (a .customer) (length (a .scratch .now))) w (c .before .before .before .before .before .before .step-under .result .next)) (ap (worseOf _) (sym (c .before .before .say .ensures)) ∙ sym (c .before .worse .ensures)))
 
 print-totals-requires : tie.Need-print-totals-requires Inv-loop μ-loop
 print-totals-requires c κs = c .before .before .loop .inv .3

@@ -1,0 +1,17 @@
+use Prim.Native.Nat.{◌-◌, ◌≤◌}
+use mathlib.Core.Path.{◌≡◌, sym, ap, ◌∙◌}
+use mathlib.Core.Bool.{◌&&◌}
+use Rattle.wire.specs.Bytes.{part}
+use Rattle.wire.specs.Scan.{all_ascii}
+use Rattle.wire.proofs.Turns.{rest, rest_all, ascii-turn, ascii-end}
+use borrow.Author.Rules.{rules}
+use Rattle.wire.proofs.all_ascii.Goals as goal
+
+pub loop-i-init : goal.loop-i-init
+loop-i-init c = (search rules, sym (ap all_ascii (rest_all c.args.n c.args.at c.args.s.now)))
+
+pub loop-i-preserved : goal.loop-i-preserved
+loop-i-preserved c = (search rules, c.loop-i.invariant.1 ∙ ascii-turn c.args.n c.args.at c.args.s.now c.loop-i.ascii c.loop-i.i c.loop-i-test.true c.requires)
+
+pub returns : goal.returns
+returns c = sym (c.loop-i.invariant.1 ∙ ascii-end _ _ c.args.s.now _ _ c.loop-i-test.false)

@@ -1,0 +1,15 @@
+use borrow.Author.Tests.{ne_eqb}
+use Rattle.wire.specs.Utf8.{lowest}
+use Rattle.wire.proofs.lowest.Goals as goal
+
+pub returns-in-224 : goal.returns-in-224
+unfolding lowest
+returns-in-224 c = rw c.in-224.keys1
+
+pub returns-in-240 : goal.returns-in-240
+unfolding lowest
+returns-in-240 c = rw c.in-240.keys2
+
+pub returns-in_default : goal.returns-in_default
+unfolding lowest
+returns-in_default c = simp (ne_eqb _ _ c.in_default.rest.0.1, ne_eqb _ _ c.in_default.rest.1, lowest)

@@ -241,7 +241,7 @@ fn fields_of(table: &[u8], index: &[u16], group: usize) -> Fields
 }
 
 // The group that `bytes` are, in what is at `outer`; `allowed` is the number of the dynamic kind that names it. "24": no level is left.
-#[cycle(lay_body_lay_dynamic_lay_extension_lay_field_lay_fields_lay_group_lay_item_lay_items_lay_value)]
+#[cycle(lay)]
 fn lay_group(
     table: &[u8],
     index: &[u16],
@@ -280,7 +280,7 @@ fn lay_group(
 }
 
 // What follows a group's head: its fields, its extension, and pads.
-#[cycle(lay_body_lay_dynamic_lay_extension_lay_field_lay_fields_lay_group_lay_item_lay_items_lay_value)]
+#[cycle(lay)]
 fn lay_body(
     table: &[u8],
     index: &[u16],
@@ -304,7 +304,7 @@ fn lay_body(
 }
 
 // "An extension is a sequence of any groups"
-#[cycle(lay_body_lay_dynamic_lay_extension_lay_field_lay_fields_lay_group_lay_item_lay_items_lay_value)]
+#[cycle(lay)]
 fn lay_extension(table: &[u8], index: &[u16], bytes: &[u8], labels: &mut [u64], spot: Spot) -> u64
     requires { Ready table.now index.now bytes.now labels.old }
 {
@@ -333,7 +333,7 @@ fn lay_extension(table: &[u8], index: &[u16], bytes: &[u8], labels: &mut [u64], 
 }
 
 // The fields of a group from `at` on; `depth` is what is left of the static depth.
-#[cycle(lay_body_lay_dynamic_lay_extension_lay_field_lay_fields_lay_group_lay_item_lay_items_lay_value)]
+#[cycle(lay)]
 fn lay_fields(
     table: &[u8],
     index: &[u16],
@@ -378,7 +378,7 @@ fn lay_fields(
 }
 
 // The field whose record stands at `field` of the table: its flag, and its value.
-#[cycle(lay_body_lay_dynamic_lay_extension_lay_field_lay_fields_lay_group_lay_item_lay_items_lay_value)]
+#[cycle(lay)]
 fn lay_field(
     table: &[u8],
     index: &[u16],
@@ -408,7 +408,7 @@ fn lay_field(
 }
 
 // A value is a sequence, or one item.
-#[cycle(lay_body_lay_dynamic_lay_extension_lay_field_lay_fields_lay_group_lay_item_lay_items_lay_value)]
+#[cycle(lay)]
 fn lay_value(
     table: &[u8],
     index: &[u16],
@@ -448,7 +448,7 @@ fn lay_value(
 }
 
 // So many items, each of `width` bytes.
-#[cycle(lay_body_lay_dynamic_lay_extension_lay_field_lay_fields_lay_group_lay_item_lay_items_lay_value)]
+#[cycle(lay)]
 fn lay_items(
     table: &[u8],
     index: &[u16],
@@ -482,7 +482,7 @@ fn lay_items(
     0
 }
 
-#[cycle(lay_body_lay_dynamic_lay_extension_lay_field_lay_fields_lay_group_lay_item_lay_items_lay_value)]
+#[cycle(lay)]
 fn lay_item(
     table: &[u8],
     index: &[u16],
@@ -517,7 +517,7 @@ fn lay_item(
 }
 
 // A group in another has a part of its bytes and labels for its own.
-#[cycle(lay_body_lay_dynamic_lay_extension_lay_field_lay_fields_lay_group_lay_item_lay_items_lay_value)]
+#[cycle(lay)]
 fn lay_dynamic(
     table: &[u8],
     index: &[u16],

@@ -648,7 +648,7 @@ enum Opened {
 // A group: of a dynamic one `bytes` are the whole, and `outer` says where it starts and how many levels
 // are left for it. One function checks both scopes, so that a level is one call: each call passes its
 // slices through memory.
-#[cycle(check_dynamic_check_extending_check_extension_check_field_check_fields_check_group_check_groups_check_item_check_items_check_nested_check_rest_check_value_close_group)]
+#[cycle(walk)]
 fn check_group(
     table: &[u8],
     index: &[u16],
@@ -784,7 +784,7 @@ fn open_area(index: &[u16], bytes: &[u8], outer: Frame, group: usize, before: us
 }
 
 // What stands behind a group's fields: of a dynamic one "extension, 6".
-#[cycle(check_dynamic_check_extending_check_extension_check_field_check_fields_check_group_check_groups_check_item_check_items_check_nested_check_rest_check_value_close_group)]
+#[cycle(walk)]
 fn close_group(
     table: &[u8],
     index: &[u16],
@@ -820,7 +820,7 @@ fn close_group(
 }
 
 // "extension, 6"
-#[cycle(check_dynamic_check_extending_check_extension_check_field_check_fields_check_group_check_groups_check_item_check_items_check_nested_check_rest_check_value_close_group)]
+#[cycle(walk)]
 fn check_rest(
     table: &[u8],
     index: &[u16],
@@ -842,7 +842,7 @@ fn check_rest(
 
 // The fields of a group whose static depth is below `depth`. Those that need no test are passed over
 // here, without a call.
-#[cycle(check_dynamic_check_extending_check_extension_check_field_check_fields_check_group_check_groups_check_item_check_items_check_nested_check_rest_check_value_close_group)]
+#[cycle(walk)]
 fn check_fields(
     table: &[u8],
     index: &[u16],
@@ -902,7 +902,7 @@ fn check_fields(
 }
 
 // "Field: 11 on its flag, 4, then its value": the field whose record stands at `field` of the table.
-#[cycle(check_dynamic_check_extending_check_extension_check_field_check_fields_check_group_check_groups_check_item_check_items_check_nested_check_rest_check_value_close_group)]
+#[cycle(walk)]
 fn check_field(
     table: &[u8],
     index: &[u16],
@@ -939,7 +939,7 @@ fn check_field(
 
 // A value that is no sequence is one item. So `check_items` is called in one place, and `check_item` is
 // compiled into its one caller: each call that is left passes its slices through memory.
-#[cycle(check_dynamic_check_extending_check_extension_check_field_check_fields_check_group_check_groups_check_item_check_items_check_nested_check_rest_check_value_close_group)]
+#[cycle(walk)]
 fn check_value(
     table: &[u8],
     index: &[u16],
@@ -986,7 +986,7 @@ fn check_value(
 
 // So many items, each of `width` bytes. Plain values need no test, and are only counted; strings, and
 // numbers with a test, of which there may be thousands, have loops of their own.
-#[cycle(check_dynamic_check_extending_check_extension_check_field_check_fields_check_group_check_groups_check_item_check_items_check_nested_check_rest_check_value_close_group)]
+#[cycle(walk)]
 fn check_items(
     table: &[u8],
     index: &[u16],
@@ -1047,7 +1047,7 @@ fn check_items(
     }
 }
 
-#[cycle(check_dynamic_check_extending_check_extension_check_field_check_fields_check_group_check_groups_check_item_check_items_check_nested_check_rest_check_value_close_group)]
+#[cycle(walk)]
 fn check_item(
     table: &[u8],
     index: &[u16],
@@ -1103,7 +1103,7 @@ fn check_item(
     }
 }
 
-#[cycle(check_dynamic_check_extending_check_extension_check_field_check_fields_check_group_check_groups_check_item_check_items_check_nested_check_rest_check_value_close_group)]
+#[cycle(walk)]
 fn check_dynamic(
     table: &[u8],
     index: &[u16],
@@ -1142,7 +1142,7 @@ fn check_dynamic(
 
 // The dynamic group of `size` bytes at `start`, which are taken: it has their part of the scratch for
 // its own.
-#[cycle(check_dynamic_check_extending_check_extension_check_field_check_fields_check_group_check_groups_check_item_check_items_check_nested_check_rest_check_value_close_group)]
+#[cycle(walk)]
 fn check_nested(
     table: &[u8],
     index: &[u16],
@@ -1187,7 +1187,7 @@ fn check_nested(
 }
 
 // "An extension is a sequence of any groups", and one of no groups means the same as none.
-#[cycle(check_dynamic_check_extending_check_extension_check_field_check_fields_check_group_check_groups_check_item_check_items_check_nested_check_rest_check_value_close_group)]
+#[cycle(walk)]
 fn check_extension(
     table: &[u8],
     index: &[u16],
@@ -1235,7 +1235,7 @@ fn check_extension(
     }
 }
 
-#[cycle(check_dynamic_check_extending_check_extension_check_field_check_fields_check_group_check_groups_check_item_check_items_check_nested_check_rest_check_value_close_group)]
+#[cycle(walk)]
 fn check_groups(
     table: &[u8],
     index: &[u16],
@@ -1278,7 +1278,7 @@ fn check_groups(
 }
 
 // A group of the extension; one of unknown type is kept as bytes.
-#[cycle(check_dynamic_check_extending_check_extension_check_field_check_fields_check_group_check_groups_check_item_check_items_check_nested_check_rest_check_value_close_group)]
+#[cycle(walk)]
 fn check_extending(
     table: &[u8],
     index: &[u16],

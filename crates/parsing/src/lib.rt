@@ -360,7 +360,7 @@ fn open_group(
 
 // A group, whole or its fields alone. One function checks both, and calls `check_fields` in one place
 // only, so that a level costs one call.
-#[cycle(check_extending_check_extension_check_field_check_fields_check_group_check_groups_check_item_check_items_close_group)]
+#[cycle(parse)]
 fn check_group(
     table: &[u8],
     index: &[u16],
@@ -404,7 +404,7 @@ fn check_group(
 
 // What stands behind the fields: of a dynamic group its extension and its end. "`SG` opens a static
 // group and no record closes it".
-#[cycle(check_extending_check_extension_check_field_check_fields_check_group_check_groups_check_item_check_items_close_group)]
+#[cycle(parse)]
 fn close_group(
     table: &[u8],
     index: &[u16],
@@ -431,7 +431,7 @@ fn close_group(
 
 // The fields of a group whose static depth is below `depth`. Required plain values are passed over
 // here, without a call.
-#[cycle(check_extending_check_extension_check_field_check_fields_check_group_check_groups_check_item_check_items_close_group)]
+#[cycle(parse)]
 fn check_fields(
     table: &[u8],
     index: &[u16],
@@ -479,7 +479,7 @@ fn check_fields(
 // The field whose record stands at `field` of the table: absent, "`SQ` count u32, then the items", or
 // one value. That is checked as one item, so that `check_items` is called in one place only, where it
 // is compiled without a call; a dynamic group needs no loop of one turn.
-#[cycle(check_extending_check_extension_check_field_check_fields_check_group_check_groups_check_item_check_items_close_group)]
+#[cycle(parse)]
 fn check_field(
     table: &[u8],
     index: &[u16],
@@ -528,7 +528,7 @@ fn check_field(
 
 // So many items, each of `width` bytes in place. A count with no items behind it ends at the first
 // that is missing.
-#[cycle(check_extending_check_extension_check_field_check_fields_check_group_check_groups_check_item_check_items_close_group)]
+#[cycle(parse)]
 fn check_items(
     table: &[u8],
     index: &[u16],
@@ -565,7 +565,7 @@ fn check_items(
     passed(next, length)
 }
 
-#[cycle(check_extending_check_extension_check_field_check_fields_check_group_check_groups_check_item_check_items_close_group)]
+#[cycle(parse)]
 fn check_item(
     table: &[u8],
     index: &[u16],
@@ -618,7 +618,7 @@ fn check_item(
 }
 
 // "the extension is last"; where no `XT` stands there is none.
-#[cycle(check_extending_check_extension_check_field_check_fields_check_group_check_groups_check_item_check_items_close_group)]
+#[cycle(parse)]
 fn check_extension(
     table: &[u8],
     index: &[u16],
@@ -645,7 +645,7 @@ fn check_extension(
     passed(pos, before)
 }
 
-#[cycle(check_extending_check_extension_check_field_check_fields_check_group_check_groups_check_item_check_items_close_group)]
+#[cycle(parse)]
 fn check_groups(
     table: &[u8],
     index: &[u16],
@@ -674,7 +674,7 @@ fn check_groups(
 }
 
 // A group of the extension; one of unknown type is kept as bytes.
-#[cycle(check_extending_check_extension_check_field_check_fields_check_group_check_groups_check_item_check_items_close_group)]
+#[cycle(parse)]
 fn check_extending(
     table: &[u8],
     index: &[u16],

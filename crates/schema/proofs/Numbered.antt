@@ -1,5 +1,5 @@
 -- No refusal of a table has the number 0.
-use Rattle.std.proofs.Common.{◌≡◌, ℕ, zero, suc, ◌≤◌, Bool, true, false, cond, List, [], ◌∷◌, arith}
+use Rattle.std.proofs.Common.{◌≡◌, ℕ, zero, suc, ◌+◌, ◌≤◌, Bool, true, false, cond, List, [], ◌∷◌, arith}
 use Rattle.schema.specs.declared.Verdict.{Verdict}
 use Rattle.schema.specs.declared.Verdict.TheVariants.{Accepted, Refused}
 use Rattle.schema.specs.Faults.{need, also}
@@ -49,7 +49,7 @@ shape (suc n) d p t = tested _ 31 _ (omega arith) (shape n _ _ _)
 each : (n : ℕ) → 1 ≤ n → (test : ℕ → ℕ → Bool) (g : ℕ) (ps : List ℕ) → Numbered (each_group n test g ps)
 unfolding each_group
 each n l test g [] = accepts
-each n l test g (p ∷ ps) = tested _ n _ l (each n l test _ ps)
+each n l test g (p ∷ ps) = tested _ n _ l (each n l test (g + 1) ps)
 
 one : (ne : ℕ) (gs : List Group) (next low p : ℕ) (t : List ℕ) → Numbered (record_verdict ne gs next low p t)
 unfolding record_verdict field_verdict symbol_verdict group_verdict enum_verdict

@@ -28,7 +28,7 @@ use Rattle.sheet.proofs.Groups.{framed-length, framed-id, framed-held, satw-clos
 
 contiguous-join : (p q e : ℕ) (xs ys : List Extent) → Contiguous p xs q → Contiguous q ys e → Contiguous p (xs ++ ys) e
 contiguous-join p q e [] ys x y = rw x y
-contiguous-join p q e (x ∷ xs) ys (f, c) y = (f, contiguous-join _ q e xs ys c y)
+contiguous-join p q e (x ∷ xs) ys (f, c) y = (f, contiguous-join (p + x.long) q e xs ys c y)
 
 module _ (gs : List Group) (C : List ℕ → Type 0) (I : Inner) (J : InnerW) (inner : (g : ℕ) (s : List ℕ) → SatW (λ X Y r. GroupAgain gs I g s X Y r × (length X < 2 ^ 32 → C X)) (J g s)) where
   -- Values of b whose extents fill it from p to e, and each dynamic group of them is C.

@@ -10,7 +10,7 @@ ghost use Rattle.schema.specs.Schema.{kind_width, value_width, field_width, shal
 ghost use Rattle.schema.specs.Table.{field_at, enums, schema};
 ghost use Rattle.schema.specs.Layout.{Layout};
 ghost use Rattle.schema.specs.FieldKinds.{kind_from};
-ghost use Rattle.message.specs.Sheet.{ST, mark_bytes};
+ghost use Rattle.message.specs.Sheet.{ST as StringMark, mark_bytes};
 ghost use Rattle.settings.specs.Store.{lax};
 ghost use Rattle.message.specs.Walk.{done, byte, word, items_r, walk};
 ghost use Rattle.message.specs.Check.{width_of, static_of};
@@ -60,7 +60,7 @@ fn show_bytes(mark: [u8; 2], bytes: &[u8], at: usize, n: usize, out: &mut [u8], 
 // Inline text: its count takes one byte in the message, and four in the sheet.
 fn show_inline(bytes: &[u8], at: usize, out: &mut [u8], pos: usize) -> usize
     requires { (at + 1 + byte at bytes.now ≤ length bytes.now) × (pos + (6 + byte at bytes.now) ≤ length out.old) }
-    ensures { (out.new ≡ splice (6 + byte at bytes.now) pos (mark_bytes ST ++ (bytes_of 4 (byte at bytes.now) ++ part (byte at bytes.now) (at + 1) bytes.now)) out.old) × (result ≡ pos + (6 + byte at bytes.now)) }
+    ensures { (out.new ≡ splice (6 + byte at bytes.now) pos (mark_bytes StringMark ++ (bytes_of 4 (byte at bytes.now) ++ part (byte at bytes.now) (at + 1) bytes.now)) out.old) × (result ≡ pos + (6 + byte at bytes.now)) }
 {
     let count = wire::wide(bytes[at]);
     wire::write_mark(out, pos, ST);
@@ -132,7 +132,7 @@ fn open_group(
 
 // A group whose fields stand at `at`. One function shows dynamic and static groups, so that a level is
 // one call: each call passes its slices through memory.
-#[cycle(close_group_show_extending_show_extension_show_field_show_fields_show_group_show_groups_show_item_show_items_show_nested_show_value)]
+#[cycle(show)]
 fn show_group(
     table: &[u8],
     index: &[u16],
@@ -163,7 +163,7 @@ fn show_group(
 }
 
 // What stands behind them: a dynamic group ends with its extension and a mark.
-#[cycle(close_group_show_extending_show_extension_show_field_show_fields_show_group_show_groups_show_item_show_items_show_nested_show_value)]
+#[cycle(show)]
 fn close_group(
     table: &[u8],
     index: &[u16],
@@ -187,7 +187,7 @@ fn close_group(
 
 // The fields of a group whose static depth is below `depth`. Required plain values are written here,
 // without a call.
-#[cycle(close_group_show_extending_show_extension_show_field_show_fields_show_group_show_groups_show_item_show_items_show_nested_show_value)]
+#[cycle(show)]
 fn show_fields(
     table: &[u8],
     index: &[u16],
@@ -228,7 +228,7 @@ fn show_fields(
 }
 
 // The field whose record stands at `field` of the table.
-#[cycle(close_group_show_extending_show_extension_show_field_show_fields_show_group_show_groups_show_item_show_items_show_nested_show_value)]
+#[cycle(show)]
 fn show_field(
     table: &[u8],
     index: &[u16],
@@ -253,7 +253,7 @@ fn show_field(
     show_value(table, index, bytes, levels, depth, field, place, out, pos)
 }
 
-#[cycle(close_group_show_extending_show_extension_show_field_show_fields_show_group_show_groups_show_item_show_items_show_nested_show_value)]
+#[cycle(show)]
 fn show_value(
     table: &[u8],
     index: &[u16],
@@ -285,7 +285,7 @@ fn show_value(
 }
 
 // So many items, each of `width` bytes.
-#[cycle(close_group_show_extending_show_extension_show_field_show_fields_show_group_show_groups_show_item_show_items_show_nested_show_value)]
+#[cycle(show)]
 fn show_items(
     table: &[u8],
     index: &[u16],
@@ -316,7 +316,7 @@ fn show_items(
     next
 }
 
-#[cycle(close_group_show_extending_show_extension_show_field_show_fields_show_group_show_groups_show_item_show_items_show_nested_show_value)]
+#[cycle(show)]
 fn show_item(
     table: &[u8],
     index: &[u16],
@@ -372,7 +372,7 @@ fn show_item(
 }
 
 // The dynamic group at `place`, which is its size word and so many bytes behind it.
-#[cycle(close_group_show_extending_show_extension_show_field_show_fields_show_group_show_groups_show_item_show_items_show_nested_show_value)]
+#[cycle(show)]
 fn show_nested(
     table: &[u8],
     index: &[u16],
@@ -402,7 +402,7 @@ fn show_nested(
 }
 
 // "An extension is a sequence of any groups", and one of no groups means the same as none.
-#[cycle(close_group_show_extending_show_extension_show_field_show_fields_show_group_show_groups_show_item_show_items_show_nested_show_value)]
+#[cycle(show)]
 fn show_extension(
     table: &[u8],
     index: &[u16],
@@ -427,7 +427,7 @@ fn show_extension(
     show_groups(table, index, bytes, levels, count, place + 4, out, next)
 }
 
-#[cycle(close_group_show_extending_show_extension_show_field_show_fields_show_group_show_groups_show_item_show_items_show_nested_show_value)]
+#[cycle(show)]
 fn show_groups(
     table: &[u8],
     index: &[u16],
@@ -453,7 +453,7 @@ fn show_groups(
 }
 
 // A group of the extension; one of unknown type is kept as bytes.
-#[cycle(close_group_show_extending_show_extension_show_field_show_fields_show_group_show_groups_show_item_show_items_show_nested_show_value)]
+#[cycle(show)]
 fn show_extending(
     table: &[u8],
     index: &[u16],

@@ -125,6 +125,10 @@ pub record Sane (t : List ℕ) : Type 0 where
   pub fresh : (g id : ℕ) → Names (schema t) g id → known (take g (schema t)) id ≡ false
   pub unique : (g k id : ℕ) → Names (schema t) g id → Names (schema t) k id → g ≡ k
 
+new-id : (t : List ℕ) → Formed (record_count t) 0 0 0 false t → records_verdict t ≡ Accepted → (k id : ℕ) → Names (schema t) k id → known (take k (schema t)) id ≡ false
+unfolding records_verdict schema
+new-id t form records k id x = fresh (enums t) (length (enums t)) (schema t) form 0 0 records refl k id (omega arith) x
+
 pub accepted : (t : List ℕ) → table_verdict t ≡ Accepted → Sane t
 accepted t e = record {
   shallows = λ g. shallows g (ltb g (length (schema t))) refl;
@@ -163,7 +167,7 @@ accepted t e = record {
     shallows g false q = shallow-out (schema t) 4 g (ltb-false g (length (schema t)) q)
 
     new : (k id : ℕ) → Names (schema t) k id → known (take k (schema t)) id ≡ false
-    new k id x = unfold records_verdict schema in fresh (enums t) (length (enums t)) (schema t) form 0 0 records refl k id (omega arith) x
+    new = new-id t form records
 
     less : (g k id : ℕ) → Names (schema t) g id → Names (schema t) k id → g < k → ⊥
     less g k id x y l = let a = known_in (schema t) g k id l x in let b = new k id y in let z : ◌≡◌ {A = ℕ} 0 1 = cc in omega arith

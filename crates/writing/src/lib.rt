@@ -164,7 +164,7 @@ fn open_group(
 // A group. A dynamic one is written whole, at the start of `out`, with so many levels left for it and
 // its fields from 16 on. One function writes both kinds, so that a level is one call: each call passes
 // its slices through memory.
-#[cycle(close_group_write_extending_write_extension_write_field_write_fields_write_group_write_groups_write_item_write_items_write_nested_write_value)]
+#[cycle(write)]
 fn write_group(
     table: &[u8],
     index: &[u16],
@@ -206,7 +206,7 @@ fn write_group(
 }
 
 // A dynamic group ends with its extension, and then its size is known.
-#[cycle(close_group_write_extending_write_extension_write_field_write_fields_write_group_write_groups_write_item_write_items_write_nested_write_value)]
+#[cycle(write)]
 fn close_group(
     table: &[u8],
     index: &[u16],
@@ -235,7 +235,7 @@ fn close_group(
 
 // The fields of a group whose static depth is below `depth`. Required plain values are written here,
 // without a call.
-#[cycle(close_group_write_extending_write_extension_write_field_write_fields_write_group_write_groups_write_item_write_items_write_nested_write_value)]
+#[cycle(write)]
 fn write_fields(
     table: &[u8],
     index: &[u16],
@@ -285,7 +285,7 @@ fn write_fields(
 }
 
 // The field whose record stands at `field` of the table.
-#[cycle(close_group_write_extending_write_extension_write_field_write_fields_write_group_write_groups_write_item_write_items_write_nested_write_value)]
+#[cycle(write)]
 fn write_field(
     table: &[u8],
     index: &[u16],
@@ -317,7 +317,7 @@ fn write_field(
 }
 
 // Its value, with the mark: the items of a sequence, or one.
-#[cycle(close_group_write_extending_write_extension_write_field_write_fields_write_group_write_groups_write_item_write_items_write_nested_write_value)]
+#[cycle(write)]
 fn write_value(
     table: &[u8],
     index: &[u16],
@@ -352,7 +352,7 @@ fn write_value(
 }
 
 // So many items, each of `width` bytes and behind its mark. What hangs on them follows in item order.
-#[cycle(close_group_write_extending_write_extension_write_field_write_fields_write_group_write_groups_write_item_write_items_write_nested_write_value)]
+#[cycle(write)]
 fn write_items(
     table: &[u8],
     index: &[u16],
@@ -398,7 +398,7 @@ fn write_items(
 }
 
 // A value of this kind, behind its mark.
-#[cycle(close_group_write_extending_write_extension_write_field_write_fields_write_group_write_groups_write_item_write_items_write_nested_write_value)]
+#[cycle(write)]
 fn write_item(
     table: &[u8],
     index: &[u16],
@@ -448,7 +448,7 @@ fn write_item(
 }
 
 // A dynamic group behind its offset.
-#[cycle(close_group_write_extending_write_extension_write_field_write_fields_write_group_write_groups_write_item_write_items_write_nested_write_value)]
+#[cycle(write)]
 fn write_nested(
     table: &[u8],
     index: &[u16],
@@ -484,7 +484,7 @@ fn write_nested(
 }
 
 // "the extension is last": its offset stands at 12, and is 0 where there is none.
-#[cycle(close_group_write_extending_write_extension_write_field_write_fields_write_group_write_groups_write_item_write_items_write_nested_write_value)]
+#[cycle(write)]
 fn write_extension(
     table: &[u8],
     index: &[u16],
@@ -509,7 +509,7 @@ fn write_extension(
     Ends { pos, free }
 }
 
-#[cycle(close_group_write_extending_write_extension_write_field_write_fields_write_group_write_groups_write_item_write_items_write_nested_write_value)]
+#[cycle(write)]
 fn write_groups(
     table: &[u8],
     index: &[u16],
@@ -542,7 +542,7 @@ fn write_groups(
 }
 
 // A group of the extension; one of unknown type was kept as bytes.
-#[cycle(close_group_write_extending_write_extension_write_field_write_fields_write_group_write_groups_write_item_write_items_write_nested_write_value)]
+#[cycle(write)]
 fn write_extending(
     table: &[u8],
     index: &[u16],

@@ -14,7 +14,7 @@ pub returns-then-not-all_ascii : goal.returns-then-not-all_ascii
 returns-then-not-all_ascii c = c.loop-i.invariant
 
 pub loop-i-preserved : goal.loop-i-preserved
-loop-i-preserved c = (search rules, c.loop-i.invariant.1 ∙ ascii-part 128 c.loop-i.i c.args.text.now (search rules) (sym c.all_IsAscii.ensures ∙ not-false _ c.if-not-all_ascii.false))
+loop-i-preserved c = (search rules, c.loop-i.invariant.1 ∙ ascii-part 128 c.loop-i.i c.args.text.now (search rules) (sym c.all_ascii.ensures ∙ c.if-not-all_ascii.false))
 
 pub returns : goal.returns
 returns c = c.loop-i.invariant

@@ -4,12 +4,12 @@ use Rattle.wire.proofs.lowest.Goals as goal
 
 pub returns-in-224 : goal.returns-in-224
 unfolding lowest
-returns-in-224 c = rw c.in-224.keys1
+returns-in-224 c = rw c.in-224.is
 
 pub returns-in-240 : goal.returns-in-240
 unfolding lowest
-returns-in-240 c = rw c.in-240.keys2
+returns-in-240 c = rw c.in-240.is
 
 pub returns-in_default : goal.returns-in_default
 unfolding lowest
-returns-in_default c = simp (ne_eqb _ _ c.in_default.rest.0.1, ne_eqb _ _ c.in_default.rest.1, lowest)
+returns-in_default c = simp (ne_eqb _ _ c.in_default.in_default-own.rest.0.1, ne_eqb _ _ c.in_default.in_default-own.rest.1, lowest)

@@ -7,4 +7,4 @@ pub bounds-out-at-2 : goal.bounds-out-at-2
 bounds-out-at-2 c = simp length-set (omega arith)
 
 pub returns : goal.returns
-returns c = rw (two-of c.args.t3 (omega arith)) (store_two c.args.at _ _ c.args.out.now c.requires)
+returns c = rw (two-of c.args.mark (omega arith)) (store_two c.args.at _ _ c.args.out.now c.requires)

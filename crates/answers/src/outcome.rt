@@ -3,7 +3,7 @@ ghost use Rattle.std.specs.Prelude.{◌≡◌};
 ghost use Rattle.answers.specs.declared.outcome.Outcome.TheVariants.{Refused};
 ghost use Rattle.answers.specs.Outcomes.{status_of, worse_of};
 
-#[derive(Drop)]
+#[derive(Clone, Copy)]
 pub enum Outcome {
     // Accepted, written or answered.
     Answered,

@@ -13,7 +13,7 @@ ghost use Rattle.blink_native.specs.Boundary.{exported, exported_written, export
 
 // number 0: accepted.
 #[repr(C)]
-#[derive(Drop)]
+#[derive(Clone, Copy)]
 pub struct BlinkVerdict {
     pub number: u32,
     pub place: u64,
@@ -21,7 +21,7 @@ pub struct BlinkVerdict {
 
 // number 0: so many bytes were written.
 #[repr(C)]
-#[derive(Drop)]
+#[derive(Clone, Copy)]
 pub struct BlinkWritten {
     pub number: u32,
     pub place: u64,
@@ -31,7 +31,7 @@ pub struct BlinkWritten {
 // kind 0: refused; 1 signed, 2 unsigned, 3 bool, 4 decimal, 5 float, 6 NaN.
 // bits: two's complement, a decimal's mantissa, or a float's pattern.
 #[repr(C)]
-#[derive(Drop)]
+#[derive(Clone, Copy)]
 pub struct BlinkNumber {
     pub number: u32,
     pub place: u64,
@@ -42,7 +42,7 @@ pub struct BlinkNumber {
 
 // number 0: the bytes lie there in the message.
 #[repr(C)]
-#[derive(Drop)]
+#[derive(Clone, Copy)]
 pub struct BlinkPart {
     pub number: u32,
     pub place: u64,
@@ -52,7 +52,7 @@ pub struct BlinkPart {
 
 // number 0: absent, pads and unused are 1 where 4, 6 and 8 are ignored, else 0.
 #[repr(C)]
-#[derive(Drop)]
+#[derive(Clone, Copy)]
 pub struct BlinkSettings {
     pub number: u32,
     pub place: u64,
@@ -63,7 +63,7 @@ pub struct BlinkSettings {
 
 // ended 1: no bytes are left. Else number 0: the message lies there on the tape. next: where the next one starts.
 #[repr(C)]
-#[derive(Drop)]
+#[derive(Clone, Copy)]
 pub struct BlinkStep {
     pub number: u32,
     pub place: u64,
@@ -75,7 +75,7 @@ pub struct BlinkStep {
 
 // number 0: a field's type, its flags as 1 or 0, and its size byte.
 #[repr(C)]
-#[derive(Drop)]
+#[derive(Clone, Copy)]
 pub struct BlinkShape {
     pub number: u32,
     pub place: u64,

@@ -195,7 +195,7 @@ fn answer_with(
 }
 
 // How long the files of a question are, which stand at the start of their rooms.
-#[derive(Drop)]
+#[derive(Clone, Copy)]
 struct Lengths {
     are_read: bool,
     table: usize,

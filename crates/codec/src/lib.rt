@@ -19,21 +19,21 @@ pub use schema::Verdict;
 pub use settings::{Ignored, Setting};
 
 // How many bytes were written, or why none.
-#[derive(Drop)]
+#[derive(Clone, Copy)]
 pub enum Written {
     Bytes(usize),
     Refused { number: u8, place: usize },
 }
 
 // Where bytes lie in the message, or why there are none.
-#[derive(Drop)]
+#[derive(Clone, Copy)]
 pub enum Span {
     Bytes { start: usize, length: usize },
     Refused { number: u8, place: usize },
 }
 
 // The type id of an accepted message, or why there is none.
-#[derive(Drop)]
+#[derive(Clone, Copy)]
 pub enum TypeAnswer {
     Id(u64),
     Refused { number: u8, place: usize },
@@ -41,7 +41,7 @@ pub enum TypeAnswer {
 
 // A message's first field as bytes and the next three as numbers; that its type or its fields are not those that the
 // caller named; or why there are none.
-#[derive(Drop)]
+#[derive(Clone, Copy)]
 pub enum Front {
     Read {
         first: Part,

@@ -26,7 +26,7 @@ const SHEET: usize = 786432;
 const OUTPUT: usize = 65600;
 
 // What is in force: the lengths of the table and of the settings store, and whose messages are asked about.
-#[derive(Drop)]
+#[derive(Clone, Copy)]
 struct Held {
     table: usize,
     store: usize,
@@ -34,7 +34,7 @@ struct Held {
 }
 
 // Whether the file goes on, and what is in force then.
-#[derive(Drop)]
+#[derive(Clone, Copy)]
 struct Step {
     more: bool,
     held: Held,

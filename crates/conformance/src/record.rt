@@ -2,7 +2,7 @@
 ghost use Rattle.std.specs.Prelude.{◌≡◌, drop};
 ghost use Rattle.conformance.specs.Vectors.{record_of, behind};
 
-#[derive(Drop)]
+#[derive(Clone, Copy)]
 pub struct Record {
     pub last: bool,
     pub kind: usize,

@@ -9,7 +9,7 @@ use schema::Verdict;
 
 // A field: the number of its type, whether it is optional, whether it is a sequence, and its record's size; or why
 // there is none.
-#[derive(Drop)]
+#[derive(Clone, Copy)]
 pub enum FieldShape {
     Field {
         number: u8,

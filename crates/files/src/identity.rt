@@ -7,7 +7,7 @@ use crate::paths;
 use libc::PATH_MAX;
 use libc::types::{stat, timespec};
 
-#[derive(Drop)]
+#[derive(Clone, Copy)]
 pub struct Identity {
     pub is_known: bool,
     pub device: u64,

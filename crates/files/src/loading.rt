@@ -48,7 +48,7 @@ pub fn close_input(fd: i32) {
     }
 }
 
-#[derive(Drop)]
+#[derive(Clone, Copy)]
 pub enum Loaded {
     // So many bytes stand at the start of the room: all of the input, or as many as the room takes.
     Bytes(usize),

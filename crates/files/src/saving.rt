@@ -71,7 +71,7 @@ fn name_beside(name: &[u8], letter: u8, room: &mut [u8]) -> usize
     paths::join(room, n, &short[..m])
 }
 
-#[derive(Drop)]
+#[derive(Clone, Copy)]
 struct New {
     fd: i32,
     // of its name

@@ -8,21 +8,21 @@ ghost use Rattle.floats.specs.Shortest.{NextDigit, Settled};
 use crate::limbs::{below, mix, subtract, times};
 
 // A decimal: digits * 10 ^ (scale - 400).
-#[derive(Drop)]
+#[derive(Clone, Copy)]
 pub struct Decimal {
     pub digits: u64,
     pub scale: usize,
 }
 
 // The digits after the point, and how many; none where the numbers outgrew their room.
-#[derive(Drop)]
+#[derive(Clone, Copy)]
 struct Found {
     digits: u64,
     places: usize,
 }
 
 // What rounds to a float: whether the ends do, and how much further up than down.
-#[derive(Drop)]
+#[derive(Clone, Copy)]
 struct Gap {
     closed: bool,
     plus: u32,

@@ -8,7 +8,7 @@ use crate::store_command::Ignored;
 use crate::words::Word;
 use crate::{arguments, complaints, numbers, options, store_command, words};
 
-#[derive(Drop)]
+#[derive(Clone, Copy)]
 pub enum Command {
     Help,
     Version,
@@ -31,7 +31,7 @@ pub enum Command {
 }
 
 // On a table, and a message or a sheet.
-#[derive(Drop)]
+#[derive(Clone, Copy)]
 pub enum Question {
     Read { field: usize, item: usize },
     Show,
@@ -42,7 +42,7 @@ pub enum Question {
 }
 
 // On a settings store.
-#[derive(Drop)]
+#[derive(Clone, Copy)]
 pub enum StoreQuestion {
     List,
     Get {

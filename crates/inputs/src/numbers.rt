@@ -4,14 +4,14 @@ ghost use Rattle.inputs.specs.Numbers.{decimal_of, short_of};
 
 use crate::{arguments, complaints};
 
-#[derive(Drop)]
+#[derive(Clone, Copy)]
 pub enum Count {
     Is(usize),
     Wrong,
 }
 
 // A number of at most 65535.
-#[derive(Drop)]
+#[derive(Clone, Copy)]
 pub enum Short {
     Is(u16),
     Wrong,

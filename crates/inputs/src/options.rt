@@ -6,7 +6,7 @@ ghost use Rattle.inputs.specs.Commands.{is_known, options_of};
 use crate::numbers::{Count, Short};
 use crate::{arguments, complaints, numbers, words};
 
-#[derive(Drop)]
+#[derive(Clone, Copy)]
 pub enum Options {
     Missing,
     Given { customer: u16 },

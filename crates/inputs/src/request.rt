@@ -8,7 +8,7 @@ use crate::words::Word;
 use crate::{command, complaints, input, options};
 
 // Where the command is wrong, standard error has said why.
-#[derive(Drop)]
+#[derive(Clone, Copy)]
 pub struct Request {
     pub command: Command,
     pub options: Options,

@@ -9,7 +9,7 @@ use crate::numbers::{Count, Short};
 use crate::{arguments, numbers};
 
 // The faults to ignore: 1 for each that is.
-#[derive(Drop)]
+#[derive(Clone, Copy)]
 pub enum Ignored {
     Are { absent: u8, pads: u8, unused: u8 },
     Wrong,

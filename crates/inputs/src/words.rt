@@ -6,7 +6,7 @@ ghost use Rattle.inputs.specs.Words.{is_option, is_help, is_version, word_of, fi
 const HYPHENS: [u8; 2] = *b"--";
 
 // What a command is called. `settings` with a word behind it is Get, Add or New.
-#[derive(Drop)]
+#[derive(Clone, Copy)]
 pub enum Word {
     Help,
     Version,

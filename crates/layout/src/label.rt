@@ -121,7 +121,7 @@ pub fn field_of(label: u64, k: usize) -> usize
 // LABELS MADE
 
 // Where a walk is: where the group's data area starts, how many levels are left below the group, and what a label says besides its kind.
-#[derive(Drop)]
+#[derive(Clone, Copy)]
 pub struct Spot {
     pub area: usize,
     pub levels: usize,

@@ -54,7 +54,7 @@ fn lay_absent(bytes: &[u8], labels: &mut [u64], spot: Spot, at: usize, width: us
 }
 
 // Where an offset leads: a value's place, and its count or size word. Where it leads nowhere, `stop` is not 0.
-#[derive(Drop)]
+#[derive(Clone, Copy)]
 struct Found {
     place: usize,
     count: usize,
@@ -121,7 +121,7 @@ fn lay_text(bytes: &[u8], labels: &mut [u64], spot: Spot, at: usize) -> u64
 // GROUPS, FIELDS AND ITEMS
 
 // A group's head: its number and where its data area starts. Where it may not be opened, `stop` is not 0.
-#[derive(Drop)]
+#[derive(Clone, Copy)]
 struct Head {
     group: usize,
     area: usize,
@@ -218,7 +218,7 @@ fn is_kept(table: &[u8], index: &[u16], bytes: &[u8], spot: Spot) -> bool
 }
 
 // Where a group's fields have their records, and how many they are.
-#[derive(Drop)]
+#[derive(Clone, Copy)]
 struct Fields {
     start: usize,
     total: usize,

@@ -10,7 +10,7 @@ ghost use Rattle.ledger.specs.Ledger.{word_of, barcode_with, line_with, line_fro
 use codec::{Front, Number, Part};
 
 // How far the ledger is filled, with one line more; or why there is none.
-#[derive(Drop)]
+#[derive(Clone, Copy)]
 pub enum Entered {
     Fill(usize),
     Refused { number: u8, place: usize },

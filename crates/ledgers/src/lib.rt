@@ -16,7 +16,7 @@ use schema::Verdict;
 use tape::Answer;
 
 // How far a tape has filled the ledger, and what came of its messages: Failed where a line found no room.
-#[derive(Drop)]
+#[derive(Clone, Copy)]
 pub struct Filled {
     pub fill: usize,
     pub outcome: Outcome,

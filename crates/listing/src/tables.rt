@@ -14,7 +14,7 @@ const SY: [u8; 2] = *b"SY";
 const FD: [u8; 2] = *b"FD";
 
 // How many enumerations and groups there were, and how many fields of the last group.
-#[derive(Drop)]
+#[derive(Clone, Copy)]
 struct Seen {
     enumerations: usize,
     groups: usize,

@@ -28,21 +28,21 @@ use settings::Ignored;
 const SCATTERED: usize = 131072;
 
 // What a walk finds: the sheet's length so far and what is taken, or the first fault.
-#[derive(Drop)]
+#[derive(Clone, Copy)]
 enum Step {
     Counted { length: usize, taken: usize },
     Refused { number: u8, place: usize },
 }
 
 // The check's answer: the sheet's length, or the first fault.
-#[derive(Drop)]
+#[derive(Clone, Copy)]
 pub enum Walked {
     Counted { length: usize },
     Refused { number: u8, place: usize },
 }
 
 // Where an offset leads: a value's place and its count or size word, or a fault.
-#[derive(Drop)]
+#[derive(Clone, Copy)]
 enum Located {
     At {
         place: usize,
@@ -58,7 +58,7 @@ enum Located {
 // What holds in the whole of a dynamic group: where it starts in the message, where its data area
 // starts in its own bytes, and in one number how many levels are left below it and which faults are
 // ignored. A frame goes through every call of the walk, so it is kept small.
-#[derive(Drop)]
+#[derive(Clone, Copy)]
 struct Frame {
     base: usize,
     area: usize,
@@ -631,7 +631,7 @@ fn extension_inside(bytes: &[u8], area: usize) -> bool
 // GROUPS, FIELDS AND ITEMS
 
 // A group that is begun: its number, its frame, what is taken and counted so far; or the first fault.
-#[derive(Drop)]
+#[derive(Clone, Copy)]
 enum Opened {
     Begun {
         group: usize,

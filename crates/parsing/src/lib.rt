@@ -10,7 +10,7 @@ ghost use Rattle.schema.specs.Table.{field_at, enums, schema};
 ghost use Rattle.schema.specs.Layout.{Layout};
 ghost use Rattle.schema.specs.FieldKinds.{kind_from, tested_kind};
 ghost use Rattle.schema.specs.declared.Scope.TheVariants.{Whole};
-ghost use Rattle.message.specs.Sheet.{ST, XU, NO, mark_bytes};
+ghost use Rattle.message.specs.Sheet.{ST as StringMark, XU as UnknownMark, NO as AbsentMark, mark_bytes};
 ghost use Rattle.message.specs.Check.{width_of};
 ghost use Rattle.sheet.specs.Written.{InnerW, Writer, indirect_w, items_w, extending_b, sheet_w};
 ghost use Rattle.sheet.specs.Writers.{item_w, static_of, plain_of, item_of, field_of, extending_of, text_of, extension_of};
@@ -22,7 +22,7 @@ use sheet::{GB, GE, NO, SG, SQ, ST, VA, XT, XU};
 // What a step finds: where the next record begins, and how many bytes there are so far. Where `number`
 // is not 0 it is the first fault's, and `place` is where that stands. The number has a whole word, so
 // that a step is copied in words.
-#[derive(Drop)]
+#[derive(Clone, Copy)]
 struct Step {
     number: usize,
     place: usize,
@@ -30,7 +30,7 @@ struct Step {
 }
 
 // The answer for a whole sheet: the length of its message, or the first fault.
-#[derive(Drop)]
+#[derive(Clone, Copy)]
 pub enum Parsed {
     Counted { length: usize },
     Refused { number: u8, place: usize },
@@ -190,7 +190,7 @@ fn check_text(sheet: &[u8], utf8: bool, pos: usize, before: usize) -> Step
 
 // "`XU` size u32 and that many bytes is a group of unknown type": "1, 45".
 fn check_kept(table: &[u8], index: &[u16], sheet: &[u8], pos: usize, before: usize) -> Step
-    requires { (Layout table.now index.now) × (Ready sheet.now pos before) × (same (part 2 pos sheet.now) (mark_bytes XU) ≡ true) }
+    requires { (Layout table.now index.now) × (Ready sheet.now pos before) × (same (part 2 pos sheet.now) (mark_bytes UnknownMark) ≡ true) }
     ensures { (I : InnerW) → Finds sheet.now before (indirect_w (extending_b (schema table.now) I)) pos result }
 {
     let fault = counted_fault(sheet, pos, XU);
@@ -248,7 +248,7 @@ fn check_texts(sheet: &[u8], utf8: bool, total: usize, pos: usize, before: usize
 // "`NO` is an absent field": whether it stands for the field whose record is at `field`.
 fn is_absent(table: &[u8], sheet: &[u8], field: usize, pos: usize) -> bool
     requires { (field + 16 ≤ length table.now) × (pos ≤ length sheet.now) × (length sheet.now ≤ 1048576) }
-    ensures { (es : List (List ℕ)) → result ≡ (field_at es (drop field table.now)).optional && same (part 2 pos sheet.now) NO }
+    ensures { (es : List (List ℕ)) → result ≡ (field_at es (drop field table.now)).optional && same (part 2 pos sheet.now) AbsentMark }
 {
     if schema::is_optional(table, field) {
         return stands(sheet, pos, NO);
@@ -272,7 +272,7 @@ fn check_end(sheet: &[u8], pos: usize, before: usize) -> Step
 
 // A group that is opened: its number, the levels left below it, where its fields begin in the sheet,
 // and the count before them. Where `fault` is not 0, none is.
-#[derive(Drop)]
+#[derive(Clone, Copy)]
 struct Opened {
     fault: usize,
     group: usize,

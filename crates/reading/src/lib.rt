@@ -18,21 +18,21 @@ use schema::{FieldKind, Verdict};
 
 // Where an item lies, and the row of its field, which is the place of the field's record in the table;
 // or why there is none.
-#[derive(Drop)]
+#[derive(Clone, Copy)]
 pub enum Located {
     Missing { number: u8 },
     At { row: usize, place: usize },
 }
 
 // An item's bytes: where they start in the message and how many they are; or why there are none.
-#[derive(Drop)]
+#[derive(Clone, Copy)]
 pub enum Part {
     Refusal { number: u8 },
     Lies { start: usize, length: usize },
 }
 
 // An item's number. A float's bits may be a NaN's, of which a float keeps no more than that it is one.
-#[derive(Drop)]
+#[derive(Clone, Copy)]
 pub enum Number {
     Signed(i64),
     Unsigned(u64),

@@ -11,7 +11,7 @@ ghost use Rattle.schema.specs.Layout.{group_place, group_total, enum_total, symb
 ghost use Rattle.schema.specs.FieldKinds.{kind_from, text_kind, tested_kind, kind_fault, plain_width, Widths};
 
 // A check's answer: this number of document 01's, at this place.
-#[derive(Drop)]
+#[derive(Clone, Copy)]
 pub enum Verdict {
     Accepted,
     Refused { number: u8, place: usize },
@@ -19,7 +19,7 @@ pub enum Verdict {
 
 // The numbers whose bytes are tested: a bool, a time of day in milliseconds or nanoseconds, and a
 // symbol of enumeration number `list`.
-#[derive(Drop)]
+#[derive(Clone, Copy)]
 pub enum Tested {
     Flag,
     Millis,
@@ -28,7 +28,7 @@ pub enum Tested {
 }
 
 // The kind of a field or an item, as its record in the table says.
-#[derive(Drop)]
+#[derive(Clone, Copy)]
 pub enum FieldKind {
     Plain { width: u8 },
     Number { tested: Tested },
@@ -40,7 +40,7 @@ pub enum FieldKind {
 
 // Where the search for a symbol stands: `count` symbols from number `first` on are in question. `at` is
 // the number of the one that equals the value, and as long as none was found, of no symbol.
-#[derive(Drop)]
+#[derive(Clone, Copy)]
 struct Search {
     at: usize,
     first: usize,
@@ -49,7 +49,7 @@ struct Search {
 
 // How much of a group is walked: a dynamic group whole, for the kind of number `allowed`; of a static
 // group its fields, since it is a part of the group that holds it.
-#[derive(Drop)]
+#[derive(Clone, Copy)]
 pub enum Scope {
     Whole { allowed: usize },
     Fields { group: usize },

@@ -2,7 +2,7 @@
 // crate `store` finds them.
 
 // Which faults are ignored: a byte that is not zero in an absent field (4), a pad (6), an unused inline byte (8).
-#[derive(Drop)]
+#[derive(Clone, Copy)]
 pub struct Ignored {
     pub absent: bool,
     pub pads: bool,
@@ -10,7 +10,7 @@ pub struct Ignored {
 }
 
 // What is ignored, or why that cannot be told.
-#[derive(Drop)]
+#[derive(Clone, Copy)]
 pub enum Setting {
     Ignores { ignored: Ignored },
     Refused { number: u8, place: usize },

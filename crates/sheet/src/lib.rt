@@ -95,7 +95,7 @@ fn show_plain(
 // GROUPS, FIELDS AND ITEMS
 
 // A group that is opened: its number, the levels left below it, and where the sheet goes on.
-#[derive(Drop)]
+#[derive(Clone, Copy)]
 struct Opened {
     group: usize,
     levels: usize,

@@ -18,7 +18,7 @@ const NUMBERS: usize = 252;
 
 // A group that is open: where its record stands in the table, how many fields it has and the next one's number; in a sequence, how many
 // items there are and the next one's number. A static group or an extension is embedded: it has no record that closes it.
-#[derive(Drop)]
+#[derive(Clone, Copy)]
 struct Frame {
     group: usize,
     fields: usize,
@@ -30,7 +30,7 @@ struct Frame {
 
 // RECORDS
 
-#[derive(Drop)]
+#[derive(Clone, Copy)]
 enum Record {
     Group,
     End,

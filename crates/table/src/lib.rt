@@ -25,7 +25,7 @@ const FD: [u8; 2] = *b"FD";
 
 // How many enumerations and groups there were, how many records the last of them still has to come,
 // and whether the groups store their widths.
-#[derive(Drop)]
+#[derive(Clone, Copy)]
 struct Shape {
     enumerations: usize,
     groups: usize,

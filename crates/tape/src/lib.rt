@@ -9,7 +9,7 @@ use message::Walked;
 use schema::Verdict;
 
 // What the reader says of the next message.
-#[derive(Drop)]
+#[derive(Clone, Copy)]
 pub enum Answer {
     Ended,
     Accepted,
@@ -17,7 +17,7 @@ pub enum Answer {
 }
 
 // An answer, and the place on the tape where the reader goes on.
-#[derive(Drop)]
+#[derive(Clone, Copy)]
 pub struct Step {
     pub answer: Answer,
     pub next: usize,

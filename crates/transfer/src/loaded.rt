@@ -4,7 +4,7 @@ use files::loading::Loaded;
 use files::{identity, loading, report};
 
 // A file at the start of its room. Where it could not be read, standard error has said why.
-#[derive(Drop)]
+#[derive(Clone, Copy)]
 pub struct Input {
     pub is_read: bool,
     pub length: usize,

@@ -6,7 +6,7 @@ ghost use Rattle.std.specs.Prelude.{◌≡◌, ◌+◌, ◌<◌, ◌≤◌, ◌^
 ghost use Rattle.std.proofs.Math.IntN.{sub_ℕ};
 ghost use Rattle.values.specs.Calendar.{year_start, year_in, day_in, day_of};
 
-#[derive(Drop)]
+#[derive(Clone, Copy)]
 pub struct Day {
     pub year: i64,
     pub month: u8,

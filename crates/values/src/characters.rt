@@ -3,7 +3,7 @@ ghost use Rattle.std.specs.Prelude.{◌≡◌, ◌+◌, ◌<◌, ◌≤◌, max,
 ghost use Rattle.values.specs.Characters.{is_shown, kind_of, follows, two, three, four, is_two, is_three, is_four, whole, piece_of, piece_at, Stays, is_plain, plain_run};
 
 // How a character is printed.
-#[derive(Drop)]
+#[derive(Clone, Copy)]
 pub enum Kind {
     // As it is.
     Plain,
@@ -17,7 +17,7 @@ pub enum Kind {
 
 // The `length` bytes of a text that are a character, with its code point, or one broken byte. Behind the text's end the
 // length is 0.
-#[derive(Drop)]
+#[derive(Clone, Copy)]
 pub struct Piece {
     pub length: usize,
     pub code: u32,

@@ -18,7 +18,7 @@ ghost use Rattle.writing.specs.Write.{Fits, Stands, group_of, place_of, Scoped, 
 use sheet::{NO, XT, XU};
 
 // Where the sheet goes on, and where the data area does.
-#[derive(Drop)]
+#[derive(Clone, Copy)]
 struct Ends {
     pos: usize,
     free: usize,
@@ -118,7 +118,7 @@ fn write_plain(
 
 // A group that is opened: its number, the levels left below it, where the sheet goes on, and where the
 // data area does.
-#[derive(Drop)]
+#[derive(Clone, Copy)]
 struct Opened {
     group: usize,
     levels: usize,

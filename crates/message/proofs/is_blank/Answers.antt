@@ -1,0 +1,5 @@
+use Rattle.std.proofs.Common.{rules}
+use Rattle.message.proofs.is_blank.Goals as goal
+
+pub returns : goal.returns
+returns c = rw c.if-ignored.false c.all_zero.ensures

@@ -1,0 +1,11 @@
+use Rattle.std.proofs.Common.{◌≡◌, ℕ, ◌-◌, ◌<◌, ◌≤◌, length, sym, refl, ◌∙◌, arith, rules}
+use Rattle.schema.specs.Schema.{under}
+use Rattle.schema.specs.Table.{schema}
+use Rattle.schema.proofs.Groups.{allows-any, allows-under, under_same, under_top, under_next, placed-inside, placed-super}
+use Rattle.schema.proofs.allows.Given as goal
+
+abbrev pub invariant-loop-above : goal.invariant-loop-above
+invariant-loop-above l = (l.above < length (schema l.table)) × ((n : ℕ) × (l.above ≤ n) × (under (schema l.table) l.group (l.allowed - 1) l.group ≡ under (schema l.table) n (l.allowed - 1) l.above))
+
+abbrev pub decreases-loop-above : goal.decreases-loop-above
+decreases-loop-above l = l.above

@@ -1,0 +1,21 @@
+use Prim.Native.Nat.{◌+◌, ◌-◌, ◌*◌, ◌≤◌}
+use mathlib.Core.Path.{◌≡◌}
+use native.Mathlib.Omega.{arith}
+use native.Mathlib.Nat.{sub-zero}
+use lib.ListN.{length}
+use Rattle.schema.specs.Schema.{any}
+use Rattle.message.specs.Sheet.{VA}
+use Rattle.message.specs.Walk.{items_r}
+use Rattle.message.proofs.CheckFields.{items_left}
+use Rattle.sheet.specs.Show.{passage, plain_of}
+use Rattle.sheet.proofs.ShowLaws.{Left, begun, fits-opens, shown-opens, shown-bytes, bytes-room}
+use Rattle.sheet.proofs.ShowReaders.{is-VA, marked-plain, item-fits, items-next, items-done}
+use Rattle.sheet.proofs.show_plain.Given as goal
+
+abbrev pub invariant-loop-i : goal.invariant-loop-i
+invariant-loop-i l =
+    (l.i ≤ l.total) × (length l.out ≡ length l.initial.out) × (l.place + (l.total - l.i) * l.width ≤ length l.bytes)
+    × Left (passage (items_r l.width (plain_of l.width) l.total) l.bytes l.at) l.pos l.initial.out (passage (items_r l.width (plain_of l.width) (l.total - l.i)) l.bytes l.place) l.next l.out
+
+abbrev pub decreases-loop-i : goal.decreases-loop-i
+decreases-loop-i l = l.total - l.i

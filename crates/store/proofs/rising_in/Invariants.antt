@@ -1,0 +1,15 @@
+use Prim.Native.Nat.{◌-◌, ◌≤◌}
+use mathlib.Core.Path.{◌≡◌, refl, sym, ◌∙◌}
+use native.Mathlib.Omega.{arith}
+use lib.ListN.{length, length-set}
+use borrow.Author.Tests.{not-true, not-false}
+use Rattle.settings.specs.Store.{run}
+use Rattle.store.specs.Check.{rising}
+use Rattle.store.proofs.Laws.{run-first, run-stop, run_end, run-turn, Seen, seen_none, seen_next, rises, slot-in}
+use Rattle.store.proofs.rising_in.Given as goal
+
+abbrev pub invariant-loop-k : goal.invariant-loop-k
+invariant-loop-k l = (l.k ≤ l.n) × (length l.slots ≡ length l.initial.slots) × (run (rising l.store) l.n 0 ≡ run (rising l.store) (l.n - l.k) l.k) × Seen l.store l.slots l.k
+
+abbrev pub decreases-loop-k : goal.decreases-loop-k
+decreases-loop-k l = l.n - l.k

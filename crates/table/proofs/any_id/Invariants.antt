@@ -1,0 +1,13 @@
+use mathlib.Core.Path.{◌≡◌, refl, sym, ◌∙◌}
+use Prim.Native.Nat.{◌-◌, ◌≤◌}
+use native.Mathlib.Omega.{arith}
+use lib.ListN.{drop}
+use Rattle.schema.specs.Table.{schema, group_at, any_id}
+use Rattle.table.proofs.Laws.{any-yes, any-skip, any-end}
+use Rattle.table.proofs.any_id.Given as goal
+
+abbrev pub invariant-loop-g : goal.invariant-loop-g
+invariant-loop-g l = (l.g ≤ l.groups) × (any_id (schema l.table) ≡ any_id (drop l.g (schema l.table)))
+
+abbrev pub decreases-loop-g : goal.decreases-loop-g
+decreases-loop-g l = l.groups - l.g

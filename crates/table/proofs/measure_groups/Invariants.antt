@@ -1,0 +1,14 @@
+use mathlib.Core.Path.{◌∙◌}
+use Prim.Native.Nat.{ℕ, ◌-◌, ◌<◌, ◌≤◌}
+use native.Mathlib.Omega.{arith}
+use lib.ListN.{length}
+use Rattle.schema.specs.Table.{schema}
+use Rattle.table.specs.Measure.{levels, Grown}
+use Rattle.table.proofs.Widths.{grown-none, grown-more, down}
+use Rattle.table.proofs.measure_groups.Given as goal
+
+abbrev pub invariant-loop-g : goal.invariant-loop-g
+invariant-loop-g l = (l.g ≤ length (schema l.table)) × (Grown l.table l.initial.index l.index) × ((h : ℕ) → l.g ≤ h → h < length (schema l.table) → 0 < levels l.index h)
+
+abbrev pub decreases-loop-g : goal.decreases-loop-g
+decreases-loop-g l = l.g

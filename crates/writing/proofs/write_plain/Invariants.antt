@@ -1,0 +1,23 @@
+use Prim.Native.Nat.{ℕ, ◌+◌, ◌-◌, ◌≤◌}
+use mathlib.Core.Path.{◌≡◌, refl}
+use native.Mathlib.Omega.{arith}
+use native.Mathlib.Nat.{sub-zero}
+use lib.ListN.{length, drop}
+use Rattle.schema.specs.Schema.{any}
+use Rattle.message.specs.Sheet.{VA}
+use Rattle.sheet.specs.Written.{items_w}
+use Rattle.sheet.specs.Writers.{plain_of}
+use Rattle.sheet.proofs.Widths.{wides-plain, wides-marked}
+use Rattle.writing.specs.Write.{Fits}
+use Rattle.writing.proofs.Left.{Left, begun}
+use Rattle.writing.proofs.Writers.{record-room, record-stands, item-fits, items-next, items-done}
+use Rattle.writing.proofs.write_plain.Given as goal
+
+abbrev pub invariant-loop-i : goal.invariant-loop-i
+invariant-loop-i l =
+    (l.i ≤ l.total) × (length l.out ≡ length l.initial.out)
+    × ((free : ℕ) → Fits (items_w l.width (plain_of l.width) l.total l.at free (drop l.pos l.sheet)) l.at free l.initial.out
+    → Left (items_w l.width (plain_of l.width) l.total l.at free (drop l.pos l.sheet)) l.at free l.initial.out (items_w l.width (plain_of l.width) (l.total - l.i) l.place free (drop l.next l.sheet)) l.place free l.out)
+
+abbrev pub decreases-loop-i : goal.decreases-loop-i
+decreases-loop-i l = l.total - l.i

@@ -1,0 +1,90 @@
+use Rattle.std.proofs.Common.{◌≡◌, ℕ, ◌+◌, ◌-◌, ◌*◌, ◌^◌, ◌<◌, ◌≤◌, true, leb, [], length, drop, sym, refl, ap, ◌∙◌, ⊎_elim, mul-le-mul_right, mul-one, arith, rules}
+use Rattle.message.specs.Sheet.{field_mark}
+use native.Mathlib.Nat.{add-sub_cancel_left, sub-zero}
+use Rattle.schema.specs.Schema.{fields_width, shallow_fields, shallow}
+use Rattle.schema.specs.Table.{field_at, fields_at, enums, schema}
+use Rattle.schema.specs.Layout.{width_in}
+use Rattle.schema.specs.FieldKinds.{kind_from}
+use Rattle.schema.proofs.Records.{fields-more}
+use Rattle.schema.proofs.Types.{plain-is, width-sequence, width-optional}
+use Rattle.schema.proofs.Groups.{static-inside, placed-inside}
+use Rattle.schema.proofs.Depth.{and_both, shallow-some, width-cons, shallow-cons, wide-kind, wide_value, wide-field}
+use Rattle.message.specs.Walk.{byte, indirect_r, inner_r, items_r, fields_r, extending_r, value_r}
+use Rattle.message.specs.Count.{count, counted}
+use Rattle.message.specs.Check.{levels_in, ignored_in, occupancy_of, closing, after, within, item_r, marked_value_r, inner_of, width_of, static_of}
+use Rattle.message.proofs.Count.{count-inner}
+use Rattle.message.proofs.CheckAnswers.{refuses, counts, stays, goes_on, passed, stopped, bounded}
+use Rattle.message.proofs.CheckOccupancy.{retaken, pads-none}
+use Rattle.message.proofs.CheckFields.{leads-nowhere, leads-to, fields-passed, fields-stopped, fields-end, plain-wide, fields-plain, flag-wide, flag-unset, field-optional, field-set, ItemsAt, one-item, sequence-nowhere, sequence-items, items-passed, items-stopped, items-end, items_left, items-plain, items-indirect, items-number, item-plain, item-number, item-inline, item-indirect, item-static, item-dynamic, wide-number, wide-inline, wide-indirect, wide-static, wide-dynamic, kind-static, start-inside, start-static, start-width, start-shallow, ready}
+use Rattle.message.proofs.CheckGroups.{nested-passed, extension-zero, extension-nowhere, extension-empty, extension-some, extending-short, extending-known, extending-kept, rest_plain, closing-filled}
+use Rattle.message.proofs.CheckScopes.{weight, inside-falls, inside-long, inside-left, opens-begun, opens-refused, closes-dynamic, closes-static}
+use Rattle.message.proofs.+walk.Given as goal
+
+abbrev pub decreases-check_dynamic : goal.decreases-check_dynamic
+decreases-check_dynamic l = 64 * levels_in l.frame.rules + 4
+
+abbrev pub decreases-check_extending : goal.decreases-check_extending
+decreases-check_extending l = 64 * levels_in l.frame.rules + 6
+
+abbrev pub decreases-check_extension : goal.decreases-check_extension
+decreases-check_extension l = 64 * levels_in l.frame.rules + 8
+
+abbrev pub decreases-check_field : goal.decreases-check_field
+decreases-check_field l = 64 * levels_in l.frame.rules + 10 * l.depth + 20
+
+abbrev pub decreases-check_fields : goal.decreases-check_fields
+decreases-check_fields l = 64 * levels_in l.frame.rules + 10 * l.depth + 11
+
+abbrev pub decreases-check_group : goal.decreases-check_group
+decreases-check_group l = 64 * levels_in l.outer.rules + weight l.scope l.depth
+
+abbrev pub decreases-check_groups : goal.decreases-check_groups
+decreases-check_groups l = 64 * levels_in l.frame.rules + 7
+
+abbrev pub decreases-check_item : goal.decreases-check_item
+decreases-check_item l = 64 * levels_in l.frame.rules + 10 * l.depth + 17
+
+abbrev pub decreases-check_items : goal.decreases-check_items
+decreases-check_items l = 64 * levels_in l.frame.rules + 10 * l.depth + 18
+
+abbrev pub decreases-check_nested : goal.decreases-check_nested
+decreases-check_nested l = 64 * levels_in l.frame.rules + 3
+
+abbrev pub decreases-check_rest : goal.decreases-check_rest
+decreases-check_rest l = 64 * levels_in l.frame.rules + 9
+
+abbrev pub decreases-check_value : goal.decreases-check_value
+decreases-check_value l = 64 * levels_in l.frame.rules + 10 * l.depth + 19
+
+abbrev pub decreases-close_group : goal.decreases-close_group
+decreases-close_group l = 64 * levels_in l.frame.rules + 10
+
+abbrev pub invariant-check_fields-loop-i : goal.invariant-check_fields-loop-i
+invariant-check_fields-loop-i l =
+    (l.i ≤ l.total) × (length l.occupied ≡ length l.initial.occupied) × (l.field + 16 * (l.total - l.i) ≤ length l.table)
+    × (l.place + fields_width (width_of l.table l.deeper) (fields_at (enums l.table) (l.total - l.i) (drop l.field l.table)) ≤ length l.bytes)
+    × (shallow_fields (shallow (schema l.table) l.deeper) (width_of l.table l.deeper) (fields_at (enums l.table) (l.total - l.i) (drop l.field l.table)) ≡ true) × (l.length < 2 ^ 64)
+    × (after l.before (count (static_of (ignored_in l.frame.rules) l.table (levels_in l.frame.rules) l.depth l.group (within l.bytes l.frame) l.at (occupancy_of l.frame.area l.initial.holds l.initial.occupied)))
+    ≡ after l.length (count (fields_r (inner_of (ignored_in l.frame.rules) l.table (levels_in l.frame.rules)) (width_of l.table l.deeper) (static_of (ignored_in l.frame.rules) l.table (levels_in l.frame.rules) l.deeper) (fields_at (enums l.table) (l.total - l.i) (drop l.field l.table)) (within l.bytes l.frame) l.place (occupancy_of l.frame.area l.holds l.occupied))))
+
+abbrev pub decreases-check_fields-loop-i : goal.decreases-check_fields-loop-i
+decreases-check_fields-loop-i l =
+    l.total - l.i
+
+abbrev pub invariant-check_groups-loop-i : goal.invariant-check_groups-loop-i
+invariant-check_groups-loop-i l =
+    (l.i ≤ l.total) × (length l.occupied ≡ length l.initial.occupied) × (l.place + (l.total - l.i) * 4 ≤ length l.bytes) × (l.length < 2 ^ 64)
+    × (after l.before (count (items_r 4 (indirect_r 26 1 (extending_r (schema l.table) (inner_of (ignored_in l.frame.rules) l.table (levels_in l.frame.rules)))) l.total (within l.bytes l.frame) l.at (occupancy_of l.frame.area l.initial.holds l.initial.occupied))) ≡ after l.length (count (items_r 4 (indirect_r 26 1 (extending_r (schema l.table) (inner_of (ignored_in l.frame.rules) l.table (levels_in l.frame.rules)))) (l.total - l.i) (within l.bytes l.frame) l.place (occupancy_of l.frame.area l.holds l.occupied))))
+
+abbrev pub decreases-check_groups-loop-i : goal.decreases-check_groups-loop-i
+decreases-check_groups-loop-i l =
+    l.total - l.i
+
+abbrev pub invariant-check_items-loop-i : goal.invariant-check_items-loop-i
+invariant-check_items-loop-i l =
+    (l.i ≤ l.total) × (length l.occupied ≡ length l.initial.occupied) × (l.place + (l.total - l.i) * l.width ≤ length l.bytes) × (l.length < 2 ^ 64)
+    × (after l.before (count (items_r l.width (item_r (inner_of (ignored_in l.frame.rules) l.table (levels_in l.frame.rules)) (static_of (ignored_in l.frame.rules) l.table (levels_in l.frame.rules) l.depth) (kind_from (enums l.table) l.kind)) l.total (within l.bytes l.frame) l.at (occupancy_of l.frame.area l.initial.holds l.initial.occupied))) ≡ after l.length (count (items_r l.width (item_r (inner_of (ignored_in l.frame.rules) l.table (levels_in l.frame.rules)) (static_of (ignored_in l.frame.rules) l.table (levels_in l.frame.rules) l.depth) (kind_from (enums l.table) l.kind)) (l.total - l.i) (within l.bytes l.frame) l.place (occupancy_of l.frame.area l.holds l.occupied))))
+
+abbrev pub decreases-check_items-loop-i : goal.decreases-check_items-loop-i
+decreases-check_items-loop-i l =
+    l.total - l.i

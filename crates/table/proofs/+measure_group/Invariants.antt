@@ -1,0 +1,22 @@
+use mathlib.Core.Path.{◌≡◌, sym, ◌∙◌}
+use mathlib.Core.Bool.{true}
+use mathlib.Core.Logic.{⊎_elim}
+use Prim.Native.Nat.{ℕ, ◌+◌, ◌-◌, ◌*◌, ◌<◌, ◌≤◌}
+use native.Mathlib.Omega.{arith}
+use lib.ListN.{length, drop}
+use Rattle.schema.specs.Layout.{width_in}
+use Rattle.schema.specs.Table.{field_type, fields_at, enums, schema}
+use Rattle.table.specs.Measure.{sound_fields, levels, Grown}
+use Rattle.table.proofs.Widths.{Summed, summed-none, width-at, fields-inside, fields-start, fields-none, other-turn, static-beyond, static-turn, sound-turn, sound-here, kept-widths, grown-none, measured-beyond, measured, ready-now, ready-before}
+use Rattle.table.proofs.+measure_group.Given as goal
+
+abbrev pub decreases-measure_group : goal.decreases-measure_group
+decreases-measure_group l = l.g
+
+abbrev pub invariant-loop-i : goal.invariant-loop-i
+invariant-loop-i l = (l.i ≤ l.count) × (l.width ≤ 4097 * l.i) × (l.levels ≤ 5) × (Grown l.table l.initial.index l.index)
+    × (Summed (schema l.table) l.g (fields_at (enums l.table) (l.count - l.i) (drop (l.first + 16 * l.i) l.table)) l.width l.levels)
+    × (sound_fields (length (schema l.table)) l.g (fields_at (enums l.table) (l.count - l.i) (drop (l.first + 16 * l.i) l.table)) ≡ true)
+
+abbrev pub decreases-loop-i : goal.decreases-loop-i
+decreases-loop-i l = l.count - l.i

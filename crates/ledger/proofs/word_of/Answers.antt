@@ -1,0 +1,34 @@
+use mathlib.Core.Path.{sym, ap, ◌∙◌}
+use mir.Syntax.{w64}
+use mir.Facts.{to_z-of_z}
+use Rattle.wire.specs.Bytes.{pattern}
+use Rattle.ledger.specs.Ledger.{word_of}
+use Rattle.ledger.proofs.word_of.Goals as goal
+
+pub returns-in-Signed : goal.returns-in-Signed
+unfolding word_of
+returns-in-Signed c = let x = to_z-of_z {w = w64} {z = c.in-Signed.x} (record { sfits = c.in-Signed.known_told-1-own.given.0.1 }) in c.i64_to_bits.ensures ∙ ap (pattern 63) x ∙ sym (ap word_of c.in-Signed.is)
+
+pub returns-in-Unsigned : goal.returns-in-Unsigned
+unfolding word_of
+returns-in-Unsigned c = sym (ap word_of c.in-Unsigned.is)
+
+pub returns-in-Bool : goal.returns-in-Bool
+unfolding word_of
+returns-in-Bool c = sym (ap word_of c.in-Bool.is)
+
+pub returns-in-Decimal : goal.returns-in-Decimal
+unfolding word_of
+returns-in-Decimal c = sym (ap word_of c.in-Decimal.is)
+
+pub returns-in-Float : goal.returns-in-Float
+unfolding word_of
+returns-in-Float c = sym (ap word_of c.in-Float.is)
+
+pub returns-in-NanBits : goal.returns-in-NanBits
+unfolding word_of
+returns-in-NanBits c = sym (ap word_of c.in-NanBits.is)
+
+pub returns-in-Refused : goal.returns-in-Refused
+unfolding word_of
+returns-in-Refused c = sym (ap word_of c.in-Refused.is)

@@ -1,12 +1,19 @@
 // Text on its way to a descriptor. It is gathered in a page, and written where the page is full or the text is whole.
 //
-// A page is an array, so that one reference lends it whole: the text stands first, and the last four bytes say how long it is, where it
-// goes, and whether some of it was lost.
+// A page's text stands first in its bytes, and the last four say how long it is, where it goes, and whether some of it was lost. It has
+// the handles of what it is written to.
 ghost use Rattle.std.specs.Prelude.{◌≤◌};
 
-use libc::{STDERR_FILENO, STDOUT_FILENO};
+use crate::reason;
+use std::io::Write;
+use std::rt::{Stderr, Stdout};
 
-pub type Page = [u8; 16388];
+#[derive(Drop)]
+pub struct Page {
+    output: Stdout,
+    errors: Stderr,
+    bytes: [u8; 16388],
+}
 
 // The most text, and behind it its length.
 const ROOM: usize = 16384;
@@ -16,54 +23,60 @@ const TO_ERRORS: usize = 16386;
 const LOST: usize = 16387;
 
 // A page for standard output.
-pub fn page() -> Page {
-    [0u8; 16388]
+pub fn new_page(rt: &HostRuntime) -> Page {
+    Page {
+        output: rt.stdout(),
+        errors: rt.stderr(),
+        bytes: [0u8; 16388],
+    }
 }
 
 // What follows goes to standard error, and so does what the page holds.
 pub fn redirect(page: &mut Page) {
-    page[TO_ERRORS] = 1;
+    page.bytes[TO_ERRORS] = 1;
 }
 
-fn descriptor(page: &Page) -> i32 {
-    if page[TO_ERRORS] == 1 {
-        return STDERR_FILENO;
-    }
-    STDOUT_FILENO
+fn goes_to_errors(page: &Page) -> bool {
+    page.bytes[TO_ERRORS] == 1
 }
 
 // Whether some of the text could not be written.
 pub fn is_lost(page: &Page) -> bool {
-    page[LOST] == 1
+    page.bytes[LOST] == 1
+}
+
+fn send(to_errors: bool, mut output: Stdout, mut errors: Stderr, words: &[u8]) -> std::io::Result<()> {
+    if to_errors {
+        return errors.write_all(words);
+    }
+    output.write_all(words)
 }
 
 // Nothing is written after a loss: text with a hole in it looks whole.
-fn lose(page: &mut Page) {
-    page[LOST] = 1;
-    io::write_all(STDERR_FILENO, b"blink: ");
-    if descriptor(page) == STDOUT_FILENO {
-        os::fail(b"standard output");
+fn lose(page: &mut Page, why: std::io::Error) {
+    page.bytes[LOST] = 1;
+    if goes_to_errors(page) {
+        reason::report(page.errors, b"standard error", why);
     } else {
-        os::fail(b"standard error");
+        reason::report(page.errors, b"standard output", why);
+    }
+}
+
+fn note(page: &mut Page, sent: std::io::Result<()>) {
+    match sent {
+        Ok(()) => {}
+        Err(why) => lose(page, why),
     }
 }
 
 fn used(page: &Page) -> usize
     ensures { result ≤ 16384 }
 {
-    let n = wire::read_u16(page, ROOM);
+    let n = wire::read_u16(&page.bytes, ROOM);
     if ROOM < n {
         return ROOM;
     }
     n
-}
-
-// Whether the first n bytes were written.
-fn send(to: i32, words: &[u8], n: usize) -> bool {
-    if words.len() < n {
-        return false;
-    }
-    io::write_all(to, &words[0..n])
 }
 
 // Writes what the page holds.
@@ -71,13 +84,15 @@ pub fn flush(page: &mut Page) {
     if is_lost(page) {
         return;
     }
-    let to = descriptor(page);
     let n = used(page);
-    let is_sent = send(to, page, n);
-    wire::write_u16(page, ROOM, 0);
-    if !is_sent {
-        lose(page);
-    }
+    let sent = send(
+        goes_to_errors(page),
+        page.output,
+        page.errors,
+        &page.bytes[..n],
+    );
+    wire::write_u16(&mut page.bytes, ROOM, 0);
+    note(page, sent);
 }
 
 // Writes text that no page has room for.
@@ -85,9 +100,8 @@ fn pass(page: &mut Page, words: &[u8]) {
     if is_lost(page) {
         return;
     }
-    if !io::write_all(descriptor(page), words) {
-        lose(page);
-    }
+    let sent = send(goes_to_errors(page), page.output, page.errors, words);
+    note(page, sent);
 }
 
 // Puts the text behind what the page holds, where there is room.
@@ -96,8 +110,8 @@ fn add(page: &mut Page, words: &[u8]) {
     if ROOM - at < words.len() {
         return;
     }
-    wire::copy(page, at, words, 0, words.len());
-    wire::write_u16(page, ROOM, at + words.len());
+    wire::copy(&mut page.bytes, at, words, 0, words.len());
+    wire::write_u16(&mut page.bytes, ROOM, at + words.len());
 }
 
 pub fn text(page: &mut Page, words: &[u8]) {

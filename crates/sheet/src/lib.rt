@@ -4,6 +4,8 @@
 // comes from the reading that the caller has. No byte that may be ignored is looked at, so it is said
 // where all of them are (`lax`): what any setting accepts reads the same there. `pos` is where the next
 // record begins in `out`.
+#![tactic(auto)]
+
 ghost use Rattle.std.specs.Prelude.{◌≡◌, true, List, ◌++◌, ℕ, ◌+◌, ◌-◌, ◌*◌, ◌<◌, ◌≤◌, length, drop};
 ghost use Rattle.wire.specs.Bytes.{part, splice, bytes_of};
 ghost use Rattle.schema.specs.Schema.{kind_width, value_width, field_width, shallow_kind, shallow};

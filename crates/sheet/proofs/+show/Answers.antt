@@ -1,13 +1,20 @@
-use Prim.Native.Nat.{◌+◌, ◌-◌, ◌*◌, ◌<◌, ◌≤◌}
+use Prim.Native.Nat.{◌+◌, ◌-◌, ◌*◌, ◌≤◌}
 use native.Mathlib.Omega.{arith}
 use native.Mathlib.Nat.{add-sub_cancel_left, sub-zero}
 use mathlib.Core.Path.{◌≡◌, sym, ◌∙◌, refl, ap}
-use mathlib.Core.Bool.{true}
-use mathlib.Core.Logic.{⊎_elim}
+use mathlib.Core.Bool.{true, false}
+use mathlib.Core.Logic.{◌⊎◌, inl, inr}
+use mathlib.Core.List.{List, [], ◌∷◌, ◌++◌}
 use lib.ListN.{length, drop}
 use lib.Dec.{leb}
-use Rattle.schema.specs.Schema.{kind_width, value_width, fields_width, shallow_fields, shallow}
-use Rattle.schema.specs.Table.{field_at, fields_at, enums, schema}
+use Rattle.schema.specs.FieldKinds.{kind_from}
+use Rattle.schema.specs.declared.FieldKind.{FieldKind}
+use Rattle.schema.specs.declared.Scope.{Scope}
+use Rattle.schema.specs.Layout.{Layout}
+use Rattle.message.specs.Scopes.{Lies}
+use Rattle.wire.specs.Bytes.{part, splice}
+use Rattle.schema.specs.Schema.{field_width, kind_width, value_width, shallow}
+use Rattle.schema.specs.Table.{field_at, enums, schema}
 use Rattle.schema.proofs.Records.{fields-more}
 use Rattle.schema.proofs.Types.{plain-is, width-sequence, width_one, width-optional, width-required}
 use Rattle.schema.proofs.Groups.{static-inside, placed-inside}
@@ -15,66 +22,58 @@ use Rattle.schema.proofs.Depth.{and_both, shallow-some, width-cons, shallow-cons
 use Rattle.message.specs.Sheet.{VA, ST, SG, SQ, GB, XT, XU, NO, GE}
 use Rattle.schema.specs.declared.FieldKind.TheVariants.{Plain}
 use Rattle.settings.specs.Store.{lax}
-use Rattle.message.specs.Walk.{byte, word, here, items_r, fields_r}
+use Rattle.message.specs.Walk.{byte, word, here, items_r}
 use Rattle.message.specs.Check.{inner_of, width_of, static_of}
 use Rattle.message.proofs.CheckFields.{plain-wide, items_left, wide-number, wide-inline, wide-indirect, wide-static, wide-dynamic, kind-static, start-inside, start-static, start-width, start-shallow}
-use Rattle.sheet.specs.Show.{passage, just, then, item_of, value_of, field_of, extension_of, extending_of, group_of, takes, end_of}
+use Rattle.sheet.specs.Show.{Fits, id_of, number_of, passage, then, item_of, value_of, field_of, group_of, takes, end_of}
 use Rattle.sheet.proofs.ShowLaws.{Opens, Left, begun, opened, first_fits, called, fits-opens, shown-opens, shown-none, shown-just, shown-mark, shown-bytes, mark-room, bytes-room, just-room, alike, shown-then}
 use Rattle.sheet.proofs.ShowReaders.{is-VA, is-ST, is-SG, is-SQ, is-GB, is-XT, is-XU, marked-inline, inline-count, inline-length, marked-inner, item-fits, items-next, items-done, field_fits, fields-next, fields-done, field_plain, field-absent, field-present, field-always, value-item, sequence-inside, sequence-opens, wide-plain, item-plain, item-number, item-inline, item-static, item-text, text-inside, item-group, group-inside, items-plain, extension-none, extension-inside, extension-empty, extension-some, extending-inside, extending-known, extending-kept, end_whole, end-fields, head-whole, group-parts, Readable, group-readable}
 use Prim.Native.Nat.{ℕ}
 use borrow.Author.Rules.{rules}
+use Rattle.sheet.proofs.+show.Goals.{show_field-then-is_optional+else-bytes-at-ne1, show_field-else-is_optional, show_value-then-is_sequence, show_value-else-is_sequence}
 use Rattle.sheet.proofs.+show.Goals as goal
 
--- the extension and the end of a dynamic group
+-- where a field's value stands: an optional one's behind the byte that says that it is there
+field-value : (t b : List ℕ) (l d field at place : ℕ) → at + field_width (width_of t d) (field_at (enums t) (drop field t)) ≤ length b
+    → (((field_at (enums t) (drop field t)).optional ≡ true) × (byte at b ≡ 1) × (place ≡ at + 1)) ⊎ (((field_at (enums t) (drop field t)).optional ≡ false) × (place ≡ at))
+    → (place + value_width (width_of t d) (field_at (enums t) (drop field t)) ≤ length b) × Opens (passage (field_of t l d field) b at) (passage (value_of t l d field) b place)
+field-value t b l d field at place h (inl w) = rw w.2 (omega (arith, width-optional (width_of t d) (field_at (enums t) (drop field t)) w.0, h), field-present (inner_of lax t l) (width_of t d) (static_of lax t l d) _ b at w.0 w.1)
+field-value t b l d field at place h (inr w) = rw w.1 (omega (arith, width-required (width_of t d) (field_at (enums t) (drop field t)) w.0, h), field-always (inner_of lax t l) (width_of t d) (static_of lax t l d) _ b at w.0)
 
-close-group-whole : (t : ℕ) (c : close-group-lts.After-known-told (close-group-claims t) (close-group-at t) close-group.Post) → let a = c.before.before.before.before.before.before.before.args in let t = a.table.now in let b = a.bytes.now in
-    Left (end_of t a.levels a.scope b) a.pos a.out.now (then (passage (extension_of t a.levels) b 12) (just GE)) a.pos a.out.now
-close-group-whole t c = let a = c.before.before.before.before.before.before.before.args in opened _ _ _ _ _ _ _ (end_whole a.table.now a.levels a.bytes.now a.scope _ c.before.scope.given.1) (begun _ _ _ c.before.before.before.before.before.before.before.requires.1.3)
+-- what is left of a value: so many items, behind the count of a sequence
+value-items : (t b : List ℕ) (l d field at : ℕ) (kind : FieldKind) (width total start next pos : ℕ) (out mid : List ℕ)
+    → kind_from (enums t) kind ≡ (field_at (enums t) (drop field t)).kind → width ≡ kind_width (width_of t d) (kind_from (enums t) kind)
+    → at + value_width (width_of t d) (field_at (enums t) (drop field t)) ≤ length b → Fits (passage (value_of t l d field) b at) pos out
+    → (((field_at (enums t) (drop field t)).sequence ≡ true) × (p : ℕ) × (p ≡ at + word at b) × (total ≡ word p b) × (start ≡ p + 4) × (mid ≡ splice 6 pos ((83 ∷ (81 ∷ [])) ++ part 4 p b) out) × (next ≡ pos + 6))
+    ⊎ (((field_at (enums t) (drop field t)).sequence ≡ false) × (total ≡ 1) × (start ≡ at) × (mid ≡ out) × (next ≡ pos))
+    → (start + total * width ≤ length b) × Left (passage (value_of t l d field) b at) pos out (passage (items_r width (item_of t l d kind) total) b start) next mid
+value-items t b l d field at kind width total start next pos out mid k iw h f (inl w) =
+    let p = w.1 in
+    let q = sequence-inside (inner_of lax t l) (width_of t d) (static_of lax t l d) _ b at _ k w.0 _ iw p total w.2 w.3 _ f.reads in
+    let o = opened _ _ _ _ _ _ _ (sequence-opens (inner_of lax t l) (width_of t d) (static_of lax t l d) _ b at _ k w.0 _ iw p total w.2 w.3) (begun _ _ _ f) in
+    rw w.4 (omega (arith, q), called _ _ _ _ _ _ _ o _ _ (shown-bytes SQ _ is-SQ _ _ _ _ 4 p b (omega (arith, q)) w.5 w.6))
+value-items t b l d field at kind width total start next pos out mid k iw h f (inr w) =
+    rw (w.1, w.2, w.3, w.4) (omega (arith, width_one (width_of t d) (field_at (enums t) (drop field t)) w.0, ap (kind_width (width_of t d)) k, iw, h), opened _ _ _ _ _ _ _ (value-item (inner_of lax t l) (width_of t d) (static_of lax t l d) _ b at _ k w.0 _) (begun _ _ _ f))
 
--- where the value stands
-
-show-field-value : (t : ℕ) (c : show-field-lts.Joined1 (show-field-claims t) (show-field-at t) show-field.Post) → let a = c.before.before.before.before.before.before.args in let t = a.table.now in let b = a.bytes.now in
-    (c.if1.place + value_width (width_of t a.depth) (field_at (enums t) (drop a.field t)) ≤ length b) × Opens (passage (field_of t a.levels a.depth a.field) b a.at) (passage (value_of t a.levels a.depth a.field) b c.if1.place)
-show-field-value t c = let a = c.before.before.before.before.before.before.args in let l = c.before.before.before.before.before.before.requires.1.3 in let t = a.table.now in let b = a.bytes.now in let I = inner_of lax t a.levels in let es = enums t in let sw = width_of t a.depth in let S = static_of lax t a.levels a.depth in let f = field_at es (drop a.field t) in let o = sym (c.before.is-optional.ensures es) in
-    ⊎_elim
-    (λ w. let e = o ∙ w.0.taken in rw w.3 (omega (arith, width-optional sw f e, l), field-present I sw S f b a.at e w.2.left))
-    (λ w. let e = o ∙ w.0.left in rw w.1 (omega (arith, width-required sw f e, l), field-always I sw S f b a.at e))
-    c.if1.branch
-
--- what is left behind its head, and what is asked for its fields
-
-show-group-opened : (t : ℕ) (c : show-group-lts.After-open-group (show-group-claims t) (show-group-at t) show-group.Post) → let a = c.before.before.before.before.before.before.args in let t = a.table.now in let b = a.bytes.now in let o = c.open-group.result in
-    Left (group_of t a.levels a.depth a.scope b a.at) a.pos a.out.now (then (passage (static_of lax t o.levels a.depth o.group) b a.at) (end_of t o.levels a.scope b)) o.pos c.open-group.new.1.1.1.1.1.0
-    × Readable t a.levels a.depth b a.at a.scope o.group
-show-group-opened t c = let a = c.before.before.before.before.before.before.args in let R = c.before.before.before.before.before.before.requires.1 in let t = a.table.now in let b = a.bytes.now in let o = c.open-group.ensures in (
-  called _ _ _ _ _ _ _ (opened _ _ _ _ _ _ _ (group-parts t a.levels a.depth b a.at a.scope R.2 _ _ o.0 o.1) (begun _ _ _ R.3)) _ _ (shown-just _ _ _ _ _ _ o.2 refl o.3),
-  group-readable t a.levels a.depth b a.at _ R.0 a.scope R.2 _ o.0 _ R.3.reads,
+-- what is left of a group behind its head, and what is asked for its fields
+group-opened : (t k b : List ℕ) (l d at pos g n p : ℕ) (scope : Scope) (out mid : List ℕ) → Layout t k → Lies t d scope b at → Fits (group_of t l d scope b at) pos out
+    → (g ≡ number_of t scope b) × (n ≡ l - takes scope) × (mid ≡ splice (length (id_of scope b)) pos (id_of scope b) out) × (p ≡ pos + length (id_of scope b))
+    → Left (group_of t l d scope b at) pos out (then (passage (static_of lax t n d g) b at) (end_of t n scope b)) p mid × Readable t l d b at scope g
+group-opened t k b l d at pos g n p scope out mid P h f o = (
+  called _ _ _ _ _ _ _ (opened _ _ _ _ _ _ _ (group-parts t l d b at scope h _ _ o.0 o.1) (begun _ _ _ f)) _ _ (shown-just _ _ _ _ _ _ o.2 refl o.3),
+  group-readable t l d b at _ P scope h _ o.0 _ f.reads,
 )
 
--- what is left: so many items, from there on
-
-show-value-items : (t : ℕ) (c : show-value-lts.Joined1 (show-value-claims t) (show-value-at t) show-value.Post) → let a = c.before.before.before.before.before.before.before.before.args in let t = a.table.now in let b = a.bytes.now in
-    (c.if1.start + c.if1.total * c.before.before.kind-width.result ≤ length b) × Left (passage (value_of t a.levels a.depth a.field) b a.at) a.pos a.out.now (passage (items_r c.before.before.kind-width.result (item_of t a.levels a.depth c.before.before.before.kind_at.result) c.if1.total) b c.if1.start) c.if1.next c.if1.out
-show-value-items t c = let a = c.before.before.before.before.before.before.before.before.args in let R = c.before.before.before.before.before.before.before.before.requires.1 in let t = a.table.now in let b = a.bytes.now in let I = inner_of lax t a.levels in let es = enums t in let sw = width_of t a.depth in let S = static_of lax t a.levels a.depth in let f = field_at es (drop a.field t) in let k = c.before.before.before.kind_at.ensures es in
-    let iw = c.before.before.kind-width.ensures.0 es ∙ wide-kind t a.index.now R.0 a.depth _ (rw (sym k) at R.4) in let o = sym (c.before.is-sequence.ensures es) in let L = begun _ _ _ R.5 in
-    ⊎_elim
-    (λ w. let e = o ∙ w.0.taken in let ip = ap (λ (n : ℕ). a.at + n) w.1.ensures.0 in let n = w.2.ensures.0 in
-    let q = sequence-inside I sw S f b a.at _ k e _ iw _ _ ip n _ R.5.reads in let h : a.at + w.1.result + 4 ≤ length b = omega (arith, q) in
-    rw (w.7, w.8, w.9, w.10) (omega (arith, q), called _ _ _ _ _ _ _ (opened _ _ _ _ _ _ _ (sequence-opens I sw S f b a.at _ k e _ iw _ _ ip n) L) _ _ (shown-bytes SQ _ is-SQ _ _ _ _ 4 _ b h w.4.ensures.0 w.4.ensures.1)))
-    (λ w. let e = o ∙ w.0.left in
-    rw (w.1, w.2, w.3, w.4) (omega (arith, width_one sw f e, ap (kind_width sw) k, iw, R.3), opened _ _ _ _ _ _ _ (value-item I sw S f b a.at _ k e _) L))
-    c.if1.branch
-
 pub close_group-show_extension-extension-requires : goal.close_group-show_extension-extension-requires
-close_group-show_extension-extension-requires t c = let L = close-group-whole t c in let R = c.requires.1 in
+close_group-show_extension-extension-requires t c = let a = c.args in let R = c.requires in let L = opened _ _ _ _ _ _ _ (end_whole a.table.now a.levels a.bytes.now a.scope _ c.in-Whole.is) (begun _ _ _ R.3) in
     (search rules, (R.0, R.1, omega (arith, head-whole _ _ c.in-Whole.is, R.2), first_fits _ _ _ _ _ _ _ L))
 
 pub close_group-show_mark-requires : goal.close_group-show_mark-requires
-close_group-show_mark-requires t c = let L = close-group-whole t c in
+close_group-show_mark-requires t c = let a = c.args in let R = c.requires in let L = opened _ _ _ _ _ _ _ (end_whole a.table.now a.levels a.bytes.now a.scope _ c.in-Whole.is) (begun _ _ _ R.3) in
     just-room GE _ _ (called _ _ _ _ _ _ _ L _ _ c.show_extension-extension.ensures).fits
 
 pub close_group-returns-in-Whole : goal.close_group-returns-in-Whole
-close_group-returns-in-Whole t c = let L = close-group-whole t c in
+close_group-returns-in-Whole t c = let a = c.args in let R = c.requires in let L = opened _ _ _ _ _ _ _ (end_whole a.table.now a.levels a.bytes.now a.scope _ c.in-Whole.is) (begun _ _ _ R.3) in
     (called _ _ _ _ _ _ _ L _ _ c.show_extension-extension.ensures).whole _ _ (shown-just GE 2 _ _ _ _ c.show_mark.ensures.0 refl c.show_mark.ensures.1)
 
 pub close_group-returns-in-Fields : goal.close_group-returns-in-Fields
@@ -82,11 +81,11 @@ close_group-returns-in-Fields t c = let a = c.args in
     shown-opens _ _ _ _ _ _ (end-fields a.table.now a.levels a.bytes.now a.scope _ c.in-Fields.is) (shown-none _ _)
 
 pub show_extending-read_u64-requires : goal.show_extending-read_u64-requires
-show_extending-read_u64-requires t c = let a = c.args in let R = c.requires.1 in let t = a.table.now in let b = a.bytes.now in let I = inner_of lax t a.levels in let ip = ap (λ (n : ℕ). a.at + n) c.read_u32.ensures.0 in
+show_extending-read_u64-requires t c = let a = c.args in let R = c.requires in let t = a.table.now in let b = a.bytes.now in let I = inner_of lax t a.levels in let ip = ap (λ (n : ℕ). a.at + n) c.read_u32.ensures.0 in
     let q = extending-inside (schema t) I b a.at _ _ ip refl _ R.3.reads in omega (arith, q.0, q.1)
 
 pub show_extending-show_nested-requires : goal.show_extending-show_nested-requires
-show_extending-show_nested-requires t c = let a = c.args in let R = c.requires.1 in let t = a.table.now in let b = a.bytes.now in let I = inner_of lax t a.levels in let ip = ap (λ (n : ℕ). a.at + n) c.read_u32.ensures.0 in
+show_extending-show_nested-requires t c = let a = c.args in let R = c.requires in let t = a.table.now in let b = a.bytes.now in let I = inner_of lax t a.levels in let ip = ap (λ (n : ℕ). a.at + n) c.read_u32.ensures.0 in
     let q = extending-inside (schema t) I b a.at _ _ ip refl _ R.3.reads in
     let k = rw c.read_u64.ensures at (sym c.is_known.ensures) ∙ c.if-is_known.true in
     (search rules, (R.0, R.1, q.1, fits-opens _ _ _ _ (extending-known (schema t) I b a.at _ _ ip refl k) R.3))
@@ -97,11 +96,11 @@ show_extending-returns-then-is_known t c = let a = c.args in let t = a.table.now
     shown-opens _ _ _ _ _ _ (extending-known (schema t) I b a.at _ _ ip refl k) c.show_nested.ensures
 
 pub show_extending-read_u32-count-requires : goal.show_extending-read_u32-count-requires
-show_extending-read_u32-count-requires t c = let a = c.args in let R = c.requires.1 in let t = a.table.now in let b = a.bytes.now in let I = inner_of lax t a.levels in let ip = ap (λ (n : ℕ). a.at + n) c.read_u32.ensures.0 in
+show_extending-read_u32-count-requires t c = let a = c.args in let R = c.requires in let t = a.table.now in let b = a.bytes.now in let I = inner_of lax t a.levels in let ip = ap (λ (n : ℕ). a.at + n) c.read_u32.ensures.0 in
     let q = extending-inside (schema t) I b a.at _ _ ip refl _ R.3.reads in omega (arith, q.1)
 
 pub show_extending-show_bytes-requires : goal.show_extending-show_bytes-requires
-show_extending-show_bytes-requires t c = let a = c.args in let R = c.requires.1 in let t = a.table.now in let b = a.bytes.now in let I = inner_of lax t a.levels in let ip = ap (λ (n : ℕ). a.at + n) c.read_u32.ensures.0 in
+show_extending-show_bytes-requires t c = let a = c.args in let R = c.requires in let t = a.table.now in let b = a.bytes.now in let I = inner_of lax t a.levels in let ip = ap (λ (n : ℕ). a.at + n) c.read_u32.ensures.0 in
     let n = c.read_u32-count.ensures.0 in
     let q = extending-inside (schema t) I b a.at _ _ ip n _ R.3.reads in
     let k = rw c.read_u64.ensures at (sym c.is_known.ensures) ∙ c.if-is_known.false in
@@ -109,7 +108,7 @@ show_extending-show_bytes-requires t c = let a = c.args in let R = c.requires.1 
     (omega (arith, q.1), omega (arith, r))
 
 pub show_extending-returns : goal.show_extending-returns
-show_extending-returns t c = let a = c.args in let R = c.requires.1 in let t = a.table.now in let b = a.bytes.now in let I = inner_of lax t a.levels in let ip = ap (λ (n : ℕ). a.at + n) c.read_u32.ensures.0 in
+show_extending-returns t c = let a = c.args in let R = c.requires in let t = a.table.now in let b = a.bytes.now in let I = inner_of lax t a.levels in let ip = ap (λ (n : ℕ). a.at + n) c.read_u32.ensures.0 in
     let n = c.read_u32-count.ensures.0 in
     let q = extending-inside (schema t) I b a.at _ _ ip n _ R.3.reads in
     let k = rw c.read_u64.ensures at (sym c.is_known.ensures) ∙ c.if-is_known.false in
@@ -119,7 +118,7 @@ pub show_extension-returns-then-offset-eq0 : goal.show_extension-returns-then-of
 show_extension-returns-then-offset-eq0 t c = let a = c.args in let t = a.table.now in let b = a.bytes.now in let I = inner_of lax t a.levels in shown-opens _ _ _ _ _ _ (extension-none (schema t) I b (sym c.read_u32-offset.ensures.0 ∙ c.if-offset-eq0.true)) (shown-none _ _)
 
 pub show_extension-read_u32-count-requires : goal.show_extension-read_u32-count-requires
-show_extension-read_u32-count-requires t c = let a = c.args in let R = c.requires.1 in let t = a.table.now in let b = a.bytes.now in let I = inner_of lax t a.levels in let ip = ap (λ (n : ℕ). 12 + n) c.read_u32-offset.ensures.0 in let z : word 12 b ≡ 0 → ⊥ = λ e. c.if-offset-eq0.false (c.read_u32-offset.ensures.0 ∙ e) in
+show_extension-read_u32-count-requires t c = let a = c.args in let R = c.requires in let t = a.table.now in let b = a.bytes.now in let I = inner_of lax t a.levels in let ip = ap (λ (n : ℕ). 12 + n) c.read_u32-offset.ensures.0 in let z : word 12 b ≡ 0 → ⊥ = λ e. c.if-offset-eq0.false (c.read_u32-offset.ensures.0 ∙ e) in
     let q = extension-inside (schema t) I b z _ _ ip refl _ R.3.reads in omega (arith, q)
 
 pub show_extension-returns-then-count-eq0 : goal.show_extension-returns-then-count-eq0
@@ -127,47 +126,56 @@ show_extension-returns-then-count-eq0 t c = let a = c.args in let t = a.table.no
     shown-opens _ _ _ _ _ _ (extension-empty (schema t) I b z _ _ ip c.read_u32-count.ensures.0 c.if-count-eq0.true) (shown-none _ _)
 
 pub show_extension-show_bytes-next-requires : goal.show_extension-show_bytes-next-requires
-show_extension-show_bytes-next-requires t c = let a = c.args in let R = c.requires.1 in let t = a.table.now in let b = a.bytes.now in let I = inner_of lax t a.levels in let ip = ap (λ (n : ℕ). 12 + n) c.read_u32-offset.ensures.0 in let z : word 12 b ≡ 0 → ⊥ = λ e. c.if-offset-eq0.false (c.read_u32-offset.ensures.0 ∙ e) in let n = c.read_u32-count.ensures.0 in
+show_extension-show_bytes-next-requires t c = let a = c.args in let R = c.requires in let t = a.table.now in let b = a.bytes.now in let I = inner_of lax t a.levels in let ip = ap (λ (n : ℕ). 12 + n) c.read_u32-offset.ensures.0 in let z : word 12 b ≡ 0 → ⊥ = λ e. c.if-offset-eq0.false (c.read_u32-offset.ensures.0 ∙ e) in let n = c.read_u32-count.ensures.0 in
     let q = extension-inside (schema t) I b z _ _ ip n _ R.3.reads in let h : 12 + c.read_u32-offset.result + 4 ≤ length b = omega (arith, q) in let L = opened _ _ _ _ _ _ _ (extension-some (schema t) I b z _ _ ip n c.if-count-eq0.false) (begun _ _ _ R.3) in
     (h, bytes-room XT _ _ 4 _ b h (first_fits _ _ _ _ _ _ _ L))
 
 pub show_extension-show_groups-requires : goal.show_extension-show_groups-requires
-show_extension-show_groups-requires t c = let a = c.args in let R = c.requires.1 in let t = a.table.now in let b = a.bytes.now in let I = inner_of lax t a.levels in let ip = ap (λ (n : ℕ). 12 + n) c.read_u32-offset.ensures.0 in let z : word 12 b ≡ 0 → ⊥ = λ e. c.if-offset-eq0.false (c.read_u32-offset.ensures.0 ∙ e) in let n = c.read_u32-count.ensures.0 in
+show_extension-show_groups-requires t c = let a = c.args in let R = c.requires in let t = a.table.now in let b = a.bytes.now in let I = inner_of lax t a.levels in let ip = ap (λ (n : ℕ). 12 + n) c.read_u32-offset.ensures.0 in let z : word 12 b ≡ 0 → ⊥ = λ e. c.if-offset-eq0.false (c.read_u32-offset.ensures.0 ∙ e) in let n = c.read_u32-count.ensures.0 in
     let q = extension-inside (schema t) I b z _ _ ip n _ R.3.reads in let h : 12 + c.read_u32-offset.result + 4 ≤ length b = omega (arith, q) in let L = opened _ _ _ _ _ _ _ (extension-some (schema t) I b z _ _ ip n c.if-count-eq0.false) (begun _ _ _ R.3) in
     (search rules, (R.0, R.1, omega (arith, q), (called _ _ _ _ _ _ _ L _ _ (shown-bytes XT _ is-XT _ _ _ _ 4 _ b h c.show_bytes-next.ensures.0 c.show_bytes-next.ensures.1)).fits))
 
 pub show_extension-returns : goal.show_extension-returns
-show_extension-returns t c = let a = c.args in let R = c.requires.1 in let t = a.table.now in let b = a.bytes.now in let I = inner_of lax t a.levels in let ip = ap (λ (n : ℕ). 12 + n) c.read_u32-offset.ensures.0 in let z : word 12 b ≡ 0 → ⊥ = λ e. c.if-offset-eq0.false (c.read_u32-offset.ensures.0 ∙ e) in let n = c.read_u32-count.ensures.0 in
+show_extension-returns t c = let a = c.args in let R = c.requires in let t = a.table.now in let b = a.bytes.now in let I = inner_of lax t a.levels in let ip = ap (λ (n : ℕ). 12 + n) c.read_u32-offset.ensures.0 in let z : word 12 b ≡ 0 → ⊥ = λ e. c.if-offset-eq0.false (c.read_u32-offset.ensures.0 ∙ e) in let n = c.read_u32-count.ensures.0 in
     let q = extension-inside (schema t) I b z _ _ ip n _ R.3.reads in let h : 12 + c.read_u32-offset.result + 4 ≤ length b = omega (arith, q) in let L = opened _ _ _ _ _ _ _ (extension-some (schema t) I b z _ _ ip n c.if-count-eq0.false) (begun _ _ _ R.3) in
     (called _ _ _ _ _ _ _ L _ _ (shown-bytes XT _ is-XT _ _ _ _ 4 _ b h c.show_bytes-next.ensures.0 c.show_bytes-next.ensures.1)).whole _ _ c.show_groups.ensures
 
 pub show_field-bounds-bytes-at : goal.show_field-bounds-bytes-at
 show_field-bounds-bytes-at t c = let a = c.args in let t = a.table.now in let es = enums t in
-    omega (arith, width-optional (width_of t a.depth) (field_at es (drop a.field t)) (sym (c.is_optional.ensures es) ∙ c.if-is_optional.true), c.requires.1.3)
+    omega (arith, width-optional (width_of t a.depth) (field_at es (drop a.field t)) (sym (c.is_optional.ensures es) ∙ c.if-is_optional.true), c.requires.3)
 
 pub show_field-show_mark-requires : goal.show_field-show_mark-requires
 show_field-show_mark-requires t c = let a = c.args in let t = a.table.now in let es = enums t in
-    just-room NO _ _ (fits-opens _ _ _ _ (field-absent (inner_of lax t a.levels) (width_of t a.depth) (static_of lax t a.levels a.depth) (field_at es (drop a.field t)) a.bytes.now a.at (sym (c.is_optional.ensures es) ∙ c.if-is_optional.true) c.if-bytes-at-ne1.true) c.requires.1.5)
+    just-room NO _ _ (fits-opens _ _ _ _ (field-absent (inner_of lax t a.levels) (width_of t a.depth) (static_of lax t a.levels a.depth) (field_at es (drop a.field t)) a.bytes.now a.at (sym (c.is_optional.ensures es) ∙ c.if-is_optional.true) c.if-bytes-at-ne1.true) c.requires.5)
 
 pub show_field-returns-then-bytes-at-ne1 : goal.show_field-returns-then-bytes-at-ne1
 show_field-returns-then-bytes-at-ne1 t c = let a = c.args in let t = a.table.now in let es = enums t in
     shown-opens _ _ _ _ _ _ (field-absent (inner_of lax t a.levels) (width_of t a.depth) (static_of lax t a.levels a.depth) (field_at es (drop a.field t)) a.bytes.now a.at (sym (c.is_optional.ensures es) ∙ c.if-is_optional.true) c.if-bytes-at-ne1.true) (shown-just NO 2 _ _ _ _ c.show_mark.ensures.0 refl c.show_mark.ensures.1)
 
 pub show_field-show_value-requires : goal.show_field-show_value-requires
-show_field-show_value-requires t c = let R = c.requires.1 in let v = show-field-value t c in
+show_field-show_value-requires t c = let a = c.args in let R = c.requires in let es = enums a.table.now in let o = sym (c.is_optional.ensures es) in
+    let v = field-value a.table.now a.bytes.now a.levels a.depth a.field a.at c.if-is_optional.place R.3 (elim c.if-is_optional.branch [
+      | show_field-then-is_optional+else-bytes-at-ne1 w ↦ inl (o ∙ w.if-is_optional.true, w.if-bytes-at-ne1.false, w.place-is)
+      | show_field-else-is_optional w ↦ inr (o ∙ w.if-is_optional.false, w.place-is)
+    ]) in
     (search rules, (R.0, R.1, R.2, v.0, R.4, fits-opens _ _ _ _ v.1 R.5))
 
 pub show_field-returns : goal.show_field-returns
-show_field-returns t c = shown-opens _ _ _ _ _ _ (show-field-value t c).1 c.show_value.ensures
+show_field-returns t c = let a = c.args in let R = c.requires in let es = enums a.table.now in let o = sym (c.is_optional.ensures es) in
+    let v = field-value a.table.now a.bytes.now a.levels a.depth a.field a.at c.if-is_optional.place R.3 (elim c.if-is_optional.branch [
+      | show_field-then-is_optional+else-bytes-at-ne1 w ↦ inl (o ∙ w.if-is_optional.true, w.if-bytes-at-ne1.false, w.place-is)
+      | show_field-else-is_optional w ↦ inr (o ∙ w.if-is_optional.false, w.place-is)
+    ]) in
+    shown-opens _ _ _ _ _ _ v.1 c.show_value.ensures
 
 pub show_fields-field_count-total-requires : goal.show_fields-field_count-total-requires
-show_fields-field_count-total-requires t c = let R = c.requires.1 in let p = placed-inside _ _ _ R.0.placed _ R.3 in omega (arith, p, c.group_place-start.ensures.0)
+show_fields-field_count-total-requires t c = let R = c.requires in let p = placed-inside _ _ _ R.0.placed _ R.3 in omega (arith, p, c.group_place-start.ensures.0)
 
 pub show_fields-overflow_sub-deeper : goal.show_fields-overflow_sub-deeper
-show_fields-overflow_sub-deeper t c = let a = c.args in let R = c.requires.1 in let t = a.table.now in omega (arith, shallow-some (schema t) _ _ R.4)
+show_fields-overflow_sub-deeper t c = let a = c.args in let R = c.requires in let t = a.table.now in omega (arith, shallow-some (schema t) _ _ R.4)
 
 pub show_fields-loop-i-init : goal.show_fields-loop-i-init
-show_fields-loop-i-init t c = let a = c.args in let R = c.requires.1 in let t = a.table.now in let b = a.bytes.now in let I = inner_of lax t a.levels in let P = R.0 in let k = a.index.now in
+show_fields-loop-i-init t c = let a = c.args in let R = c.requires in let t = a.table.now in let b = a.bytes.now in let I = inner_of lax t a.levels in let P = R.0 in let k = a.index.now in
     let d = shallow-some (schema t) a.depth a.group R.4 in
     let s = c.group_place-start.ensures.0 in let n = c.field_count-total.ensures.0 in
     let w = start-width t k P a.group R.3 _ _ s n a.depth d in (
@@ -198,12 +206,12 @@ show_fields-loop-i-preserved-then-plain-ne0 t c = let a = c.args in let t = a.ta
     )
 
 pub show_fields-show_field-next-requires : goal.show_fields-show_field-next-requires
-show_fields-show_field-next-requires t c = let a = c.args in let R = c.requires.1 in let t = a.table.now in let b = a.bytes.now in let I = inner_of lax t a.levels in let i = c.loop-i.invariant in let l = c.loop-i-test.true in let sw = width_of t (a.depth - 1) in let S = static_of lax t a.levels (a.depth - 1) in let es = enums t in
+show_fields-show_field-next-requires t c = let a = c.args in let R = c.requires in let t = a.table.now in let b = a.bytes.now in let I = inner_of lax t a.levels in let i = c.loop-i.invariant in let l = c.loop-i-test.true in let sw = width_of t (a.depth - 1) in let S = static_of lax t a.levels (a.depth - 1) in let es = enums t in
     let f = fields-more es t c.loop-i.field c.field_count-total.result c.loop-i.i l in let w = width-cons sw _ _ _ f in
     (omega (arith, shallow-some (schema t) _ _ R.4), (R.0, R.1, omega (arith, i.2, l), omega (arith, i.3, w), (shallow-cons _ _ _ _ _ f i.4).0, field_fits _ _ _ b c.field_count-total.result c.loop-i.i c.loop-i.place _ _ I sw S es t c.loop-i.field i.5 l))
 
 pub show_fields-loop-i-preserved : goal.show_fields-loop-i-preserved
-show_fields-loop-i-preserved t c = let a = c.args in let R = c.requires.1 in let t = a.table.now in let b = a.bytes.now in let I = inner_of lax t a.levels in let i = c.loop-i.invariant in let l = c.loop-i-test.true in let sw = width_of t (a.depth - 1) in let S = static_of lax t a.levels (a.depth - 1) in let es = enums t in
+show_fields-loop-i-preserved t c = let a = c.args in let R = c.requires in let t = a.table.now in let b = a.bytes.now in let I = inner_of lax t a.levels in let i = c.loop-i.invariant in let l = c.loop-i-test.true in let sw = width_of t (a.depth - 1) in let S = static_of lax t a.levels (a.depth - 1) in let es = enums t in
     let f = fields-more es t c.loop-i.field c.field_count-total.result c.loop-i.i l in let w = width-cons sw _ _ _ f in
     let q = shallow-cons _ _ _ _ _ f i.4 in
     let v = c.field_width-width.ensures.0 es ∙ wide-field t a.index.now R.0 (a.depth - 1) _ q.0 in (
@@ -220,26 +228,26 @@ show_fields-returns t c = let a = c.args in let t = a.table.now in let b = a.byt
     fields-done _ _ _ b c.field_count-total.result c.loop-i.i c.loop-i.place _ _ I sw S es t c.loop-i.field c.loop-i.invariant.5 c.loop-i-test.false
 
 pub show_group-open_group-open-requires : goal.show_group-open_group-open-requires
-show_group-open_group-open-requires t c = let a = c.args in let R = c.requires.1 in let t = a.table.now in let b = a.bytes.now in let S = group-readable t a.levels a.depth b a.at _ R.0 a.scope R.2 _ refl _ R.3.reads in
+show_group-open_group-open-requires t c = let a = c.args in let R = c.requires in let t = a.table.now in let b = a.bytes.now in let S = group-readable t a.levels a.depth b a.at _ R.0 a.scope R.2 _ refl _ R.3.reads in
     (R.0, S.some, S.long, just-room _ _ _ (first_fits _ _ _ _ _ _ _ (opened _ _ _ _ _ _ _ (group-parts t a.levels a.depth b a.at a.scope R.2 _ _ refl refl) (begun _ _ _ R.3))))
 
 pub show_group-show_fields-fields-requires : goal.show_group-show_fields-fields-requires
-show_group-show_fields-fields-requires t c = let o = show-group-opened t c in let S = o.1 in let R = c.requires.1 in
+show_group-show_fields-fields-requires t c = let a = c.args in let R = c.requires in let o = group-opened a.table.now a.index.now a.bytes.now a.levels a.depth a.at a.pos _ _ _ a.scope a.out.now _ R.0 R.2 R.3 c.open_group-open.ensures in let S = o.1 in
     (omega (arith, S.some), (R.0, R.1, S.wide, S.inside, S.flat, first_fits _ _ _ _ _ _ _ o.0))
 
 pub show_group-close_group-requires : goal.show_group-close_group-requires
-show_group-close_group-requires t c = let o = show-group-opened t c in let S = o.1 in let a = c.args in let R = c.requires.1 in
+show_group-close_group-requires t c = let a = c.args in let R = c.requires in let o = group-opened a.table.now a.index.now a.bytes.now a.levels a.depth a.at a.pos _ _ _ a.scope a.out.now _ R.0 R.2 R.3 c.open_group-open.ensures in let S = o.1 in
     (omega (arith, S.some, shallow-some (schema a.table.now) _ _ S.flat), (R.0, R.1, S.long, (called _ _ _ _ _ _ _ o.0 _ _ c.show_fields-fields.ensures).fits))
 
 pub show_group-returns : goal.show_group-returns
-show_group-returns t c = let o = show-group-opened t c in
+show_group-returns t c = let a = c.args in let R = c.requires in let o = group-opened a.table.now a.index.now a.bytes.now a.levels a.depth a.at a.pos _ _ _ a.scope a.out.now _ R.0 R.2 R.3 c.open_group-open.ensures in
     (called _ _ _ _ _ _ _ o.0 _ _ c.show_fields-fields.ensures).whole _ _ c.close_group.ensures
 
 pub show_groups-loop-i-init : goal.show_groups-loop-i-init
-show_groups-loop-i-init t c = let a = c.args in let R = c.requires.1 in (search rules, search rules, rw (sub-zero a.total) R.2, rw (sub-zero a.total) (begun _ _ _ R.3))
+show_groups-loop-i-init t c = let a = c.args in let R = c.requires in (search rules, search rules, rw (sub-zero a.total) R.2, rw (sub-zero a.total) (begun _ _ _ R.3))
 
 pub show_groups-show_extending-next-requires : goal.show_groups-show_extending-next-requires
-show_groups-show_extending-next-requires t c = let a = c.args in let R = c.requires.1 in let i = c.loop-i.invariant in let l = c.loop-i-test.true in
+show_groups-show_extending-next-requires t c = let a = c.args in let R = c.requires in let i = c.loop-i.invariant in let l = c.loop-i-test.true in
     (search rules, (R.0, R.1, omega (arith, items_left a.total c.loop-i.i 4 l, i.2), item-fits _ _ _ _ _ _ _ _ _ _ _ i.3 l))
 
 pub show_groups-loop-i-preserved : goal.show_groups-loop-i-preserved
@@ -250,90 +258,90 @@ pub show_groups-returns : goal.show_groups-returns
 show_groups-returns t c = items-done _ _ _ _ _ _ _ _ _ _ _ c.loop-i.invariant.3 c.loop-i-test.false
 
 pub show_item-show_bytes-requires : goal.show_item-show_bytes-requires
-show_item-show_bytes-requires t c = let a = c.args in let R = c.requires.1 in let t = a.table.now in let b = a.bytes.now in let I = inner_of lax t a.levels in let es = enums t in let sw = width_of t a.depth in let S = static_of lax t a.levels a.depth in let e = c.in-Plain.is ∙ ap Plain (sym c.wide.ensures.0) in let h : a.at + c.wide.result ≤ length b = omega (arith, wide-plain sw es a.kind _ e, R.2) in
+show_item-show_bytes-requires t c = let a = c.args in let R = c.requires in let t = a.table.now in let b = a.bytes.now in let I = inner_of lax t a.levels in let es = enums t in let sw = width_of t a.depth in let S = static_of lax t a.levels a.depth in let e = c.in-Plain.is ∙ ap Plain (sym c.wide.ensures.0) in let h : a.at + c.wide.result ≤ length b = omega (arith, wide-plain sw es a.kind _ e, R.2) in
     (h, bytes-room VA _ _ _ _ b h (fits-opens _ _ _ _ (item-plain I S es b a.at a.kind _ e) R.4))
 
 pub show_item-show_bytes-requires-in-Number : goal.show_item-show_bytes-requires-in-Number
-show_item-show_bytes-requires-in-Number t c = let a = c.args in let R = c.requires.1 in let t = a.table.now in let b = a.bytes.now in let I = inner_of lax t a.levels in let es = enums t in let sw = width_of t a.depth in let S = static_of lax t a.levels a.depth in let e = c.in-Number.is in let iw = c.wide-width.ensures.0 ∙ c.tested_width.ensures es sw in let h : a.at + c.wide-width.result ≤ length b = omega (arith, wide-number sw es a.kind _ e, iw, R.2) in
+show_item-show_bytes-requires-in-Number t c = let a = c.args in let R = c.requires in let t = a.table.now in let b = a.bytes.now in let I = inner_of lax t a.levels in let es = enums t in let sw = width_of t a.depth in let S = static_of lax t a.levels a.depth in let e = c.in-Number.is in let iw = c.wide-width.ensures.0 ∙ c.tested_width.ensures es sw in let h : a.at + c.wide-width.result ≤ length b = omega (arith, wide-number sw es a.kind _ e, iw, R.2) in
     (h, bytes-room VA _ _ _ _ b h (fits-opens _ _ _ _ (item-number I S es b a.at a.kind sw _ _ e iw) R.4))
 
 pub show_item-show_inline-requires : goal.show_item-show_inline-requires
-show_item-show_inline-requires t c = let a = c.args in let R = c.requires.1 in let t = a.table.now in let b = a.bytes.now in let I = inner_of lax t a.levels in let es = enums t in let sw = width_of t a.depth in let S = static_of lax t a.levels a.depth in let e = c.in-Inline.is in let o = item-inline I S es b a.at a.kind _ _ e in
+show_item-show_inline-requires t c = let a = c.args in let R = c.requires in let t = a.table.now in let b = a.bytes.now in let I = inner_of lax t a.levels in let es = enums t in let sw = width_of t a.depth in let S = static_of lax t a.levels a.depth in let e = c.in-Inline.is in let o = item-inline I S es b a.at a.kind _ _ e in
     let h : a.at + 1 + byte a.at b ≤ length b = omega (arith, wide-inline sw es a.kind _ _ e, inline-count ST b a.at _ _ _ (o _ R.4.reads), R.2) in
     (h, rw (inline-length (byte a.at b) a.at b h) at (just-room _ _ _ (fits-opens _ _ _ _ (λ s r. marked-inline ST b a.at _ _ s (o s r)) R.4)))
 
 pub show_item-read_u32-requires : goal.show_item-read_u32-requires
-show_item-read_u32-requires t c = let a = c.args in let R = c.requires.1 in let t = a.table.now in let es = enums t in let sw = width_of t a.depth in omega (arith, wide-indirect sw es a.kind _ c.in-Indirect.is, R.2)
+show_item-read_u32-requires t c = let a = c.args in let R = c.requires in let t = a.table.now in let es = enums t in let sw = width_of t a.depth in omega (arith, wide-indirect sw es a.kind _ c.in-Indirect.is, R.2)
 
 pub show_item-read_u32-count-requires : goal.show_item-read_u32-count-requires
-show_item-read_u32-count-requires t c = let a = c.args in let R = c.requires.1 in let t = a.table.now in let b = a.bytes.now in let I = inner_of lax t a.levels in let es = enums t in let S = static_of lax t a.levels a.depth in let e = c.in-Indirect.is in let ip = ap (λ (n : ℕ). a.at + n) c.read_u32.ensures.0 in
+show_item-read_u32-count-requires t c = let a = c.args in let R = c.requires in let t = a.table.now in let b = a.bytes.now in let I = inner_of lax t a.levels in let es = enums t in let S = static_of lax t a.levels a.depth in let e = c.in-Indirect.is in let ip = ap (λ (n : ℕ). a.at + n) c.read_u32.ensures.0 in
     omega (arith, text-inside I S es b a.at a.kind _ _ ip refl _ e _ R.4.reads)
 
 pub show_item-show_bytes-requires-in-Indirect : goal.show_item-show_bytes-requires-in-Indirect
-show_item-show_bytes-requires-in-Indirect t c = let a = c.args in let R = c.requires.1 in let t = a.table.now in let b = a.bytes.now in let I = inner_of lax t a.levels in let es = enums t in let S = static_of lax t a.levels a.depth in let e = c.in-Indirect.is in let ip = ap (λ (n : ℕ). a.at + n) c.read_u32.ensures.0 in
+show_item-show_bytes-requires-in-Indirect t c = let a = c.args in let R = c.requires in let t = a.table.now in let b = a.bytes.now in let I = inner_of lax t a.levels in let es = enums t in let S = static_of lax t a.levels a.depth in let e = c.in-Indirect.is in let ip = ap (λ (n : ℕ). a.at + n) c.read_u32.ensures.0 in
     let n = c.read_u32-count.ensures.0 in let h = text-inside I S es b a.at a.kind _ _ ip n _ e _ R.4.reads in
     (h, bytes-room ST _ _ _ _ b h (fits-opens _ _ _ _ (item-text I S es b a.at a.kind _ _ ip n _ e) R.4))
 
 pub show_item-show_mark-next-requires : goal.show_item-show_mark-next-requires
-show_item-show_mark-next-requires t c = let a = c.args in let R = c.requires.1 in let t = a.table.now in let b = a.bytes.now in let I = inner_of lax t a.levels in let es = enums t in let S = static_of lax t a.levels a.depth in let e = c.in-Static.is in let L = opened _ _ _ _ _ _ _ (item-static I S es b a.at a.kind _ e) (begun _ _ _ R.4) in mark-room SG _ _ (first_fits _ _ _ _ _ _ _ L)
+show_item-show_mark-next-requires t c = let a = c.args in let R = c.requires in let t = a.table.now in let b = a.bytes.now in let I = inner_of lax t a.levels in let es = enums t in let S = static_of lax t a.levels a.depth in let e = c.in-Static.is in let L = opened _ _ _ _ _ _ _ (item-static I S es b a.at a.kind _ e) (begun _ _ _ R.4) in mark-room SG _ _ (first_fits _ _ _ _ _ _ _ L)
 
 pub show_item-show_group-requires : goal.show_item-show_group-requires
 unfolding group_of takes
-show_item-show_group-requires t c = let a = c.args in let R = c.requires.1 in let t = a.table.now in let b = a.bytes.now in let I = inner_of lax t a.levels in let es = enums t in let sw = width_of t a.depth in let S = static_of lax t a.levels a.depth in let e = c.in-Static.is in let L = opened _ _ _ _ _ _ _ (item-static I S es b a.at a.kind _ e) (begun _ _ _ R.4) in
+show_item-show_group-requires t c = let a = c.args in let R = c.requires in let t = a.table.now in let b = a.bytes.now in let I = inner_of lax t a.levels in let es = enums t in let sw = width_of t a.depth in let S = static_of lax t a.levels a.depth in let e = c.in-Static.is in let L = opened _ _ _ _ _ _ _ (item-static I S es b a.at a.kind _ e) (begun _ _ _ R.4) in
     let w = wide-static sw es a.kind _ e in
     let q = and_both (leb 1 (sw _)) (shallow (schema t) a.depth _) (sym (kind-static sw es a.kind (shallow (schema t) a.depth) _ e) ∙ R.3) in
     (search rules, (R.0, R.1, (omega (arith, w, R.2), static-inside (schema t) a.depth _ q.0, q.1), (called _ _ _ _ _ _ _ L _ _ (shown-mark SG _ is-SG _ _ _ _ c.show_mark-next.ensures.0 c.show_mark-next.ensures.1)).fits))
 
 pub show_item-read_u32-requires-in-Dynamic : goal.show_item-read_u32-requires-in-Dynamic
-show_item-read_u32-requires-in-Dynamic t c = let a = c.args in let R = c.requires.1 in let t = a.table.now in let es = enums t in let sw = width_of t a.depth in omega (arith, wide-dynamic sw es a.kind _ c.in-Dynamic.is, R.2)
+show_item-read_u32-requires-in-Dynamic t c = let a = c.args in let R = c.requires in let t = a.table.now in let es = enums t in let sw = width_of t a.depth in omega (arith, wide-dynamic sw es a.kind _ c.in-Dynamic.is, R.2)
 
 pub show_item-show_nested-requires : goal.show_item-show_nested-requires
-show_item-show_nested-requires t c = let a = c.args in let R = c.requires.1 in let t = a.table.now in let b = a.bytes.now in let I = inner_of lax t a.levels in let es = enums t in let S = static_of lax t a.levels a.depth in let e = c.in-Dynamic.is in let ip = ap (λ (n : ℕ). a.at + n) c.read_u32-in-Dynamic.ensures.0 in
+show_item-show_nested-requires t c = let a = c.args in let R = c.requires in let t = a.table.now in let b = a.bytes.now in let I = inner_of lax t a.levels in let es = enums t in let S = static_of lax t a.levels a.depth in let e = c.in-Dynamic.is in let ip = ap (λ (n : ℕ). a.at + n) c.read_u32-in-Dynamic.ensures.0 in
     (search rules, (R.0, R.1, group-inside I S es b a.at a.kind _ _ ip refl _ e _ R.4.reads, fits-opens _ _ _ _ (item-group I S es b a.at a.kind _ _ ip refl _ e) R.4))
 
 pub show_item-returns-in-Plain : goal.show_item-returns-in-Plain
-show_item-returns-in-Plain t c = let a = c.args in let R = c.requires.1 in let t = a.table.now in let b = a.bytes.now in let I = inner_of lax t a.levels in let es = enums t in let sw = width_of t a.depth in let S = static_of lax t a.levels a.depth in let e = c.in-Plain.is ∙ ap Plain (sym c.wide.ensures.0) in let h : a.at + c.wide.result ≤ length b = omega (arith, wide-plain sw es a.kind _ e, R.2) in
+show_item-returns-in-Plain t c = let a = c.args in let R = c.requires in let t = a.table.now in let b = a.bytes.now in let I = inner_of lax t a.levels in let es = enums t in let sw = width_of t a.depth in let S = static_of lax t a.levels a.depth in let e = c.in-Plain.is ∙ ap Plain (sym c.wide.ensures.0) in let h : a.at + c.wide.result ≤ length b = omega (arith, wide-plain sw es a.kind _ e, R.2) in
     shown-opens _ _ _ _ _ _ (item-plain I S es b a.at a.kind _ e) (shown-bytes VA _ is-VA _ _ _ _ _ _ b h c.show_bytes.ensures.0 c.show_bytes.ensures.1)
 
 pub show_item-returns-in-Number : goal.show_item-returns-in-Number
-show_item-returns-in-Number t c = let a = c.args in let R = c.requires.1 in let t = a.table.now in let b = a.bytes.now in let I = inner_of lax t a.levels in let es = enums t in let sw = width_of t a.depth in let S = static_of lax t a.levels a.depth in let e = c.in-Number.is in let iw = c.wide-width.ensures.0 ∙ c.tested_width.ensures es sw in let h : a.at + c.wide-width.result ≤ length b = omega (arith, wide-number sw es a.kind _ e, iw, R.2) in
+show_item-returns-in-Number t c = let a = c.args in let R = c.requires in let t = a.table.now in let b = a.bytes.now in let I = inner_of lax t a.levels in let es = enums t in let sw = width_of t a.depth in let S = static_of lax t a.levels a.depth in let e = c.in-Number.is in let iw = c.wide-width.ensures.0 ∙ c.tested_width.ensures es sw in let h : a.at + c.wide-width.result ≤ length b = omega (arith, wide-number sw es a.kind _ e, iw, R.2) in
     shown-opens _ _ _ _ _ _ (item-number I S es b a.at a.kind sw _ _ e iw) (shown-bytes VA _ is-VA _ _ _ _ _ _ b h c.show_bytes-in-Number.ensures.0 c.show_bytes-in-Number.ensures.1)
 
 pub show_item-returns-in-Inline : goal.show_item-returns-in-Inline
-show_item-returns-in-Inline t c = let a = c.args in let R = c.requires.1 in let t = a.table.now in let b = a.bytes.now in let I = inner_of lax t a.levels in let es = enums t in let sw = width_of t a.depth in let S = static_of lax t a.levels a.depth in let e = c.in-Inline.is in let o = item-inline I S es b a.at a.kind _ _ e in
+show_item-returns-in-Inline t c = let a = c.args in let R = c.requires in let t = a.table.now in let b = a.bytes.now in let I = inner_of lax t a.levels in let es = enums t in let sw = width_of t a.depth in let S = static_of lax t a.levels a.depth in let e = c.in-Inline.is in let o = item-inline I S es b a.at a.kind _ _ e in
     let h : a.at + 1 + byte a.at b ≤ length b = omega (arith, wide-inline sw es a.kind _ _ e, inline-count ST b a.at _ _ _ (o _ R.4.reads), R.2) in
     shown-opens _ _ _ _ _ _ (λ s r. marked-inline ST b a.at _ _ s (o s r)) (shown-just _ _ _ _ _ _ c.show_inline.ensures.0 (inline-length (byte a.at b) a.at b h) c.show_inline.ensures.1)
 
 pub show_item-returns-in-Indirect : goal.show_item-returns-in-Indirect
-show_item-returns-in-Indirect t c = let a = c.args in let R = c.requires.1 in let t = a.table.now in let b = a.bytes.now in let I = inner_of lax t a.levels in let es = enums t in let S = static_of lax t a.levels a.depth in let e = c.in-Indirect.is in let ip = ap (λ (n : ℕ). a.at + n) c.read_u32.ensures.0 in
+show_item-returns-in-Indirect t c = let a = c.args in let R = c.requires in let t = a.table.now in let b = a.bytes.now in let I = inner_of lax t a.levels in let es = enums t in let S = static_of lax t a.levels a.depth in let e = c.in-Indirect.is in let ip = ap (λ (n : ℕ). a.at + n) c.read_u32.ensures.0 in
     let n = c.read_u32-count.ensures.0 in let h = text-inside I S es b a.at a.kind _ _ ip n _ e _ R.4.reads in
     shown-opens _ _ _ _ _ _ (item-text I S es b a.at a.kind _ _ ip n _ e) (shown-bytes ST _ is-ST _ _ _ _ _ _ b h c.show_bytes-in-Indirect.ensures.0 c.show_bytes-in-Indirect.ensures.1)
 
 pub show_item-returns-in-Static : goal.show_item-returns-in-Static
 unfolding group_of
-show_item-returns-in-Static t c = let a = c.args in let R = c.requires.1 in let t = a.table.now in let b = a.bytes.now in let I = inner_of lax t a.levels in let es = enums t in let S = static_of lax t a.levels a.depth in let e = c.in-Static.is in let L = opened _ _ _ _ _ _ _ (item-static I S es b a.at a.kind _ e) (begun _ _ _ R.4) in (called _ _ _ _ _ _ _ L _ _ (shown-mark SG _ is-SG _ _ _ _ c.show_mark-next.ensures.0 c.show_mark-next.ensures.1)).whole _ _ c.show_group.ensures
+show_item-returns-in-Static t c = let a = c.args in let R = c.requires in let t = a.table.now in let b = a.bytes.now in let I = inner_of lax t a.levels in let es = enums t in let S = static_of lax t a.levels a.depth in let e = c.in-Static.is in let L = opened _ _ _ _ _ _ _ (item-static I S es b a.at a.kind _ e) (begun _ _ _ R.4) in (called _ _ _ _ _ _ _ L _ _ (shown-mark SG _ is-SG _ _ _ _ c.show_mark-next.ensures.0 c.show_mark-next.ensures.1)).whole _ _ c.show_group.ensures
 
 pub show_item-returns-in-Dynamic : goal.show_item-returns-in-Dynamic
 show_item-returns-in-Dynamic t c = let a = c.args in let t = a.table.now in let b = a.bytes.now in let I = inner_of lax t a.levels in let es = enums t in let S = static_of lax t a.levels a.depth in let e = c.in-Dynamic.is in let ip = ap (λ (n : ℕ). a.at + n) c.read_u32-in-Dynamic.ensures.0 in
     shown-opens _ _ _ _ _ _ (item-group I S es b a.at a.kind _ _ ip refl _ e) c.show_nested.ensures
 
 pub show_items-show_plain-requires : goal.show_items-show_plain-requires
-show_items-show_plain-requires t c = let a = c.args in let R = c.requires.1 in let t = a.table.now in let b = a.bytes.now in let I = inner_of lax t a.levels in let es = enums t in let sw = width_of t a.depth in let S = static_of lax t a.levels a.depth in let e = c.in-Plain.is ∙ ap Plain (sym c.wide.ensures.0) in let w = R.3 ∙ wide-plain sw es a.kind _ e in
+show_items-show_plain-requires t c = let a = c.args in let R = c.requires in let t = a.table.now in let b = a.bytes.now in let I = inner_of lax t a.levels in let es = enums t in let sw = width_of t a.depth in let S = static_of lax t a.levels a.depth in let e = c.in-Plain.is ∙ ap Plain (sym c.wide.ensures.0) in let w = R.3 ∙ wide-plain sw es a.kind _ e in
     (rw w at R.2, fits-opens _ _ _ _ (items-plain I S es b a.at a.kind sw _ _ _ e R.3) R.5)
 
 pub show_items-returns-in-Plain : goal.show_items-returns-in-Plain
-show_items-returns-in-Plain t c = let a = c.args in let R = c.requires.1 in let t = a.table.now in let b = a.bytes.now in let I = inner_of lax t a.levels in let es = enums t in let sw = width_of t a.depth in let S = static_of lax t a.levels a.depth in let e = c.in-Plain.is ∙ ap Plain (sym c.wide.ensures.0) in
+show_items-returns-in-Plain t c = let a = c.args in let R = c.requires in let t = a.table.now in let b = a.bytes.now in let I = inner_of lax t a.levels in let es = enums t in let sw = width_of t a.depth in let S = static_of lax t a.levels a.depth in let e = c.in-Plain.is ∙ ap Plain (sym c.wide.ensures.0) in
     shown-opens _ _ _ _ _ _ (items-plain I S es b a.at a.kind sw _ _ _ e R.3) c.show_plain.ensures
 
 pub show_items-loop-i-init : goal.show_items-loop-i-init
-show_items-loop-i-init t c = let a = c.args in let R = c.requires.1 in (search rules, search rules, rw (sub-zero a.total) R.2, rw (sub-zero a.total) (begun _ _ _ R.5))
+show_items-loop-i-init t c = let a = c.args in let R = c.requires in (search rules, search rules, rw (sub-zero a.total) R.2, rw (sub-zero a.total) (begun _ _ _ R.5))
 
 pub show_items-show_item-next-requires : goal.show_items-show_item-next-requires
-show_items-show_item-next-requires t c = let a = c.args in let R = c.requires.1 in let i = c.loop-i.invariant in let l = c.loop-i-test.true in
+show_items-show_item-next-requires t c = let a = c.args in let R = c.requires in let i = c.loop-i.invariant in let l = c.loop-i-test.true in
     (search rules, (R.0, R.1, omega (arith, items_left a.total c.loop-i.i a.width l, i.2, R.3), R.4, item-fits _ _ _ _ _ _ _ _ _ _ _ i.3 l))
 
 pub show_items-overflow_add-place : goal.show_items-overflow_add-place
-show_items-overflow_add-place t c = let a = c.args in let R = c.requires.1 in let i = c.loop-i.invariant in omega (arith, items_left a.total c.loop-i.i a.width c.loop-i-test.true, i.2, R.1)
+show_items-overflow_add-place t c = let a = c.args in let R = c.requires in let i = c.loop-i.invariant in omega (arith, items_left a.total c.loop-i.i a.width c.loop-i-test.true, i.2, R.1)
 
 pub show_items-loop-i-preserved : goal.show_items-loop-i-preserved
 show_items-loop-i-preserved t c = let a = c.args in let i = c.loop-i.invariant in let l = c.loop-i-test.true in
@@ -343,11 +351,11 @@ pub show_items-returns : goal.show_items-returns
 show_items-returns t c = items-done _ _ _ _ _ _ _ _ _ _ _ c.loop-i.invariant.3 c.loop-i-test.false
 
 pub show_nested-show_mark-next-requires : goal.show_nested-show_mark-next-requires
-show_nested-show_mark-next-requires t c = let a = c.args in let R = c.requires.1 in let t = a.table.now in let b = a.bytes.now in let L = opened _ _ _ _ _ _ _ (marked-inner GB b a.place t a.levels a.allowed _) (begun _ _ _ R.3) in mark-room GB _ _ (first_fits _ _ _ _ _ _ _ L)
+show_nested-show_mark-next-requires t c = let a = c.args in let R = c.requires in let t = a.table.now in let b = a.bytes.now in let L = opened _ _ _ _ _ _ _ (marked-inner GB b a.place t a.levels a.allowed _) (begun _ _ _ R.3) in mark-room GB _ _ (first_fits _ _ _ _ _ _ _ L)
 
 pub show_nested-show_group-requires : goal.show_nested-show_group-requires
 unfolding group_of takes
-show_nested-show_group-requires t c = let a = c.args in let R = c.requires.1 in let t = a.table.now in let b = a.bytes.now in let L = opened _ _ _ _ _ _ _ (marked-inner GB b a.place t a.levels a.allowed _) (begun _ _ _ R.3) in let m : a.place + (4 + c.read_u32.result) - a.place ≡ 4 + word a.place b = add-sub_cancel_left a.place _ ∙ ap (λ (n : ℕ). 4 + n) c.read_u32.ensures.0 in
+show_nested-show_group-requires t c = let a = c.args in let R = c.requires in let t = a.table.now in let b = a.bytes.now in let L = opened _ _ _ _ _ _ _ (marked-inner GB b a.place t a.levels a.allowed _) (begun _ _ _ R.3) in let m : a.place + (4 + c.read_u32.result) - a.place ≡ 4 + word a.place b = add-sub_cancel_left a.place _ ∙ ap (λ (n : ℕ). 4 + n) c.read_u32.ensures.0 in
     (search rules, (R.0, search rules, (refl, refl), rw m (called _ _ _ _ _ _ _ L _ _ (shown-mark GB _ is-GB _ _ _ _ c.show_mark-next.ensures.0 c.show_mark-next.ensures.1)).fits))
 
 pub show_nested-returns : goal.show_nested-returns
@@ -357,25 +365,31 @@ show_nested-returns t c = let a = c.args in let t = a.table.now in let b = a.byt
 
 pub show_value-read_u32-requires : goal.show_value-read_u32-requires
 show_value-read_u32-requires t c = let a = c.args in let t = a.table.now in let es = enums t in
-    omega (arith, width-sequence (width_of t a.depth) (field_at es (drop a.field t)) (sym (c.is_sequence.ensures es) ∙ c.if-is_sequence.true), c.requires.1.3)
+    omega (arith, width-sequence (width_of t a.depth) (field_at es (drop a.field t)) (sym (c.is_sequence.ensures es) ∙ c.if-is_sequence.true), c.requires.3)
 
 pub show_value-read_u32-total-requires : goal.show_value-read_u32-total-requires
-show_value-read_u32-total-requires t c = let a = c.args in let R = c.requires.1 in let t = a.table.now in let b = a.bytes.now in let I = inner_of lax t a.levels in let es = enums t in let sw = width_of t a.depth in let S = static_of lax t a.levels a.depth in let f = field_at es (drop a.field t) in let k = c.kind_at-kind.ensures es in let o = sym (c.is_sequence.ensures es) ∙ c.if-is_sequence.true in
+show_value-read_u32-total-requires t c = let a = c.args in let R = c.requires in let t = a.table.now in let b = a.bytes.now in let I = inner_of lax t a.levels in let es = enums t in let sw = width_of t a.depth in let S = static_of lax t a.levels a.depth in let f = field_at es (drop a.field t) in let k = c.kind_at-kind.ensures es in let o = sym (c.is_sequence.ensures es) ∙ c.if-is_sequence.true in
     let iw = c.kind_width-width.ensures.0 es ∙ wide-kind t a.index.now R.0 a.depth _ (rw (sym k) at R.4) in let ip = ap (λ (n : ℕ). a.at + n) c.read_u32.ensures.0 in
     omega (arith, sequence-inside I sw S f b a.at _ k o _ iw _ _ ip refl _ R.5.reads)
 
 pub show_value-show_bytes-next-requires : goal.show_value-show_bytes-next-requires
-show_value-show_bytes-next-requires t c = let a = c.args in let R = c.requires.1 in let t = a.table.now in let b = a.bytes.now in let I = inner_of lax t a.levels in let es = enums t in let sw = width_of t a.depth in let S = static_of lax t a.levels a.depth in let f = field_at es (drop a.field t) in let k = c.kind_at-kind.ensures es in let o = sym (c.is_sequence.ensures es) ∙ c.if-is_sequence.true in
+show_value-show_bytes-next-requires t c = let a = c.args in let R = c.requires in let t = a.table.now in let b = a.bytes.now in let I = inner_of lax t a.levels in let es = enums t in let sw = width_of t a.depth in let S = static_of lax t a.levels a.depth in let f = field_at es (drop a.field t) in let k = c.kind_at-kind.ensures es in let o = sym (c.is_sequence.ensures es) ∙ c.if-is_sequence.true in
     let iw = c.kind_width-width.ensures.0 es ∙ wide-kind t a.index.now R.0 a.depth _ (rw (sym k) at R.4) in let ip = ap (λ (n : ℕ). a.at + n) c.read_u32.ensures.0 in let n = c.read_u32-total.ensures.0 in
     let h : a.at + c.read_u32.result + 4 ≤ length b = omega (arith, sequence-inside I sw S f b a.at _ k o _ iw _ _ ip n _ R.5.reads) in
     (omega (arith, h), bytes-room SQ _ _ 4 _ b h (first_fits _ _ _ _ _ _ _ (opened _ _ _ _ _ _ _ (sequence-opens I sw S f b a.at _ k o _ iw _ _ ip n) (begun _ _ _ R.5))))
 
 pub show_value-show_items-requires : goal.show_value-show_items-requires
-show_value-show_items-requires t c = let v = show-value-items t c in let a = c.args in let R = c.requires.1 in let t = a.table.now in let d = rw (sym (c.kind_at-kind.ensures (enums t))) at R.4 in
-    (search rules, (R.0, R.1, v.0, c.kind_width-width.ensures.0 (enums t) ∙ wide-kind t a.index.now R.0 a.depth _ d, d, v.1.fits))
-
-pub show_value-shape_of-out : goal.show_value-shape_of-out
-show_value-shape_of-out t c = ⊎_elim (λ w. let e = ap length w.7 in search rules) (λ w. let e = ap length w.1 in search rules) c.if-is_sequence.branch
+show_value-show_items-requires t c = let a = c.args in let R = c.requires in let t = a.table.now in let es = enums t in let k = c.kind_at-kind.ensures es in let d = rw (sym k) at R.4 in let iw = c.kind_width-width.ensures.0 es ∙ wide-kind t a.index.now R.0 a.depth _ d in let o = sym (c.is_sequence.ensures es) in
+    let v = value-items t a.bytes.now a.levels a.depth a.field a.at c.kind_at-kind.result c.kind_width-width.result c.if-is_sequence.total c.if-is_sequence.start c.if-is_sequence.next a.pos a.out.now c.if-is_sequence.out k iw R.3 R.5 (elim c.if-is_sequence.branch [
+      | show_value-then-is_sequence w ↦ inl (o ∙ w.if-is_sequence.true, _, ap (λ (n : ℕ). a.at + n) w.read_u32.ensures.0, w.total-is ∙ w.read_u32-total.ensures.0, w.start-is, w.out-is ∙ w.show_bytes-next.ensures.0, w.next-is ∙ w.show_bytes-next.ensures.1)
+      | show_value-else-is_sequence w ↦ inr (o ∙ w.if-is_sequence.false, w.total-is, w.start-is, w.out-is, w.next-is)
+    ]) in
+    (search rules, (R.0, R.1, v.0, iw, d, v.1.fits))
 
 pub show_value-returns : goal.show_value-returns
-show_value-returns t c = (show-value-items t c).1.whole _ _ c.show_items.ensures
+show_value-returns t c = let a = c.args in let R = c.requires in let t = a.table.now in let es = enums t in let k = c.kind_at-kind.ensures es in let d = rw (sym k) at R.4 in let iw = c.kind_width-width.ensures.0 es ∙ wide-kind t a.index.now R.0 a.depth _ d in let o = sym (c.is_sequence.ensures es) in
+    let v = value-items t a.bytes.now a.levels a.depth a.field a.at c.kind_at-kind.result c.kind_width-width.result c.if-is_sequence.total c.if-is_sequence.start c.if-is_sequence.next a.pos a.out.now c.if-is_sequence.out k iw R.3 R.5 (elim c.if-is_sequence.branch [
+      | show_value-then-is_sequence w ↦ inl (o ∙ w.if-is_sequence.true, _, ap (λ (n : ℕ). a.at + n) w.read_u32.ensures.0, w.total-is ∙ w.read_u32-total.ensures.0, w.start-is, w.out-is ∙ w.show_bytes-next.ensures.0, w.next-is ∙ w.show_bytes-next.ensures.1)
+      | show_value-else-is_sequence w ↦ inr (o ∙ w.if-is_sequence.false, w.total-is, w.start-is, w.out-is, w.next-is)
+    ]) in
+    v.1.whole _ _ c.show_items.ensures

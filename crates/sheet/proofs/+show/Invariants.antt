@@ -1,27 +1,14 @@
-use Prim.Native.Nat.{◌+◌, ◌-◌, ◌*◌, ◌<◌, ◌≤◌}
-use native.Mathlib.Omega.{arith}
-use native.Mathlib.Nat.{add-sub_cancel_left, sub-zero}
-use mathlib.Core.Path.{◌≡◌, sym, ◌∙◌, refl, ap}
+use Prim.Native.Nat.{◌+◌, ◌-◌, ◌*◌, ◌≤◌}
+use mathlib.Core.Path.{◌≡◌}
 use mathlib.Core.Bool.{true}
-use mathlib.Core.Logic.{⊎_elim}
 use lib.ListN.{length, drop}
-use lib.Dec.{leb}
-use Rattle.schema.specs.Schema.{kind_width, value_width, fields_width, shallow_fields, shallow}
-use Rattle.schema.specs.Table.{field_at, fields_at, enums, schema}
-use Rattle.schema.proofs.Records.{fields-more}
-use Rattle.schema.proofs.Types.{plain-is, width-sequence, width_one, width-optional, width-required}
-use Rattle.schema.proofs.Groups.{static-inside, placed-inside}
-use Rattle.schema.proofs.Depth.{and_both, shallow-some, width-cons, shallow-cons, wide-kind, wide-field}
-use Rattle.message.specs.Sheet.{VA, ST, SG, SQ, GB, XT, XU, NO, GE}
-use Rattle.schema.specs.declared.FieldKind.TheVariants.{Plain}
+use Rattle.schema.specs.Schema.{fields_width, shallow_fields, shallow}
+use Rattle.schema.specs.Table.{fields_at, enums, schema}
 use Rattle.settings.specs.Store.{lax}
-use Rattle.message.specs.Walk.{byte, word, here, items_r, fields_r}
+use Rattle.message.specs.Walk.{items_r, fields_r}
 use Rattle.message.specs.Check.{inner_of, width_of, static_of}
-use Rattle.message.proofs.CheckFields.{plain-wide, items_left, wide-number, wide-inline, wide-indirect, wide-static, wide-dynamic, kind-static, start-inside, start-static, start-width, start-shallow}
-use Rattle.sheet.specs.Show.{passage, just, then, item_of, value_of, field_of, extension_of, extending_of, group_of, takes, end_of}
-use Rattle.sheet.proofs.ShowLaws.{Opens, Left, begun, opened, first_fits, called, fits-opens, shown-opens, shown-none, shown-just, shown-mark, shown-bytes, mark-room, bytes-room, just-room, alike, shown-then}
-use Rattle.sheet.proofs.ShowReaders.{is-VA, is-ST, is-SG, is-SQ, is-GB, is-XT, is-XU, marked-inline, inline-count, inline-length, marked-inner, item-fits, items-next, items-done, field_fits, fields-next, fields-done, field_plain, field-absent, field-present, field-always, value-item, sequence-inside, sequence-opens, wide-plain, item-plain, item-number, item-inline, item-static, item-text, text-inside, item-group, group-inside, items-plain, extension-none, extension-inside, extension-empty, extension-some, extending-inside, extending-known, extending-kept, end_whole, end-fields, head-whole, group-parts, Readable, group-readable}
-use Prim.Native.Nat.{ℕ}
+use Rattle.sheet.specs.Show.{passage, item_of, extending_of, takes}
+use Rattle.sheet.proofs.ShowLaws.{Left}
 use Rattle.sheet.proofs.+show.Given as goal
 
 abbrev pub decreases-close_group : goal.decreases-close_group

@@ -1,14 +1,11 @@
-use Prim.Native.Nat.{◌+◌, ◌-◌, ◌*◌, ◌≤◌}
-use mathlib.Core.Path.{◌≡◌}
+use Prim.Native.Nat.{◌+◌, ◌≤◌}
 use native.Mathlib.Omega.{arith}
 use native.Mathlib.Nat.{sub-zero}
 use lib.ListN.{length}
 use Rattle.schema.specs.Schema.{any}
 use Rattle.message.specs.Sheet.{VA}
-use Rattle.message.specs.Walk.{items_r}
 use Rattle.message.proofs.CheckFields.{items_left}
-use Rattle.sheet.specs.Show.{passage, plain_of}
-use Rattle.sheet.proofs.ShowLaws.{Left, begun, fits-opens, shown-opens, shown-bytes, bytes-room}
+use Rattle.sheet.proofs.ShowLaws.{begun, fits-opens, shown-opens, shown-bytes, bytes-room}
 use Rattle.sheet.proofs.ShowReaders.{is-VA, marked-plain, item-fits, items-next, items-done}
 use borrow.Author.Rules.{rules}
 use Rattle.sheet.proofs.show_plain.Goals as goal

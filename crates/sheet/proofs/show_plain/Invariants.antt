@@ -1,15 +1,9 @@
 use Prim.Native.Nat.{◌+◌, ◌-◌, ◌*◌, ◌≤◌}
 use mathlib.Core.Path.{◌≡◌}
-use native.Mathlib.Omega.{arith}
-use native.Mathlib.Nat.{sub-zero}
 use lib.ListN.{length}
-use Rattle.schema.specs.Schema.{any}
-use Rattle.message.specs.Sheet.{VA}
 use Rattle.message.specs.Walk.{items_r}
-use Rattle.message.proofs.CheckFields.{items_left}
 use Rattle.sheet.specs.Show.{passage, plain_of}
-use Rattle.sheet.proofs.ShowLaws.{Left, begun, fits-opens, shown-opens, shown-bytes, bytes-room}
-use Rattle.sheet.proofs.ShowReaders.{is-VA, marked-plain, item-fits, items-next, items-done}
+use Rattle.sheet.proofs.ShowLaws.{Left}
 use Rattle.sheet.proofs.show_plain.Given as goal
 
 abbrev pub invariant-loop-i : goal.invariant-loop-i

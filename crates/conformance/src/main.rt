@@ -13,6 +13,8 @@ ghost use Rattle.conformance.specs.Vectors.{held_after, writes, fill_after};
 
 use ledger::Entered;
 use record::Record;
+use std::fs::File;
+use std::os::fd::AsRawFd;
 
 // A file has fewer records than this.
 const MOST: usize = 100000;
@@ -515,26 +517,22 @@ fn answer_all(fd: i32) {
     }
 }
 
-fn answer_file(name: &[u8]) {
-    let fd = os::open_read(name);
-    if fd < 0 {
-        os::fail(name);
-        return;
-    }
-    answer_all(fd);
-    libc::close(fd);
+fn answer_file(rt: &HostRuntime, name: &str) -> std::io::Result<()> {
+    let file = File::open(rt, name)?;
+    answer_all(file.as_raw_fd());
+    Ok(())
 }
 
-fn main() {
-    answer_file(b"table.vec");
-    answer_file(b"check.vec");
-    answer_file(b"sheet.vec");
-    answer_file(b"write.vec");
-    answer_file(b"rewrite.vec");
-    answer_file(b"number.vec");
-    answer_file(b"bytes.vec");
-    answer_file(b"store.vec");
-    answer_file(b"settings.vec");
-    answer_file(b"tape.vec");
-    answer_file(b"ledger.vec");
+fn main(rt: HostRuntime) -> std::io::Result<()> {
+    answer_file(&rt, "table.vec")?;
+    answer_file(&rt, "check.vec")?;
+    answer_file(&rt, "sheet.vec")?;
+    answer_file(&rt, "write.vec")?;
+    answer_file(&rt, "rewrite.vec")?;
+    answer_file(&rt, "number.vec")?;
+    answer_file(&rt, "bytes.vec")?;
+    answer_file(&rt, "store.vec")?;
+    answer_file(&rt, "settings.vec")?;
+    answer_file(&rt, "tape.vec")?;
+    answer_file(&rt, "ledger.vec")
 }

@@ -3,8 +3,9 @@ ghost use Rattle.std.specs.Prelude.{◌≡◌};
 
 use codec::{FieldShape, Number, Setting, Span, Verdict, Written};
 use ledger::Entered;
-use libc::STDOUT_FILENO;
 use tape::{Answer, Step};
+
+const STDOUT_FILENO: i32 = 1;
 
 pub fn number(n: usize) {
     io::print_decimal(STDOUT_FILENO, n as u64);

@@ -1,0 +1,5 @@
+
+use Rattle.rows.proofs.field_size.Goals as goal
+
+pub returns : goal.returns
+returns c = c.byte_at.ensures

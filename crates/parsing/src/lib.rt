@@ -3,6 +3,8 @@
 // The sheet is read record by record, in document 01's order, and nothing is written. How many bytes
 // a group's fields take is known from the table, so only what goes into data areas is counted. `pos`
 // is where the next record begins in the sheet, and functions count on from `before`.
+#![tactic(auto)]
+
 ghost use Rattle.std.specs.Prelude.{◌≡◌, true, ◌&&◌, List, ℕ, ◌+◌, ◌<◌, ◌≤◌, ◌^◌, length, drop};
 ghost use Rattle.wire.specs.Bytes.{part, same};
 ghost use Rattle.schema.specs.Schema.{inline, kind_width, shallow_kind, shallow};

@@ -45,7 +45,12 @@ pub fn is_lost(page: &Page) -> bool {
     page.bytes[LOST] == 1
 }
 
-fn send(to_errors: bool, mut output: Stdout, mut errors: Stderr, words: &[u8]) -> std::io::Result<()> {
+fn send(
+    to_errors: bool,
+    mut output: Stdout,
+    mut errors: Stderr,
+    words: &[u8],
+) -> std::io::Result<()> {
     if to_errors {
         return errors.write_all(words);
     }

@@ -4,6 +4,8 @@
 // from the writing that the caller has. A dynamic group is written into its own part of the output, so
 // that places count from its first byte: `at` is where bytes in place go, `free` is the first free place
 // of the data area, and `pos` is where the sheet goes on.
+#![tactic(auto)]
+
 ghost use Rattle.std.specs.Prelude.{◌≡◌, Bool, true, List, [], ◌∷◌, ◌++◌, ℕ, ◌+◌, ◌-◌, ◌*◌, ◌<◌, ◌≤◌, length, drop, replicate};
 ghost use Rattle.wire.specs.Bytes.{part, splice, bytes_of, le};
 ghost use Rattle.schema.specs.Schema.{kind_width, shallow_kind, shallow};

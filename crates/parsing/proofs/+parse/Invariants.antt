@@ -1,35 +1,15 @@
-use Prim.Native.Nat.{ℕ, ◌+◌, ◌-◌, ◌*◌, ◌≤◌, ◌<◌}
-use native.Mathlib.Omega.{arith}
-use native.Mathlib.Nat.{mul-le-mul_right}
-use mathlib.Core.Path.{◌≡◌, sym, ◌∙◌, refl, ap}
+use Prim.Native.Nat.{◌+◌, ◌-◌, ◌*◌, ◌≤◌}
+use mathlib.Core.Path.{◌≡◌}
 use mathlib.Core.Bool.{true}
-use mathlib.Core.Logic.{⊎_elim}
 use lib.ListN.{length, drop}
-use lib.Dec.{leb}
-use Rattle.wire.specs.Bytes.{part, same}
-use Rattle.schema.proofs.Types.{plain-is}
-use Rattle.schema.specs.Schema.{any, shallow_fields, shallow}
-use Rattle.schema.specs.Table.{field_at, fields_at, enums, schema}
-use Rattle.schema.specs.declared.FieldKind.TheVariants.{Plain}
-use Rattle.schema.proofs.Records.{fields-more}
-use Rattle.schema.proofs.Groups.{static-inside, placed-inside}
-use Rattle.schema.proofs.Depth.{and_both, shallow-some, shallow-cons, wide-kind}
+use Rattle.schema.specs.Schema.{shallow_fields, shallow}
+use Rattle.schema.specs.Table.{fields_at, enums, schema}
 use Rattle.message.specs.Check.{width_of}
-use Rattle.message.proofs.CheckFields.{kind-static, start-inside, start-shallow}
 use Rattle.sheet.specs.Written.{items_w, fields_w}
-use Rattle.sheet.specs.Writers.{inner_of, static_of, item_of, extending_of, extension_of}
-use Rattle.sheet.proofs.Widths.{wides-static}
-use Rattle.sheet.proofs.Writers.{items-one, field_plain, value-one, items-plain, items-text, start-static}
-use Rattle.sheet.proofs.ShowReaders.{is-VA, is-SG, is-SQ, is-XT, is-XU}
+use Rattle.sheet.specs.Writers.{inner_of, static_of, item_of, extending_of}
 use Rattle.parsing.specs.Count.{Count}
-use Rattle.parsing.specs.Parse.{Counts, end_w, group_of, close_of, Ready, Within}
-use Rattle.parsing.proofs.Answers.{ready, ready_at, count-as}
-use Rattle.parsing.proofs.Records.{record-inside, as-record}
-use Rattle.parsing.proofs.Values.{plain-bad, plain-good, any-passes}
-use Rattle.parsing.proofs.Fields.{absent-passes, field-there, sequence-bad, sequence-good, item-plain, item-number, item-inline, item-indirect, item-dynamic, static-bad, static-good}
-use Rattle.parsing.proofs.Groups.{extension-none, extension-bad, extension-empty, extension-some, extending-group}
-use Rattle.parsing.proofs.Loops.{then-passed, then-stopped, none_left, items-all, items-passed, items-stopped, items-end, fields-passed, fields-stopped, fields-end}
-use Rattle.parsing.proofs.Scopes.{weight, less-left}
+use Rattle.parsing.specs.Parse.{Counts, Ready}
+use Rattle.parsing.proofs.Scopes.{weight}
 use Rattle.parsing.proofs.+parse.Given as goal
 
 abbrev pub decreases-check_extending : goal.decreases-check_extending

@@ -1,12 +1,7 @@
 use mathlib.Core.Path.{refl}
-use Prim.Native.Nat.{◌-◌, ◌≤◌}
-use lib.ListN.{length}
 use Rattle.schema.specs.Schema.{any}
-use Rattle.sheet.specs.Written.{items_w}
 use Rattle.sheet.specs.Writers.{plain_of}
 use Rattle.sheet.proofs.ShowReaders.{is-VA}
-use Rattle.parsing.specs.Count.{Count}
-use Rattle.parsing.specs.Parse.{Counts}
 use Rattle.parsing.proofs.Answers.{ready_at}
 use Rattle.parsing.proofs.Records.{record-inside, as-record}
 use Rattle.parsing.proofs.Values.{plain-bad, plain-good, any-passes}

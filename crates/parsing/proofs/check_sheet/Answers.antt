@@ -1,3 +1,4 @@
+use Rattle.std.proofs.Common.{refl, arith}
 use Rattle.schema.specs.Table.{schema}
 use Rattle.parsing.specs.Parse.{group_of, Within}
 use Rattle.parsing.proofs.Groups.{sheet-long, sheet-more, sheet-whole, sheet-stopped}
@@ -5,6 +6,10 @@ use Rattle.parsing.proofs.check_sheet.Goals as goal
 
 pub returns-then-sheet-gt1048576 : goal.returns-then-sheet-gt1048576
 returns-then-sheet-gt1048576 c = sheet-long (schema c.args.table.now) c.args.sheet.now c.if-sheet-gt1048576.true
+
+pub check_group-group-requires : goal.check_group-group-requires
+unfolding Within
+check_group-group-requires c = (c.requires, record { small = omega arith; inside = omega arith; low = omega arith }, refl)
 
 pub returns-then-group-ne0 : goal.returns-then-group-ne0
 unfolding group_of

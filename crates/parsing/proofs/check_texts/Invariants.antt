@@ -3,8 +3,6 @@ use Rattle.sheet.specs.Written.{items_w}
 use Rattle.sheet.specs.Writers.{text_of}
 use Rattle.parsing.specs.Count.{Count}
 use Rattle.parsing.specs.Parse.{Counts, Ready}
-use Rattle.parsing.proofs.Answers.{ready}
-use Rattle.parsing.proofs.Loops.{items-all, items-passed, items-stopped, items-end}
 use Rattle.parsing.proofs.check_texts.Given as goal
 
 abbrev pub invariant-loop-i : goal.invariant-loop-i

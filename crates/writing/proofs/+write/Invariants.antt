@@ -1,36 +1,14 @@
 use Prim.Native.Nat.{◌+◌, ◌-◌, ◌*◌, ◌≤◌}
-use native.Mathlib.Omega.{arith}
-use native.Mathlib.Nat.{sub-zero}
-use mathlib.Core.Path.{◌≡◌, sym, ◌∙◌, refl, ap}
+use mathlib.Core.Path.{◌≡◌}
 use mathlib.Core.Bool.{true}
-use mathlib.Core.Logic.{⊎_elim}
-use mathlib.Core.List.{[]}
 use lib.ListN.{length, drop}
-use lib.Dec.{leb}
-use Rattle.wire.specs.Bytes.{part, le, bytes_of, same}
-use Rattle.wire.proofs.Laws.{length-bytes, length-splice}
-use Rattle.schema.proofs.Types.{plain-is}
-use Rattle.schema.specs.Schema.{shallow_kind, shallow_fields, shallow, kind_width, any}
-use Rattle.schema.specs.Table.{field_at, fields_at, enums, schema}
-use Rattle.schema.specs.FieldKinds.{kind_from}
-use Rattle.schema.specs.declared.FieldKind.TheVariants.{Plain}
-use Rattle.schema.proofs.Records.{fields-more}
-use Rattle.schema.proofs.Groups.{static-inside, placed-inside}
-use Rattle.schema.proofs.Depth.{and_both, shallow-some, shallow-cons, wide-kind, wide-field}
-use Rattle.message.specs.Sheet.{VA, kind_mark}
+use Rattle.schema.specs.Schema.{shallow_fields, shallow}
+use Rattle.schema.specs.Table.{fields_at, enums, schema}
 use Rattle.message.specs.Check.{width_of}
-use Rattle.message.proofs.CheckFields.{plain-wide, kind-static, start-inside, start-shallow}
-use Rattle.sheet.specs.Written.{indirect_w, list_b, items_w, fields_w}
-use Rattle.sheet.specs.Writers.{inner_of, static_of, kind_of, item_of, value_of, field_of, extending_of}
-use Rattle.sheet.proofs.Widths.{wide_is, Wides, wides-indirect, wides-marked, wides-kind, wides-field, wides-static, wides-extension}
-use Rattle.sheet.proofs.Writers.{field_plain, value-one, items-plain, items-text, start-static}
-use Rattle.sheet.proofs.ShowReaders.{is-XT, is-XU}
-use Rattle.writing.specs.Write.{Fits, group_of, place_of, Scoped}
-use Rattle.writing.proofs.Left.{Left, begun, opened, left-fits, finished, fits-opens, stands-opens}
-use Rattle.writing.proofs.Writers.{same-opens, marked-opens, marked-inside, in_place, plain-room, plain-stands, record-room, record-stands, inline-room, inline-stands, text-room, text-stands, list-room, list_left, one_left, item-fits, items-next, items-done, field_fits, fields-next, fields-done, field-inside, absent-room, absent-stands, present-room, present-left, required-left, list-opens, kind-plain, kind-number, kind-inline, kind-fields, kind-dynamic, text-opens}
-use Rattle.writing.proofs.Groups.{extension-none, extension-some, extending-kept, extending-inner, extending-inside, nested-room, nested-fits, nested-end, nested-stands}
-use Rattle.writing.proofs.Scopes.{end-begins, end-room, whole-ends, fields-end, deep, has-head, goes}
-use Prim.Native.Nat.{ℕ, ◌<◌}
+use Rattle.sheet.specs.Written.{items_w, fields_w}
+use Rattle.sheet.specs.Writers.{inner_of, static_of, item_of, extending_of}
+use Rattle.writing.proofs.Left.{Left}
+use Rattle.writing.proofs.Scopes.{deep}
 use Rattle.writing.proofs.+write.Given as goal
 
 abbrev pub decreases-close_group : goal.decreases-close_group

@@ -1,16 +1,10 @@
-use Prim.Native.Nat.{ℕ, ◌+◌, ◌-◌, ◌≤◌}
-use mathlib.Core.Path.{◌≡◌, refl}
-use native.Mathlib.Omega.{arith}
-use native.Mathlib.Nat.{sub-zero}
+use Prim.Native.Nat.{ℕ, ◌-◌, ◌≤◌}
+use mathlib.Core.Path.{◌≡◌}
 use lib.ListN.{length, drop}
-use Rattle.schema.specs.Schema.{any}
-use Rattle.message.specs.Sheet.{VA}
 use Rattle.sheet.specs.Written.{items_w}
 use Rattle.sheet.specs.Writers.{plain_of}
-use Rattle.sheet.proofs.Widths.{wides-plain, wides-marked}
 use Rattle.writing.specs.Write.{Fits}
-use Rattle.writing.proofs.Left.{Left, begun}
-use Rattle.writing.proofs.Writers.{record-room, record-stands, item-fits, items-next, items-done}
+use Rattle.writing.proofs.Left.{Left}
 use Rattle.writing.proofs.write_plain.Given as goal
 
 abbrev pub invariant-loop-i : goal.invariant-loop-i

@@ -1,16 +1,11 @@
-use Prim.Native.Nat.{◌+◌, ◌-◌, ◌≤◌}
+use Prim.Native.Nat.{◌-◌, ◌≤◌}
 use mathlib.Core.Path.{◌≡◌}
 use mathlib.Core.Bool.{Bool}
-use native.Mathlib.Omega.{arith}
-use native.Mathlib.Nat.{sub-zero}
 use lib.ListN.{length, drop}
-use Rattle.message.specs.Sheet.{ST}
-use Rattle.sheet.specs.Written.{indirect_w, text_b, items_w}
+use Rattle.sheet.specs.Written.{items_w}
 use Rattle.sheet.specs.Writers.{text_of}
-use Rattle.sheet.proofs.Widths.{wides-indirect, wides-marked}
 use Rattle.writing.specs.Write.{Fits}
-use Rattle.writing.proofs.Left.{Left, begun}
-use Rattle.writing.proofs.Writers.{marked-inside, record-text, text-room, text-stands, item-fits, items-next, items-done}
+use Rattle.writing.proofs.Left.{Left}
 use Rattle.writing.proofs.write_texts.Given as goal
 
 abbrev pub invariant-loop-i : goal.invariant-loop-i

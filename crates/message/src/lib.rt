@@ -3,6 +3,8 @@
 // The check walks a message once, in the order of document 01, and keeps which bytes of a group are
 // taken by where the packed ones end and, for others, in the scratch that the caller lends. `index` is
 // that of crate `schema`. Functions count the sheet's length on from `before`, what comes before them.
+#![tactic(auto)]
+
 ghost use Rattle.std.specs.Prelude.{◌≡◌, ℕ, ◌+◌, ◌-◌, ◌*◌, ◌%◌, ◌^◌, ◌<◌, ◌≤◌, min, max, true, not, ◌&&◌, ◌||◌, List, [], length, drop, replicate, if◌then◌else◌, ◌==◌, ◌≢◌};
 ghost use Rattle.wire.specs.Bytes.{part, splice, all_zero};
 ghost use Rattle.schema.specs.Faults.{need};

@@ -1,15 +1,15 @@
-use Rattle.std.proofs.Common.{◌≡◌, ℕ, ◌+◌, ◌-◌, ◌*◌, ◌^◌, ◌<◌, ◌≤◌, true, leb, [], length, drop, sym, refl, ap, ◌∙◌, ⊎_elim, mul-le-mul_right, mul-one, arith, rules}
+use Rattle.std.proofs.Common.{◌≡◌, ℕ, ◌+◌, ◌-◌, leb, [], drop, sym, refl, ap, ◌∙◌, mul-le-mul_right, mul-one, arith, rules}
 use Rattle.message.specs.Sheet.{field_mark}
 use native.Mathlib.Nat.{add-sub_cancel_left, sub-zero}
-use Rattle.schema.specs.Schema.{fields_width, shallow_fields, shallow}
-use Rattle.schema.specs.Table.{field_at, fields_at, enums, schema}
+use Rattle.schema.specs.Schema.{shallow}
+use Rattle.schema.specs.Table.{field_at, enums, schema}
 use Rattle.schema.specs.Layout.{width_in}
 use Rattle.schema.specs.FieldKinds.{kind_from}
 use Rattle.schema.proofs.Records.{fields-more}
 use Rattle.schema.proofs.Types.{plain-is, width-sequence, width-optional}
 use Rattle.schema.proofs.Groups.{static-inside, placed-inside}
 use Rattle.schema.proofs.Depth.{and_both, shallow-some, width-cons, shallow-cons, wide-kind, wide_value, wide-field}
-use Rattle.message.specs.Walk.{byte, indirect_r, inner_r, items_r, fields_r, extending_r, value_r}
+use Rattle.message.specs.Walk.{byte, inner_r, extending_r, value_r}
 use Rattle.message.specs.Count.{count, counted}
 use Rattle.message.specs.Check.{levels_in, ignored_in, occupancy_of, closing, after, within, item_r, marked_value_r, inner_of, width_of, static_of}
 use Rattle.message.proofs.Count.{count-inner}
@@ -17,33 +17,31 @@ use Rattle.message.proofs.CheckAnswers.{refuses, counts, stays, goes_on, passed,
 use Rattle.message.proofs.CheckOccupancy.{retaken, pads-none}
 use Rattle.message.proofs.CheckFields.{leads-nowhere, leads-to, fields-passed, fields-stopped, fields-end, plain-wide, fields-plain, flag-wide, flag-unset, field-optional, field-set, ItemsAt, one-item, sequence-nowhere, sequence-items, items-passed, items-stopped, items-end, items_left, items-plain, items-indirect, items-number, item-plain, item-number, item-inline, item-indirect, item-static, item-dynamic, wide-number, wide-inline, wide-indirect, wide-static, wide-dynamic, kind-static, start-inside, start-static, start-width, start-shallow, ready}
 use Rattle.message.proofs.CheckGroups.{nested-passed, extension-zero, extension-nowhere, extension-empty, extension-some, extending-short, extending-known, extending-kept, rest_plain, closing-filled}
-use Rattle.message.proofs.CheckScopes.{weight, inside-falls, inside-long, inside-left, opens-begun, opens-refused, closes-dynamic, closes-static}
+use Rattle.message.proofs.CheckScopes.{inside-falls, inside-long, inside-left, opens-begun, opens-refused, closes-dynamic, closes-static}
+use Rattle.message.proofs.+walk.Goals.{check_value-Joined-is_sequence, check_value-then-is_sequence+in-At, check_value-else-is_sequence}
 use Rattle.message.proofs.+walk.Goals as goal
 
 -- where the ways meet: the items that the value is
-
-check-value-joined : (t : ℕ) (c : check-value-lts.Joined1 (check-value-claims t) (check-value-at t) check-value.Post)
-    → let s = c.before.before.before.before.before.before.before.before in let a = s.args in let t = a.table.now in let j = c.if1 in
-    (length j.occupied ≡ length a.bytes.now)
-    × ItemsAt c.before.before.kind-width.result (item_r (inner_of (ignored_in a.frame.rules) t (levels_in a.frame.rules)) (static_of (ignored_in a.frame.rules) t (levels_in a.frame.rules) a.depth) (kind_from (enums t) c.before.before.before.kind_at.result)) (within a.bytes.now a.frame)
+check-value-joined : (t : ℕ) (c : check_value-Joined-is_sequence t)
+    → let a = c.args in let t = a.table.now in let j = c.if-is_sequence in
+    ItemsAt c.kind_width-width.result (item_r (inner_of (ignored_in a.frame.rules) t (levels_in a.frame.rules)) (static_of (ignored_in a.frame.rules) t (levels_in a.frame.rules) a.depth) (kind_from (enums t) c.kind_at-kind.result)) (within a.bytes.now a.frame)
     (after a.before (count (marked_value_r (inner_of (ignored_in a.frame.rules) t (levels_in a.frame.rules)) (width_of t a.depth) (static_of (ignored_in a.frame.rules) t (levels_in a.frame.rules) a.depth) (field_at (enums t) (drop a.field t)) (within a.bytes.now a.frame) a.at (occupancy_of a.frame.area a.taken a.occupied.now))))
     j.total j.start j.length (occupancy_of a.frame.area j.holds j.occupied)
-check-value-joined t c = let s = c.before.before.before.before.before.before.before.before in let a = s.args in let t = a.table.now in
-    let k = c.before.before.before.kind_at.ensures (enums t) in
-    let w = c.before.before.kind-width in
-    let iw = w.ensures.0 (enums t) ∙ wide-kind t a.index.now s.requires.1.0.layout a.depth _ (rw (sym k) at s.requires.1.3) in
-    let q = c.before.is-sequence.ensures (enums t) in
-    ⊎_elim
-    (λ p. rw (p.9, p.10, p.11, p.12, p.13) (omega (arith, p.2.kept, s.requires.1.0.same), sequence-items _ _ _ _ _ _ _ _ k _ iw (sym q ∙ p.0.taken) _ _ p.2.ensures.0 a.before _ _ _ _ p.2.ensures.1 p.6.given.1 p.8.ensures))
-    (λ p. rw (p.1, p.2, p.3, p.4, p.5) (s.requires.1.0.same, one-item _ _ _ _ _ _ _ _ k _ iw a.before (sym q ∙ p.0.left) s.requires.1.2))
-    c.if1.branch
+check-value-joined t c = let a = c.args in let t = a.table.now in
+    let k = c.kind_at-kind.ensures (enums t) in
+    let iw = c.kind_width-width.ensures.0 (enums t) ∙ wide-kind t a.index.now c.requires.0.layout a.depth _ (rw (sym k) at c.requires.3) in
+    let q = c.is_sequence.ensures (enums t) in
+    elim c.if-is_sequence.branch [
+      | check_value-then-is_sequence+in-At w ↦ rw (w.occupied-is, w.total-is, w.start-is, w.holds-is, w.length-is) (sequence-items _ _ _ _ _ _ _ _ k _ iw (sym q ∙ w.if-is_sequence.true) _ _ w.locate-found.ensures.0 a.before _ _ _ _ w.locate-found.ensures.1 w.in-At.is w.longer-length.ensures)
+      | check_value-else-is_sequence w ↦ rw (w.occupied-is, w.total-is, w.start-is, w.holds-is, w.length-is) (one-item _ _ _ _ _ _ _ _ k _ iw a.before (sym q ∙ w.if-is_sequence.false) c.requires.2)
+    ]
 
 pub check_dynamic-overflow_add-count : goal.check_dynamic-overflow_add-count
 check_dynamic-overflow_add-count t c = omega (arith, rw mul-one at (c.locate-found.ensures.1.inside _ _ _ c.in-At.is))
 
 pub check_dynamic-check_nested-requires : goal.check_dynamic-check_nested-requires
 check_dynamic-check_nested-requires t c = let a = c.args in let g = c.in-At.is in let L = c.locate-found.ensures.1 in
-    (search rules, (ready _ _ _ _ _ _ c.requires.1.0 (search rules), rw mul-one at (L.inside _ _ _ g), rw mul-one at (L.taken _ _ _ g)))
+    (search rules, (ready _ _ _ _ _ _ c.requires.0 (search rules), rw mul-one at (L.inside _ _ _ g), rw mul-one at (L.taken _ _ _ g)))
 
 pub check_dynamic-returns-in-At : goal.check_dynamic-returns-in-At
 check_dynamic-returns-in-At t c = let a = c.args in let t = a.table.now in let I = inner_of (ignored_in a.frame.rules) t (levels_in a.frame.rules) in
@@ -53,7 +51,7 @@ pub check_dynamic-returns-in-Nowhere : goal.check_dynamic-returns-in-Nowhere
 check_dynamic-returns-in-Nowhere t c = let a = c.args in refuses _ _ _ _ _ (leads-nowhere 26 1 (inner_r (inner_of (ignored_in a.frame.rules) a.table.now (levels_in a.frame.rules)) a.allowed) (within a.bytes.now a.frame) a.at (occupancy_of a.frame.area a.taken a.occupied.now) _ _ c.locate-found.ensures.0 _ _ c.in-Nowhere.is)
 
 pub check_extending-overflow_add-result : goal.check_extending-overflow_add-result
-check_extending-overflow_add-result t c = omega (arith, c.locate-found.ensures.1.inside _ _ _ c.in-At.is, c.requires.1.0.small)
+check_extending-overflow_add-result t c = omega (arith, c.locate-found.ensures.1.inside _ _ _ c.in-At.is, c.requires.0.small)
 
 pub check_extending-returns-then-count-lt12 : goal.check_extending-returns-then-count-lt12
 check_extending-returns-then-count-lt12 t c = let a = c.args in refuses _ _ _ _ _ (extending-short (schema a.table.now) (inner_of (ignored_in a.frame.rules) a.table.now (levels_in a.frame.rules)) (within a.bytes.now a.frame) a.at (occupancy_of a.frame.area a.taken a.occupied.now) _ _ c.locate-found.ensures.0 _ _ _ c.in-At.is c.if-count-lt12.true)
@@ -69,7 +67,7 @@ check_extending-overflow_add-count t c = omega (arith, rw mul-one at (c.locate-f
 
 pub check_extending-check_nested-requires : goal.check_extending-check_nested-requires
 check_extending-check_nested-requires t c = let a = c.args in let g = c.in-At.is in let L = c.locate-found.ensures.1 in
-    (search rules, (ready _ _ _ _ _ _ c.requires.1.0 (omega (arith, c.locate-found.auto, c.requires.1.0.same)), rw mul-one at (L.inside _ _ _ g), rw mul-one at (L.taken _ _ _ g)))
+    (search rules, (ready _ _ _ _ _ _ c.requires.0 (omega (arith, c.locate-found.auto, c.requires.0.same)), rw mul-one at (L.inside _ _ _ g), rw mul-one at (L.taken _ _ _ g)))
 
 pub check_extending-returns-then-is_known : goal.check_extending-returns-then-is_known
 check_extending-returns-then-is_known t c = let a = c.args in
@@ -96,7 +94,7 @@ check_extension-overflow_add-place t c = omega (arith, c.locate-found.ensures.1.
 
 pub check_extension-check_groups-requires : goal.check_extension-check_groups-requires
 check_extension-check_groups-requires t c = let a = c.args in let q = c.locate-found.ensures.1.inside _ _ _ c.in-At.is in
-    (search rules, (ready _ _ _ _ _ _ c.requires.1.0 (search rules), omega (arith, q)))
+    (search rules, (ready _ _ _ _ _ _ c.requires.0 (search rules), omega (arith, q)))
 
 pub check_extension-returns-else-count-eq0 : goal.check_extension-returns-else-count-eq0
 check_extension-returns-else-count-eq0 t c = let a = c.args in
@@ -107,28 +105,28 @@ check_extension-returns-in-Nowhere t c = let a = c.args in refuses _ _ _ _ _ (ex
 
 pub check_field-is_unset-requires : goal.check_field-is_unset-requires
 check_field-is_unset-requires t c = let a = c.args in let t = a.table.now in
-    λ e. let w = width-optional (width_of t a.depth) (field_at (enums t) (drop a.field t)) (sym (c.is_optional-optional.ensures (enums t)) ∙ e) in omega (arith, w, c.requires.1.2)
+    λ e. let w = width-optional (width_of t a.depth) (field_at (enums t) (drop a.field t)) (sym (c.is_optional-optional.ensures (enums t)) ∙ e) in omega (arith, w, c.requires.2)
 
 pub check_field-check_absent-requires : goal.check_field-check_absent-requires
 check_field-check_absent-requires t c = let a = c.args in let t = a.table.now in let u = flag-unset c.is_optional-optional.result (byte a.at a.bytes.now) (sym c.is_unset.ensures ∙ c.if-is_unset.true) in
     let w = width-optional (width_of t a.depth) (field_at (enums t) (drop a.field t)) (sym (c.is_optional-optional.ensures (enums t)) ∙ u.0) in
-    let v = c.value_width-width.ensures.0 (enums t) ∙ wide_value t a.index.now c.requires.1.0.layout a.depth _ c.requires.1.3 in
-    (u.1, omega (arith, w, v, c.requires.1.2), c.requires.1.0.small)
+    let v = c.value_width-width.ensures.0 (enums t) ∙ wide_value t a.index.now c.requires.0.layout a.depth _ c.requires.3 in
+    (u.1, omega (arith, w, v, c.requires.2), c.requires.0.small)
 
 pub check_field-returns-then-is_unset : goal.check_field-returns-then-is_unset
 check_field-returns-then-is_unset t c = let a = c.args in let t = a.table.now in let u = flag-unset c.is_optional-optional.result (byte a.at a.bytes.now) (sym c.is_unset.ensures ∙ c.if-is_unset.true) in
     let f = field_at (enums t) (drop a.field t) in let I = inner_of (ignored_in a.frame.rules) t (levels_in a.frame.rules) in let S = static_of (ignored_in a.frame.rules) t (levels_in a.frame.rules) a.depth in let sw = width_of t a.depth in
-    let v = c.value_width-width.ensures.0 (enums t) ∙ wide_value t a.index.now c.requires.1.0.layout a.depth _ c.requires.1.3 in
+    let v = c.value_width-width.ensures.0 (enums t) ∙ wide_value t a.index.now c.requires.0.layout a.depth _ c.requires.3 in
     rw v at (c.check_absent.ensures (field_mark f) (value_r I sw S f) (λ s. occupancy_of a.frame.area s a.occupied.now)) ∙ ap (λ x. after a.before (count x)) (sym (field-optional I sw S f (within a.bytes.now a.frame) a.at (occupancy_of a.frame.area a.taken a.occupied.now) (sym (c.is_optional-optional.ensures (enums t)) ∙ u.0)))
 
 pub check_field-overflow_add-at : goal.check_field-overflow_add-at
 check_field-overflow_add-at t c = let a = c.args in let t = a.table.now in
-    let w = flag-wide (width_of t a.depth) (field_at (enums t) (drop a.field t)) _ (c.is_optional-optional.ensures (enums t)) in omega (arith, w, c.flag_width.ensures, c.requires.1.2, c.requires.1.0.small)
+    let w = flag-wide (width_of t a.depth) (field_at (enums t) (drop a.field t)) _ (c.is_optional-optional.ensures (enums t)) in omega (arith, w, c.flag_width.ensures, c.requires.2, c.requires.0.small)
 
 pub check_field-check_value-requires : goal.check_field-check_value-requires
 check_field-check_value-requires t c = let a = c.args in let t = a.table.now in
     let w = flag-wide (width_of t a.depth) (field_at (enums t) (drop a.field t)) _ (c.is_optional-optional.ensures (enums t)) in
-    (search rules, (c.requires.1.0, c.requires.1.1, omega (arith, w, c.flag_width.ensures, c.requires.1.2), c.requires.1.3))
+    (search rules, (c.requires.0, c.requires.1, omega (arith, w, c.flag_width.ensures, c.requires.2), c.requires.3))
 
 pub check_field-returns : goal.check_field-returns
 check_field-returns t c = let a = c.args in let t = a.table.now in
@@ -136,13 +134,13 @@ check_field-returns t c = let a = c.args in let t = a.table.now in
     c.check_value.ensures ∙ ap (λ x. after a.before (count x)) (sym (field-set I sw S f (within a.bytes.now a.frame) a.at (occupancy_of a.frame.area a.taken a.occupied.now) c.is_optional-optional.result (c.is_optional-optional.ensures (enums t)) (sym c.is_unset.ensures ∙ c.if-is_unset.false) _ c.flag_width.ensures))
 
 pub check_fields-field_count-total-requires : goal.check_fields-field_count-total-requires
-check_fields-field_count-total-requires t c = let p = placed-inside _ _ _ c.requires.1.0.layout.placed _ c.requires.1.2 in omega (arith, p, c.group_place-start.ensures.0)
+check_fields-field_count-total-requires t c = let p = placed-inside _ _ _ c.requires.0.layout.placed _ c.requires.2 in omega (arith, p, c.group_place-start.ensures.0)
 
 pub check_fields-overflow_sub-deeper : goal.check_fields-overflow_sub-deeper
-check_fields-overflow_sub-deeper t c = omega (arith, shallow-some (schema c.args.table.now) _ _ c.requires.1.3)
+check_fields-overflow_sub-deeper t c = omega (arith, shallow-some (schema c.args.table.now) _ _ c.requires.3)
 
 pub check_fields-loop-i-init : goal.check_fields-loop-i-init
-check_fields-loop-i-init t c = let a = c.args in let r = c.requires.1 in let P = r.0.layout in
+check_fields-loop-i-init t c = let a = c.args in let r = c.requires in let P = r.0.layout in
     let d = shallow-some (schema a.table.now) a.depth a.group r.3 in
     let s = c.group_place-start.ensures.0 in let n = c.field_count-total.ensures.0 in
     let w = start-width a.table.now a.index.now P a.group r.2 _ _ s n a.depth d in (
@@ -174,14 +172,14 @@ pub check_fields-check_field-answer-requires : goal.check_fields-check_field-ans
 check_fields-check_field-answer-requires t c = let a = c.args in let i = c.loop-i.invariant in let t = a.table.now in
     let f = fields-more (enums t) t c.loop-i.field c.field_count-total.result c.loop-i.i c.loop-i-test.true in
     let w = width-cons (width_of t (a.depth - 1)) _ _ _ f in
-    (omega (arith, shallow-some (schema t) _ _ c.requires.1.3), (ready _ _ _ _ _ _ c.requires.1.0 (i.1 ∙ c.requires.1.0.same), omega (arith, i.2, c.loop-i-test.true), omega (arith, i.3, w), (shallow-cons _ _ _ _ _ f i.4).0))
+    (omega (arith, shallow-some (schema t) _ _ c.requires.3), (ready _ _ _ _ _ _ c.requires.0 (i.1 ∙ c.requires.0.same), omega (arith, i.2, c.loop-i-test.true), omega (arith, i.3, w), (shallow-cons _ _ _ _ _ f i.4).0))
 
 pub check_fields-returns-in-Refused : goal.check_fields-returns-in-Refused
 check_fields-returns-in-Refused t c = let a = c.args in let t = a.table.now in
     fields-stopped (inner_of (ignored_in a.frame.rules) t (levels_in a.frame.rules)) (width_of t (a.depth - 1)) (static_of (ignored_in a.frame.rules) t (levels_in a.frame.rules) (a.depth - 1)) (enums t) t (within a.bytes.now a.frame) c.field_count-total.result c.loop-i.i c.loop-i.field c.loop-i.place c.loop-i.length (occupancy_of a.frame.area c.loop-i.holds c.loop-i.occupied) _ _ c.check_field-answer.ensures c.loop-i-test.true _ _ _ c.in-Refused.is ∙ sym c.loop-i.invariant.6
 
 pub check_fields-overflow_add-place-in-loop-i : goal.check_fields-overflow_add-place-in-loop-i
-check_fields-overflow_add-place-in-loop-i t c = let a = c.args in let t = a.table.now in omega (arith, c.loop-i.invariant.3, c.field_width-width.ensures.1, c.requires.1.0.small)
+check_fields-overflow_add-place-in-loop-i t c = let a = c.args in let t = a.table.now in omega (arith, c.loop-i.invariant.3, c.field_width-width.ensures.1, c.requires.0.small)
 
 pub check_fields-loop-i-preserved : goal.check_fields-loop-i-preserved
 check_fields-loop-i-preserved t c = let a = c.args in let i = c.loop-i.invariant in let t = a.table.now in let l = c.loop-i-test.true in
@@ -189,7 +187,7 @@ check_fields-loop-i-preserved t c = let a = c.args in let i = c.loop-i.invariant
     let f = fields-more (enums t) t c.loop-i.field c.field_count-total.result c.loop-i.i l in
     let w = width-cons sw _ _ _ f in
     let q = shallow-cons _ _ _ _ _ f i.4 in
-    let v = c.field_width-width.ensures.0 (enums t) ∙ wide-field t a.index.now c.requires.1.0.layout (a.depth - 1) _ q.0 in (
+    let v = c.field_width-width.ensures.0 (enums t) ∙ wide-field t a.index.now c.requires.0.layout (a.depth - 1) _ q.0 in (
       search rules,
       search rules,
       omega (arith, i.2, l),
@@ -204,33 +202,33 @@ check_fields-returns t c = let a = c.args in let t = a.table.now in
     fields-end (inner_of (ignored_in a.frame.rules) t (levels_in a.frame.rules)) (width_of t (a.depth - 1)) (static_of (ignored_in a.frame.rules) t (levels_in a.frame.rules) (a.depth - 1)) (enums t) t (within a.bytes.now a.frame) c.field_count-total.result c.loop-i.i c.loop-i.field c.loop-i.place c.loop-i.length (occupancy_of a.frame.area c.loop-i.holds c.loop-i.occupied) _ _ refl c.loop-i-test.false c.loop-i.invariant.5 ∙ sym c.loop-i.invariant.6
 
 pub check_group-open_group-opening-requires : goal.check_group-open_group-opening-requires
-check_group-open_group-opening-requires t c = let R = c.requires.1.0 in (R.layout, R.small)
+check_group-open_group-opening-requires t c = let R = c.requires.0 in (R.layout, R.small)
 
 pub check_group-check_fields-fields-requires : goal.check_group-check_fields-fields-requires
-check_group-check_fields-fields-requires t c = let a = c.args in let F = c.requires.1.1 in let B = opens-begun _ _ _ _ a.outer a.depth a.at _ a.scope _ _ (c.open_group-opening.ensures a.occupied.now a.depth a.at c.requires.1.0 F) _ _ _ _ c.in-Begun.is in
+check_group-check_fields-fields-requires t c = let a = c.args in let F = c.requires.1 in let B = opens-begun _ _ _ _ a.outer a.depth a.at _ a.scope _ _ (c.open_group-opening.ensures a.occupied.now a.depth a.at c.requires.0 F) _ _ _ _ c.in-Begun.is in
     (omega (arith, inside-falls a.outer _ _ _ a.scope a.depth a.at F B.inside, c.requires.0), (B.ready, B.fits.0, B.fits.1, B.fits.2))
 
 pub check_group-close_group-requires : goal.check_group-close_group-requires
-check_group-close_group-requires t c = let a = c.args in let F = c.requires.1.1 in let B = opens-begun _ _ _ _ a.outer a.depth a.at _ a.scope _ _ (c.open_group-opening.ensures a.occupied.now a.depth a.at c.requires.1.0 F) _ _ _ _ c.in-Begun.is in
-    (omega (arith, inside-falls a.outer _ _ _ a.scope a.depth a.at F B.inside, c.requires.0), (ready _ _ _ _ _ _ B.ready (omega (arith, c.check_fields-fields.auto, c.requires.1.0.same)), inside-long a.outer _ a.scope B.inside _ B.ready.room))
+check_group-close_group-requires t c = let a = c.args in let F = c.requires.1 in let B = opens-begun _ _ _ _ a.outer a.depth a.at _ a.scope _ _ (c.open_group-opening.ensures a.occupied.now a.depth a.at c.requires.0 F) _ _ _ _ c.in-Begun.is in
+    (omega (arith, inside-falls a.outer _ _ _ a.scope a.depth a.at F B.inside, c.requires.0), (ready _ _ _ _ _ _ B.ready (omega (arith, c.check_fields-fields.auto, c.requires.0.same)), inside-long a.outer _ a.scope B.inside _ B.ready.room))
 
 pub check_group-returns-in-Counted : goal.check_group-returns-in-Counted
-check_group-returns-in-Counted t c = let a = c.args in let B = opens-begun _ _ _ _ a.outer a.depth a.at _ a.scope _ _ (c.open_group-opening.ensures a.occupied.now a.depth a.at c.requires.1.0 c.requires.1.1) _ _ _ _ c.in-Begun.is in
+check_group-returns-in-Counted t c = let a = c.args in let B = opens-begun _ _ _ _ a.outer a.depth a.at _ a.scope _ _ (c.open_group-opening.ensures a.occupied.now a.depth a.at c.requires.0 c.requires.1) _ _ _ _ c.in-Begun.is in
     inside-left a.outer _ a.scope B.inside _ _ ∙ c.close_group.ensures ∙ sym (B.counts ∙ passed _ _ _ _ c.check_fields-fields.ensures _ _ _ c.in-Counted.is)
 
 pub check_group-returns-in-Refused-fields : goal.check_group-returns-in-Refused-fields
-check_group-returns-in-Refused-fields t c = let a = c.args in let B = opens-begun _ _ _ _ a.outer a.depth a.at _ a.scope _ _ (c.open_group-opening.ensures a.occupied.now a.depth a.at c.requires.1.0 c.requires.1.1) _ _ _ _ c.in-Begun.is in
+check_group-returns-in-Refused-fields t c = let a = c.args in let B = opens-begun _ _ _ _ a.outer a.depth a.at _ a.scope _ _ (c.open_group-opening.ensures a.occupied.now a.depth a.at c.requires.0 c.requires.1) _ _ _ _ c.in-Begun.is in
     stopped _ _ _ _ c.check_fields-fields.ensures _ _ _ _ c.in-Refused-fields.is ∙ sym B.counts
 
 pub check_group-returns-in-Refused : goal.check_group-returns-in-Refused
-check_group-returns-in-Refused t c = let a = c.args in refuses _ _ _ _ _ (opens-refused _ _ _ _ a.outer a.depth a.at _ a.scope _ _ (c.open_group-opening.ensures a.occupied.now a.depth a.at c.requires.1.0 c.requires.1.1) _ _ c.in-Refused.is)
+check_group-returns-in-Refused t c = let a = c.args in refuses _ _ _ _ _ (opens-refused _ _ _ _ a.outer a.depth a.at _ a.scope _ _ (c.open_group-opening.ensures a.occupied.now a.depth a.at c.requires.0 c.requires.1) _ _ c.in-Refused.is)
 
 pub check_groups-loop-i-init : goal.check_groups-loop-i-init
-check_groups-loop-i-init t c = let a = c.args in (search rules, search rules, rw sub-zero c.requires.1.1, search rules, rw sub-zero refl)
+check_groups-loop-i-init t c = let a = c.args in (search rules, search rules, rw sub-zero c.requires.1, search rules, rw sub-zero refl)
 
 pub check_groups-check_extending-group-requires : goal.check_groups-check_extending-group-requires
 check_groups-check_extending-group-requires t c = let a = c.args in let i = c.loop-i.invariant in let w = items_left a.total c.loop-i.i 4 c.loop-i-test.true in
-    (search rules, (ready _ _ _ _ _ _ c.requires.1.0 (i.1 ∙ c.requires.1.0.same), omega (arith, i.2, w)))
+    (search rules, (ready _ _ _ _ _ _ c.requires.0 (i.1 ∙ c.requires.0.same), omega (arith, i.2, w)))
 
 pub check_groups-returns-in-Refused : goal.check_groups-returns-in-Refused
 check_groups-returns-in-Refused t c = let a = c.args in
@@ -250,32 +248,32 @@ check_groups-returns t c = let a = c.args in
     items-end 4 _ (within a.bytes.now a.frame) a.total c.loop-i.i c.loop-i.place c.loop-i.length (occupancy_of a.frame.area c.loop-i.holds c.loop-i.occupied) _ _ refl c.loop-i-test.false c.loop-i.invariant.3 ∙ sym c.loop-i.invariant.4
 
 pub check_item-check_number-requires : goal.check_item-check_number-requires
-check_item-check_number-requires t c = let a = c.args in let t = a.table.now in let P = c.requires.1.0.layout in
+check_item-check_number-requires t c = let a = c.args in let t = a.table.now in let P = c.requires.0.layout in
     let w = wide-number (width_in a.index.now) (enums t) a.kind _ c.in-Number.is in
-    let v = wide-kind t a.index.now P a.depth (kind_from (enums t) a.kind) c.requires.1.2 in
-    (P, omega (arith, w, v, c.requires.1.1), c.requires.1.0.small)
+    let v = wide-kind t a.index.now P a.depth (kind_from (enums t) a.kind) c.requires.2 in
+    (P, omega (arith, w, v, c.requires.1), c.requires.0.small)
 
 pub check_item-check_inline-requires : goal.check_item-check_inline-requires
 check_item-check_inline-requires t c = let a = c.args in let t = a.table.now in
-    let w = wide-inline (width_of t a.depth) (enums t) a.kind _ _ c.in-Inline.is in (omega (arith, w, c.requires.1.1), c.requires.1.0.small)
+    let w = wide-inline (width_of t a.depth) (enums t) a.kind _ _ c.in-Inline.is in (omega (arith, w, c.requires.1), c.requires.0.small)
 
 pub check_item-check_text-requires : goal.check_item-check_text-requires
 check_item-check_text-requires t c = let a = c.args in let t = a.table.now in
-    let w = wide-indirect (width_of t a.depth) (enums t) a.kind _ c.in-Indirect.is in (c.requires.1.0.same, c.requires.1.0.small, c.requires.1.0.room, omega (arith, w, c.requires.1.1))
+    let w = wide-indirect (width_of t a.depth) (enums t) a.kind _ c.in-Indirect.is in (c.requires.0.same, c.requires.0.small, c.requires.0.room, omega (arith, w, c.requires.1))
 
 pub check_item-check_group-requires : goal.check_item-check_group-requires
 check_item-check_group-requires t c = let a = c.args in let t = a.table.now in let sw = width_of t a.depth in
     let w = wide-static sw (enums t) a.kind _ c.in-Static.is in
-    let q = and_both (leb 1 (sw _)) (shallow (schema t) a.depth _) (sym (kind-static sw (enums t) a.kind (shallow (schema t) a.depth) _ c.in-Static.is) ∙ c.requires.1.2) in
-    (search rules, (c.requires.1.0, (omega (arith, w, c.requires.1.1), static-inside (schema t) a.depth _ q.0, q.1)))
+    let q = and_both (leb 1 (sw _)) (shallow (schema t) a.depth _) (sym (kind-static sw (enums t) a.kind (shallow (schema t) a.depth) _ c.in-Static.is) ∙ c.requires.2) in
+    (search rules, (c.requires.0, (omega (arith, w, c.requires.1), static-inside (schema t) a.depth _ q.0, q.1)))
 
 pub check_item-check_dynamic-requires : goal.check_item-check_dynamic-requires
 check_item-check_dynamic-requires t c = let a = c.args in let t = a.table.now in
-    let w = wide-dynamic (width_of t a.depth) (enums t) a.kind _ c.in-Dynamic.is in (search rules, (c.requires.1.0, omega (arith, w, c.requires.1.1)))
+    let w = wide-dynamic (width_of t a.depth) (enums t) a.kind _ c.in-Dynamic.is in (search rules, (c.requires.0, omega (arith, w, c.requires.1)))
 
 pub check_item-returns-in-Plain : goal.check_item-returns-in-Plain
 check_item-returns-in-Plain t c = let a = c.args in let t = a.table.now in let I = inner_of (ignored_in a.frame.rules) t (levels_in a.frame.rules) in let S = static_of (ignored_in a.frame.rules) t (levels_in a.frame.rules) a.depth in
-    counts _ _ _ _ _ _ (item-plain _ I S a.bytes.now a.frame.base a.frame.area (occupancy_of a.frame.area a.taken a.occupied.now) (enums t) a.kind a.at (width_of t a.depth) _ c.in-Plain.is c.requires.1.1) (c.longer.ensures ∙ rw c.wide.ensures.0)
+    counts _ _ _ _ _ _ (item-plain _ I S a.bytes.now a.frame.base a.frame.area (occupancy_of a.frame.area a.taken a.occupied.now) (enums t) a.kind a.at (width_of t a.depth) _ c.in-Plain.is c.requires.1) (c.longer.ensures ∙ rw c.wide.ensures.0)
 
 pub check_item-returns-in-Number : goal.check_item-returns-in-Number
 check_item-returns-in-Number t c = let a = c.args in let t = a.table.now in let I = inner_of (ignored_in a.frame.rules) t (levels_in a.frame.rules) in let S = static_of (ignored_in a.frame.rules) t (levels_in a.frame.rules) a.depth in
@@ -298,38 +296,38 @@ check_item-returns-in-Dynamic t c = let a = c.args in let t = a.table.now in let
     c.check_dynamic.ensures ∙ sym (goes_on a.before 2 _ _ _ (item-dynamic _ I S a.bytes.now a.frame.base a.frame.area (occupancy_of a.frame.area a.taken a.occupied.now) (enums t) a.kind a.at _ c.in-Dynamic.is) c.longer-in-Dynamic.ensures)
 
 pub check_items-overflow_mul-total : goal.check_items-overflow_mul-total
-check_items-overflow_mul-total t c = omega (arith, mul-le-mul_right {m = c.args.total} {n = 4294967296} (2 + c.wide.result) (omega (arith, c.requires.1.2)), c.wide.ensures.1)
+check_items-overflow_mul-total t c = omega (arith, mul-le-mul_right {m = c.args.total} {n = 4294967296} (2 + c.wide.result) (omega (arith, c.requires.2)), c.wide.ensures.1)
 
 pub check_items-returns-in-Plain : goal.check_items-returns-in-Plain
-check_items-returns-in-Plain t c = let a = c.args in let t = a.table.now in counts _ _ _ _ _ _ (items-plain _ (inner_of (ignored_in a.frame.rules) t (levels_in a.frame.rules)) (static_of (ignored_in a.frame.rules) t (levels_in a.frame.rules) a.depth) a.bytes.now a.frame.base a.frame.area (occupancy_of a.frame.area a.taken a.occupied.now) (enums t) a.kind (width_of t a.depth) _ a.width a.total a.at c.in-Plain.is c.requires.1.4 c.requires.1.1) (c.longer.ensures ∙ rw c.wide.ensures.0)
+check_items-returns-in-Plain t c = let a = c.args in let t = a.table.now in counts _ _ _ _ _ _ (items-plain _ (inner_of (ignored_in a.frame.rules) t (levels_in a.frame.rules)) (static_of (ignored_in a.frame.rules) t (levels_in a.frame.rules) a.depth) a.bytes.now a.frame.base a.frame.area (occupancy_of a.frame.area a.taken a.occupied.now) (enums t) a.kind (width_of t a.depth) _ a.width a.total a.at c.in-Plain.is c.requires.4 c.requires.1) (c.longer.ensures ∙ rw c.wide.ensures.0)
 
 pub check_items-check_texts-requires : goal.check_items-check_texts-requires
-check_items-check_texts-requires t c = let a = c.args in let t = a.table.now in let q : a.width ≡ 4 = c.requires.1.4 ∙ wide-indirect (width_of t a.depth) (enums t) a.kind _ c.in-Indirect.is in
-    (c.requires.1.0.same, c.requires.1.0.small, c.requires.1.0.room, rw q at c.requires.1.1)
+check_items-check_texts-requires t c = let a = c.args in let t = a.table.now in let q : a.width ≡ 4 = c.requires.4 ∙ wide-indirect (width_of t a.depth) (enums t) a.kind _ c.in-Indirect.is in
+    (c.requires.0.same, c.requires.0.small, c.requires.0.room, rw q at c.requires.1)
 
 pub check_items-returns-in-Indirect : goal.check_items-returns-in-Indirect
 check_items-returns-in-Indirect t c = let a = c.args in let t = a.table.now in
-    c.check_texts.ensures ∙ ap (λ x. after a.before (count x)) (sym (items-indirect _ (inner_of (ignored_in a.frame.rules) t (levels_in a.frame.rules)) (static_of (ignored_in a.frame.rules) t (levels_in a.frame.rules) a.depth) a.bytes.now a.frame.base a.frame.area (occupancy_of a.frame.area a.taken a.occupied.now) (enums t) a.kind (width_of t a.depth) a.width a.total a.at c.requires.1.4 _ c.in-Indirect.is))
+    c.check_texts.ensures ∙ ap (λ x. after a.before (count x)) (sym (items-indirect _ (inner_of (ignored_in a.frame.rules) t (levels_in a.frame.rules)) (static_of (ignored_in a.frame.rules) t (levels_in a.frame.rules) a.depth) a.bytes.now a.frame.base a.frame.area (occupancy_of a.frame.area a.taken a.occupied.now) (enums t) a.kind (width_of t a.depth) a.width a.total a.at c.requires.4 _ c.in-Indirect.is))
 
 pub check_items-check_numbers-requires : goal.check_items-check_numbers-requires
-check_items-check_numbers-requires t c = let a = c.args in let p = c.requires.1 in let t = a.table.now in
+check_items-check_numbers-requires t c = let a = c.args in let p = c.requires in let t = a.table.now in
     let w = wide-number (width_in a.index.now) (enums t) a.kind _ c.in-Number.is in
     let v = wide-kind t a.index.now p.0.layout a.depth (kind_from (enums t) a.kind) p.5 in
     (p.0.layout, rw (p.4 ∙ sym v ∙ w) at p.1, p.0.small)
 
 pub check_items-returns-in-Number : goal.check_items-returns-in-Number
-check_items-returns-in-Number t c = let a = c.args in let p = c.requires.1 in let t = a.table.now in
+check_items-returns-in-Number t c = let a = c.args in let p = c.requires in let t = a.table.now in
     let w = wide-number (width_in a.index.now) (enums t) a.kind _ c.in-Number.is in
     let v = wide-kind t a.index.now p.0.layout a.depth (kind_from (enums t) a.kind) p.5 in
     let x = ignored_in a.frame.rules in let I = inner_of x t (levels_in a.frame.rules) in let S = static_of x t (levels_in a.frame.rules) a.depth in
     c.check_numbers.ensures x I S a.frame.area (λ s. occupancy_of a.frame.area s a.occupied.now) ∙ ap (λ x. after a.before (count x)) (sym (items-number _ I S a.bytes.now a.frame.base a.frame.area (occupancy_of a.frame.area a.taken a.occupied.now) (enums t) a.kind a.width _ a.total a.at (p.4 ∙ sym v ∙ w) _ c.in-Number.is))
 
 pub check_items-loop-i-init : goal.check_items-loop-i-init
-check_items-loop-i-init t c = let a = c.args in (search rules, search rules, rw sub-zero c.requires.1.1, search rules, rw sub-zero refl)
+check_items-loop-i-init t c = let a = c.args in (search rules, search rules, rw sub-zero c.requires.1, search rules, rw sub-zero refl)
 
 pub check_items-check_item-item-requires : goal.check_items-check_item-item-requires
 check_items-check_item-item-requires t c = let a = c.args in let i = c.loop-i.invariant in let w = items_left a.total c.loop-i.i a.width c.loop-i-test.true in
-    (search rules, (ready _ _ _ _ _ _ c.requires.1.0 (i.1 ∙ c.requires.1.0.same), omega (arith, i.2, w, c.requires.1.4), c.requires.1.5))
+    (search rules, (ready _ _ _ _ _ _ c.requires.0 (i.1 ∙ c.requires.0.same), omega (arith, i.2, w, c.requires.4), c.requires.5))
 
 pub check_items-returns-in-Refused : goal.check_items-returns-in-Refused
 check_items-returns-in-Refused t c = let a = c.args in
@@ -349,19 +347,19 @@ check_items-returns t c = let a = c.args in
     items-end a.width _ (within a.bytes.now a.frame) a.total c.loop-i.i c.loop-i.place c.loop-i.length (occupancy_of a.frame.area c.loop-i.holds c.loop-i.occupied) _ _ refl c.loop-i-test.false c.loop-i.invariant.3 ∙ sym c.loop-i.invariant.4
 
 pub check_nested-check_group-group-requires : goal.check_nested-check_group-group-requires
-check_nested-check_group-group-requires t c = let a = c.args in (search rules, (record { layout = c.requires.1.0.layout; same = search rules; small = search rules; room = search rules }, (refl, refl)))
+check_nested-check_group-group-requires t c = let a = c.args in (search rules, (record { layout = c.requires.0.layout; same = search rules; small = search rules; room = search rules }, (refl, refl)))
 
 pub check_nested-returns-in-Counted : goal.check_nested-returns-in-Counted
-check_nested-returns-in-Counted t c = let a = c.args in nested-passed _ a.before _ _ _ _ a.taken (occupancy_of a.frame.area a.taken a.occupied.now) (rw add-sub_cancel_left at c.check_group-group.ensures) c.in-Counted.is (retaken a.frame.area a.taken a.occupied.now _ _ c.check_group-group.new.1.1.1.0 a.start a.size (omega (arith, c.requires.1.0.room, c.requires.1.0.same)) (search rules) (search rules) refl (rw add-sub_cancel_left at c.retake.ensures) c.requires.1.2)
+check_nested-returns-in-Counted t c = let a = c.args in nested-passed _ a.before _ _ _ _ a.taken (occupancy_of a.frame.area a.taken a.occupied.now) (rw add-sub_cancel_left at c.check_group-group.ensures) c.in-Counted.is (retaken a.frame.area a.taken a.occupied.now _ _ c.check_group-group.new.occupied a.start a.size (omega (arith, c.requires.0.room, c.requires.0.same)) (search rules) (search rules) refl (rw add-sub_cancel_left at c.retake.ensures) c.requires.2)
 
 pub check_nested-returns-in-Refused : goal.check_nested-returns-in-Refused
 check_nested-returns-in-Refused t c = let a = c.args in stopped (λ _. []) a.before _ _ (rw add-sub_cancel_left at c.check_group-group.ensures) _ _ _ (λ _. counted 0 (occupancy_of a.frame.area a.taken a.occupied.now)) c.in-Refused.is
 
 pub check_rest-check_extension-extension-requires : goal.check_rest-check_extension-extension-requires
-check_rest-check_extension-extension-requires t c = (search rules, (c.requires.1.0, c.requires.1.1))
+check_rest-check_extension-extension-requires t c = (search rules, (c.requires.0, c.requires.1))
 
 pub check_rest-check_pads-requires : goal.check_rest-check_pads-requires
-check_rest-check_pads-requires t c = (omega (arith, c.check_extension-extension.auto, c.requires.1.0.same), c.requires.1.0.small, c.requires.1.0.room)
+check_rest-check_pads-requires t c = (omega (arith, c.check_extension-extension.auto, c.requires.0.same), c.requires.0.small, c.requires.0.room)
 
 pub check_rest-returns-in-Counted : goal.check_rest-returns-in-Counted
 check_rest-returns-in-Counted t c = let a = c.args in c.check_pads.ensures ∙ sym (passed _ a.before _ _ c.check_extension-extension.ensures _ _ (closing (within a.bytes.now a.frame)) c.in-Counted.is)
@@ -372,7 +370,7 @@ check_rest-returns-in-Refused t c = let a = c.args in stopped _ a.before _ _ c.c
 pub check_value-locate-found-requires : goal.check_value-locate-found-requires
 check_value-locate-found-requires t c = let s = c in let a = s.args in let t = a.table.now in
     let w = width-sequence (width_of t a.depth) (field_at (enums t) (drop a.field t)) (sym (c.is_sequence.ensures (enums t)) ∙ c.if-is_sequence.true) in
-    (s.requires.1.0.same, s.requires.1.0.small, s.requires.1.0.room, omega (arith, w, s.requires.1.2), c.kind_width-width.ensures.1)
+    (s.requires.0.same, s.requires.0.small, s.requires.0.room, omega (arith, w, s.requires.2), c.kind_width-width.ensures.1)
 
 pub check_value-overflow_add-start : goal.check_value-overflow_add-start
 check_value-overflow_add-start t c = omega (arith, c.locate-found.ensures.1.inside _ _ _ c.in-At.is)
@@ -381,37 +379,34 @@ pub check_value-returns-in-Nowhere : goal.check_value-returns-in-Nowhere
 check_value-returns-in-Nowhere t c = let s = c in let a = s.args in let t = a.table.now in
     let k = c.kind_at-kind.ensures (enums t) in
     let w = c.kind_width-width in
-    refuses _ _ _ _ _ (sequence-nowhere _ _ _ _ _ _ _ _ k _ (w.ensures.0 (enums t) ∙ wide-kind t a.index.now s.requires.1.0.layout a.depth _ (rw (sym k) at s.requires.1.3)) (sym (c.is_sequence.ensures (enums t)) ∙ c.if-is_sequence.true) _ _ c.locate-found.ensures.0 _ _ c.in-Nowhere.is)
+    refuses _ _ _ _ _ (sequence-nowhere _ _ _ _ _ _ _ _ k _ (w.ensures.0 (enums t) ∙ wide-kind t a.index.now s.requires.0.layout a.depth _ (rw (sym k) at s.requires.3)) (sym (c.is_sequence.ensures (enums t)) ∙ c.if-is_sequence.true) _ _ c.locate-found.ensures.0 _ _ c.in-Nowhere.is)
 
 pub check_value-check_items-requires : goal.check_value-check_items-requires
-check_value-check_items-requires t c = let s = c in let a = s.args in let t = a.table.now in
-    let j = check-value-joined _ c in
-    let d = rw (sym (c.kind_at-kind.ensures (enums t))) at s.requires.1.3 in
+check_value-check_items-requires t c =
+    let j = check-value-joined t (goal.at.check_value-check_items-requires t c).Joined-is_sequence in
+    let d = rw (sym (c.kind_at-kind.ensures (enums c.args.table.now))) at c.requires.3 in
     let w = c.kind_width-width.ensures in
-    (search rules, (ready _ _ _ _ _ _ s.requires.1.0 j.0, j.1.inside, j.1.few, w.1, w.0 (enums t) ∙ wide-kind t a.index.now s.requires.1.0.layout a.depth _ d, d))
-
-pub check_value-shape_of-occupied : goal.check_value-shape_of-occupied
-check_value-shape_of-occupied t c = omega (arith, c.check_items.auto, (check-value-joined t c).0, c.requires.1.0.same)
+    (search rules, (ready _ _ _ _ _ _ c.requires.0 (c.if-is_sequence.auto.occupied ∙ c.requires.0.same), j.inside, j.few, w.1, w.0 (enums c.args.table.now) ∙ wide-kind c.args.table.now c.args.index.now c.requires.0.layout c.args.depth _ d, d))
 
 pub check_value-returns : goal.check_value-returns
-check_value-returns t c = c.check_items.ensures ∙ (check-value-joined t c).1.counts
+check_value-returns t c = c.check_items.ensures ∙ (check-value-joined t (goal.at.check_value-returns t c).Joined-is_sequence).counts
 
 pub close_group-read_u32-requires : goal.close_group-read_u32-requires
-close_group-read_u32-requires t c = let l = c.requires.1.1 _ c.in-Whole.is in omega (arith, l)
+close_group-read_u32-requires t c = let l = c.requires.1 _ c.in-Whole.is in omega (arith, l)
 
 pub close_group-returns-then-taken-bytes : goal.close_group-returns-then-taken-bytes
-close_group-returns-then-taken-bytes t c = let a = c.args in let t = a.table.now in let R = c.requires.1.0 in
+close_group-returns-then-taken-bytes t c = let a = c.args in let t = a.table.now in let R = c.requires.0 in
     closes-dynamic t (levels_in a.frame.rules) (within a.bytes.now a.frame) _ a.frame.area _ a.before a.scope _ c.in-Whole.is _ (counts _ _ _ _ _ _ (rest_plain _ (schema t) (inner_of (ignored_in a.frame.rules) t (levels_in a.frame.rules)) a.bytes.now a.frame.base a.frame.area _ (sym c.read_u32.ensures.0 ∙ c.if-read_u32-eq0.true) ∙ closing-filled _ a.bytes.now a.frame.base a.frame.area _ (pads-none a.frame.area _ a.occupied.now a.bytes.now R.same R.room c.if-taken-bytes.true (omega (arith, c.if-taken-bytes.true, R.small)))) c.longer.ensures)
 
 pub close_group-check_pads-requires : goal.close_group-check_pads-requires
-close_group-check_pads-requires t c = let R = c.requires.1.0 in (R.same, R.small, R.room)
+close_group-check_pads-requires t c = let R = c.requires.0 in (R.same, R.small, R.room)
 
 pub close_group-returns-then-read_u32-eq0 : goal.close_group-returns-then-read_u32-eq0
 close_group-returns-then-read_u32-eq0 t c = let a = c.args in let t = a.table.now in
     closes-dynamic t (levels_in a.frame.rules) (within a.bytes.now a.frame) _ a.frame.area _ a.before a.scope _ c.in-Whole.is _ (c.check_pads.ensures ∙ ap (after a.before) (sym (rest_plain _ (schema t) (inner_of (ignored_in a.frame.rules) t (levels_in a.frame.rules)) a.bytes.now a.frame.base a.frame.area _ (sym c.read_u32.ensures.0 ∙ c.if-read_u32-eq0.true))))
 
 pub close_group-check_rest-requires : goal.close_group-check_rest-requires
-close_group-check_rest-requires t c = (search rules, (c.requires.1.0, c.requires.1.1 _ c.in-Whole.is))
+close_group-check_rest-requires t c = (search rules, (c.requires.0, c.requires.1 _ c.in-Whole.is))
 
 pub close_group-returns-else-read_u32-eq0 : goal.close_group-returns-else-read_u32-eq0
 close_group-returns-else-read_u32-eq0 t c = let a = c.args in closes-dynamic a.table.now (levels_in a.frame.rules) (within a.bytes.now a.frame) _ a.frame.area _ a.before a.scope _ c.in-Whole.is _ c.check_rest.ensures

@@ -1,23 +1,11 @@
-use Rattle.std.proofs.Common.{◌≡◌, ℕ, ◌+◌, ◌-◌, ◌*◌, ◌^◌, ◌<◌, ◌≤◌, true, leb, [], length, drop, sym, refl, ap, ◌∙◌, ⊎_elim, mul-le-mul_right, mul-one, arith, rules}
-use Rattle.message.specs.Sheet.{field_mark}
-use native.Mathlib.Nat.{add-sub_cancel_left, sub-zero}
+use Rattle.std.proofs.Common.{◌≡◌, ◌+◌, ◌-◌, ◌*◌, ◌^◌, ◌<◌, ◌≤◌, true, length, drop}
 use Rattle.schema.specs.Schema.{fields_width, shallow_fields, shallow}
-use Rattle.schema.specs.Table.{field_at, fields_at, enums, schema}
-use Rattle.schema.specs.Layout.{width_in}
+use Rattle.schema.specs.Table.{fields_at, enums, schema}
 use Rattle.schema.specs.FieldKinds.{kind_from}
-use Rattle.schema.proofs.Records.{fields-more}
-use Rattle.schema.proofs.Types.{plain-is, width-sequence, width-optional}
-use Rattle.schema.proofs.Groups.{static-inside, placed-inside}
-use Rattle.schema.proofs.Depth.{and_both, shallow-some, width-cons, shallow-cons, wide-kind, wide_value, wide-field}
-use Rattle.message.specs.Walk.{byte, indirect_r, inner_r, items_r, fields_r, extending_r, value_r}
-use Rattle.message.specs.Count.{count, counted}
-use Rattle.message.specs.Check.{levels_in, ignored_in, occupancy_of, closing, after, within, item_r, marked_value_r, inner_of, width_of, static_of}
-use Rattle.message.proofs.Count.{count-inner}
-use Rattle.message.proofs.CheckAnswers.{refuses, counts, stays, goes_on, passed, stopped, bounded}
-use Rattle.message.proofs.CheckOccupancy.{retaken, pads-none}
-use Rattle.message.proofs.CheckFields.{leads-nowhere, leads-to, fields-passed, fields-stopped, fields-end, plain-wide, fields-plain, flag-wide, flag-unset, field-optional, field-set, ItemsAt, one-item, sequence-nowhere, sequence-items, items-passed, items-stopped, items-end, items_left, items-plain, items-indirect, items-number, item-plain, item-number, item-inline, item-indirect, item-static, item-dynamic, wide-number, wide-inline, wide-indirect, wide-static, wide-dynamic, kind-static, start-inside, start-static, start-width, start-shallow, ready}
-use Rattle.message.proofs.CheckGroups.{nested-passed, extension-zero, extension-nowhere, extension-empty, extension-some, extending-short, extending-known, extending-kept, rest_plain, closing-filled}
-use Rattle.message.proofs.CheckScopes.{weight, inside-falls, inside-long, inside-left, opens-begun, opens-refused, closes-dynamic, closes-static}
+use Rattle.message.specs.Walk.{indirect_r, items_r, fields_r, extending_r}
+use Rattle.message.specs.Count.{count}
+use Rattle.message.specs.Check.{levels_in, ignored_in, occupancy_of, after, within, item_r, inner_of, width_of, static_of}
+use Rattle.message.proofs.CheckScopes.{weight}
 use Rattle.message.proofs.+walk.Given as goal
 
 abbrev pub decreases-check_dynamic : goal.decreases-check_dynamic

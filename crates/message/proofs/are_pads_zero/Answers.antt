@@ -1,4 +1,4 @@
-use Rattle.std.proofs.Common.{◌∙◌, rules}
+use Rattle.std.proofs.Common.{◌∙◌}
 use Rattle.message.proofs.CheckOccupancy.{is-scattered, not-scattered, pads-scattered, pads-past, pads-packed}
 use Rattle.message.proofs.are_pads_zero.Goals as goal
 

@@ -1,4 +1,3 @@
-use Rattle.std.proofs.Common.{rules}
 use Rattle.message.proofs.bad_pad.Goals as goal
 
 pub returns : goal.returns

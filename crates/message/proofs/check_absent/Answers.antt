@@ -1,4 +1,4 @@
-use Rattle.std.proofs.Common.{sym, refl, ◌∙◌, rules}
+use Rattle.std.proofs.Common.{sym, refl, ◌∙◌}
 use Rattle.message.proofs.CheckAnswers.{refuses, counts}
 use Rattle.message.proofs.CheckValues.{flag-wrong, absent-dirty, absent-counts}
 use Rattle.message.proofs.check_absent.Goals as goal

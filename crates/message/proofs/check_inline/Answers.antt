@@ -1,4 +1,4 @@
-use Rattle.std.proofs.Common.{◌≤◌, sym, ◌∙◌, arith, rules}
+use Rattle.std.proofs.Common.{◌≤◌, sym, ◌∙◌, arith}
 use Rattle.message.proofs.CheckAnswers.{refuses, counts}
 use Rattle.message.proofs.CheckValues.{inline-over, inline-dirty, inline-bad, inline-counts}
 use Rattle.message.proofs.check_inline.Goals as goal

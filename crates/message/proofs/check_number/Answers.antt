@@ -1,4 +1,4 @@
-use Rattle.std.proofs.Common.{ℕ, ◌+◌, sym, ap, ◌∙◌, rules}
+use Rattle.std.proofs.Common.{ℕ, ◌+◌, sym, ap, ◌∙◌}
 use Rattle.schema.specs.Table.{enums}
 use Rattle.schema.specs.Layout.{width_in}
 use Rattle.message.specs.Count.{failed}

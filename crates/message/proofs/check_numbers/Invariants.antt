@@ -1,13 +1,10 @@
-use Rattle.std.proofs.Common.{◌≡◌, ℕ, ◌+◌, ◌-◌, ◌*◌, ◌^◌, ◌<◌, ◌≤◌, List, length, sym, refl, ◌∙◌, arith, rules}
-use native.Mathlib.Nat.{sub-zero}
+use Rattle.std.proofs.Common.{◌≡◌, ℕ, ◌+◌, ◌-◌, ◌*◌, ◌^◌, ◌<◌, ◌≤◌, List, length}
 use Rattle.schema.specs.Table.{enums}
-use Rattle.schema.specs.Layout.{width_in}
 use Rattle.schema.specs.FieldKinds.{tested_kind}
 use Rattle.settings.specs.declared.Ignored.{Ignored}
 use Rattle.message.specs.Walk.{here, Reader, Inner, items_r}
 use Rattle.message.specs.Count.{count}
 use Rattle.message.specs.Check.{after, item_r}
-use Rattle.message.proofs.CheckFields.{items-passed, items-stopped, items-end, items_left}
 use Rattle.message.proofs.check_numbers.Given as goal
 
 abbrev pub invariant-loop-i : goal.invariant-loop-i

@@ -1,4 +1,4 @@
-use Rattle.std.proofs.Common.{sym, ◌∙◌, rules}
+use Rattle.std.proofs.Common.{sym, ◌∙◌}
 use Rattle.message.proofs.CheckAnswers.{refuses, counts}
 use Rattle.message.proofs.CheckGroups.{closing-clean, closing-dirty}
 use Rattle.message.proofs.check_pads.Goals as goal

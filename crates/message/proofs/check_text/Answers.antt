@@ -1,4 +1,4 @@
-use Rattle.std.proofs.Common.{sym, ◌∙◌, mul-one, arith, rules}
+use Rattle.std.proofs.Common.{sym, ◌∙◌, mul-one, arith}
 use Rattle.message.specs.Check.{occupancy_of}
 use Rattle.message.proofs.CheckAnswers.{refuses, counts}
 use Rattle.message.proofs.CheckValues.{text-lost, text-bad, text-counts}

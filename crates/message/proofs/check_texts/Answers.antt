@@ -1,9 +1,6 @@
-use Rattle.std.proofs.Common.{◌≡◌, ◌+◌, ◌-◌, ◌*◌, ◌^◌, ◌<◌, ◌≤◌, length, sym, refl, ◌∙◌, arith, rules}
+use Rattle.std.proofs.Common.{sym, refl, ◌∙◌, arith, rules}
 use native.Mathlib.Nat.{sub-zero}
-use Rattle.message.specs.Sheet.{ST}
-use Rattle.message.specs.Walk.{marked_r, indirect_r, text_r, items_r}
-use Rattle.message.specs.Count.{count}
-use Rattle.message.specs.Check.{occupancy_of, after, within}
+use Rattle.message.specs.Check.{occupancy_of, within}
 use Rattle.message.proofs.CheckAnswers.{bounded}
 use Rattle.message.proofs.CheckFields.{items-passed, items-stopped, items-end, items_left}
 use Rattle.message.proofs.check_texts.Goals as goal

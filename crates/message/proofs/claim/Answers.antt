@@ -1,4 +1,4 @@
-use Rattle.std.proofs.Common.{sym, ◌∙◌, arith, rules}
+use Rattle.std.proofs.Common.{sym, ◌∙◌, arith}
 use Rattle.message.proofs.CheckOccupancy.{is-scattered, not-scattered, claim-taken, claim-scattered, claim-packed, claimed-packed, claimed-scattered, claimed-first, occupied-room}
 use Rattle.message.proofs.CheckPlaces.{claims-nowhere, claims-at, claim-shared, claim-free}
 use Rattle.message.specs.Check.{occupancy_of}

@@ -1,4 +1,4 @@
-use Rattle.std.proofs.Common.{refl, ◌∙◌, rules}
+use Rattle.std.proofs.Common.{refl, ◌∙◌}
 use Rattle.message.proofs.CheckGroups.{cleared}
 use Rattle.message.proofs.clear.Goals as goal
 

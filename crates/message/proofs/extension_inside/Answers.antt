@@ -1,4 +1,3 @@
-use Rattle.std.proofs.Common.{rules}
 use Rattle.message.proofs.CheckValues.{extension-none, extension-low, extension-at}
 use Rattle.message.proofs.extension_inside.Goals as goal
 

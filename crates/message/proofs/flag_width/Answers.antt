@@ -1,4 +1,3 @@
-
 use Rattle.message.proofs.flag_width.Goals as goal
 
 pub returns-then-optional : goal.returns-then-optional

@@ -1,4 +1,4 @@
-use Rattle.std.proofs.Common.{◌+◌, ◌*◌, refl, ◌∙◌, arith, rules}
+use Rattle.std.proofs.Common.{◌+◌, ◌*◌, refl, ◌∙◌, arith}
 use Rattle.message.proofs.CheckPlaces.{small, lands-nowhere, lands-claim, low, high, cut, over, claims}
 use Rattle.message.specs.Check.{occupancy_of}
 use Rattle.message.proofs.locate.Goals as goal

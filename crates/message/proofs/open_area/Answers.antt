@@ -1,5 +1,4 @@
-use Rattle.std.proofs.Common.{ℕ, ◌+◌, ◌-◌, sym, ap, ◌∙◌, arith, rules}
-use borrow.Author.Tests.{not-true, not-false}
+use Rattle.std.proofs.Common.{ℕ, ◌+◌, ◌-◌, sym, ap, ◌∙◌, arith}
 use Rattle.schema.specs.Table.{schema}
 use Rattle.schema.proofs.Groups.{layout-width}
 use Rattle.message.specs.Check.{levels_in, ignored_in, inner_of}

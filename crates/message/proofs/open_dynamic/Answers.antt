@@ -1,4 +1,4 @@
-use Rattle.std.proofs.Common.{sym, ap, ◌∙◌, arith, rules}
+use Rattle.std.proofs.Common.{sym, ap, ◌∙◌, arith}
 use Rattle.schema.specs.Schema.{find}
 use Rattle.schema.specs.Table.{schema}
 use Rattle.schema.proofs.Groups.{find-whole}

@@ -1,4 +1,4 @@
-use Rattle.std.proofs.Common.{refl, rules}
+use Rattle.std.proofs.Common.{refl}
 use Rattle.message.proofs.CheckScopes.{opens-dynamic, opens-static}
 use Rattle.message.proofs.open_group.Goals as goal
 

@@ -1,6 +1,4 @@
-use Rattle.std.proofs.Common.{◌≡◌, ◌+◌, ◌-◌, ◌≤◌, length, drop, sym, ◌∙◌, arith, rules}
-use borrow.Author.Tests.{not-true, not-false}
-use Rattle.message.specs.Occupancy.{pads_before}
+use Rattle.std.proofs.Common.{sym, ◌∙◌, arith, rules}
 use Rattle.message.proofs.CheckPlaces.{before-turn, before-stop, before-end}
 use Rattle.message.proofs.pads_before.Goals as goal
 

@@ -1,7 +1,5 @@
-use Rattle.std.proofs.Common.{◌≡◌, ◌+◌, ◌-◌, ◌≤◌, length, drop, sym, ◌∙◌, arith, rules}
-use borrow.Author.Tests.{not-true, not-false}
+use Rattle.std.proofs.Common.{◌≡◌, ◌+◌, ◌-◌, ◌≤◌, length, drop}
 use Rattle.message.specs.Occupancy.{pads_before}
-use Rattle.message.proofs.CheckPlaces.{before-turn, before-stop, before-end}
 use Rattle.message.proofs.pads_before.Given as goal
 
 abbrev pub invariant-loop-i : goal.invariant-loop-i

@@ -1,5 +1,4 @@
-use Rattle.std.proofs.Common.{◌≡◌, ◌-◌, ◌&&◌, length, drop, sym, refl, ◌∙◌, rules}
-use Rattle.message.specs.Occupancy.{pads_zero}
+use Rattle.std.proofs.Common.{sym, refl, ◌∙◌}
 use Rattle.message.proofs.CheckPlaces.{zero_turn, zero-end}
 use Rattle.message.proofs.pads_zero.Goals as goal
 

@@ -1,6 +1,5 @@
-use Rattle.std.proofs.Common.{◌≡◌, ◌-◌, ◌&&◌, length, drop, sym, refl, ◌∙◌, rules}
+use Rattle.std.proofs.Common.{◌≡◌, ◌-◌, ◌&&◌, length, drop}
 use Rattle.message.specs.Occupancy.{pads_zero}
-use Rattle.message.proofs.CheckPlaces.{zero_turn, zero-end}
 use Rattle.message.proofs.pads_zero.Given as goal
 
 abbrev pub invariant-loop-i : goal.invariant-loop-i

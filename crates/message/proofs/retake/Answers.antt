@@ -1,4 +1,4 @@
-use Rattle.std.proofs.Common.{◌∙◌, rules}
+use Rattle.std.proofs.Common.{◌∙◌}
 use Rattle.message.proofs.CheckOccupancy.{is-scattered, not-scattered}
 use Rattle.message.proofs.retake.Goals as goal
 

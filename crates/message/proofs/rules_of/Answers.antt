@@ -1,4 +1,3 @@
-use Rattle.std.proofs.Common.{rules}
 use Rattle.message.proofs.Rules.{message-rules}
 use Rattle.message.proofs.rules_of.Goals as goal
 

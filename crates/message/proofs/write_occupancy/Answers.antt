@@ -1,4 +1,3 @@
-use Rattle.std.proofs.Common.{rules}
 use Rattle.message.proofs.CheckOccupancy.{written-some, written_none}
 use Rattle.message.proofs.write_occupancy.Goals as goal
 

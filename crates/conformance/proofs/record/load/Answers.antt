@@ -1,0 +1,16 @@
+use native.Mathlib.Omega.{arith}
+use borrow.Author.Tests.{le-leb, lt-leb}
+use Rattle.conformance.specs.Vectors.{behind}
+use Rattle.conformance.proofs.Laws.{loaded}
+use Rattle.conformance.proofs.record.load.Goals as goal
+
+pub returns-then-room-length : goal.returns-then-room-length
+unfolding behind
+returns-then-room-length c = rw (lt-leb _ _ c.if-room-length.true)
+
+pub returns-then-length-stored : goal.returns-then-length-stored
+unfolding behind
+returns-then-length-stored c = rw (le-leb _ _ c.if-room-length.false, lt-leb _ _ c.if-length-stored.true)
+
+pub returns : goal.returns
+returns c = loaded c.args.stored c.args.length c.read_full.new.buf _ c.args.room.now c.fill.ensures (omega arith) c.if-length-stored.false c.if-room-length.false

@@ -1,4 +1,6 @@
 // What every question about a message begins with: "20, 23, 21, 50, 22", and the walk.
+#![tactic(auto)]
+
 ghost use Rattle.std.specs.Prelude.{◌≡◌, length, replicate};
 ghost use Rattle.table.specs.Index.{Checked};
 ghost use Rattle.message.specs.declared.Walked.TheVariants.{Refused as Failed};

@@ -2,6 +2,8 @@
 //
 // Nothing is tested again. That each value lies inside the message is what its check has shown, under
 // whatever setting: what is accepted is accepted where all that may be is ignored (`lax`).
+#![tactic(auto)]
+
 ghost use Rattle.std.specs.Prelude.{◌≡◌, true, [], ◌∷◌, ◌+◌, ◌-◌, ◌*◌, ◌<◌, ◌≤◌, length};
 ghost use Rattle.wire.specs.Bytes.{part, le, signed};
 ghost use Rattle.schema.specs.Schema.{member, fields_width};

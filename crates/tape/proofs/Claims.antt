@@ -13,8 +13,8 @@ use Rattle.schema.specs.declared.Verdict.TheVariants.{Accepted as Passed, Refuse
 use Rattle.schema.specs.Table.{table_verdict}
 use Rattle.opening.specs.Opening.{Under, message_verdict}
 use Rattle.tape.specs.declared.Answer.{Answer}
-use Rattle.tape.specs.declared.Answer.TheVariants.{Ended, Accepted, Refused}
-use Rattle.tape.specs.Tape.{span_at, whole, message_at, answer_of, tape_step, handed, answers_at, joined, Measured, own_answers, tail_answer}
+use Rattle.tape.specs.declared.Answer.TheVariants.{Refused}
+use Rattle.tape.specs.Tape.{span_at, whole, answer_of, tape_step, handed, answers_at, joined, Measured, own_answers, tail_answer}
 use Rattle.tape.specs.Claims.{Stands, Stored, TapeClaims}
 use Rattle.tape.proofs.Laws.{cut_short, stands, whole-inside, whole-left, handed-some, step-ended, step-20, step_cut, step-whole, scratch-cut}
 use Rattle.tape.proofs.Whole.{onward, answers-end, answers-on, answers-last, only_end}

@@ -8,7 +8,6 @@ use native.Mathlib.Omega.{arith}
 use lib.ListN.{length, take, drop}
 use lib.Dec.{leb}
 use borrow.Author.Tests.{le-leb, lt-leb, leb-true}
-use Rattle.wire.specs.Bytes.{part, le}
 use Rattle.schema.specs.declared.Verdict.TheVariants.{Accepted as Passed, Refused as Failed}
 use Rattle.schema.specs.Faults.{need}
 use Rattle.schema.specs.Table.{table_verdict}

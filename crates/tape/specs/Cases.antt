@@ -12,7 +12,6 @@ use Rattle.message.specs.Sheet.{mark_bytes, kind_mark, field_mark}
 use Rattle.message.specs.Walk.{prefixed, next, none_r, then_r, marked_r, optional_r, plain_r, inline_r, in_area, locate, onward, indirect_r, text_r, inner_r, items_r, list_r, kind_r, value_r, field_r, fields_r, static_r, extending_r, groups_r, extension_r, extension_in, behind_r, padded, body_r, head_r, group_r, walk}
 use Rattle.settings.specs.Store.{last_of, run, records, sound, ignored_by, governing}
 use Rattle.opening.specs.Opening.{accepted, Under, message_reading, verdict_of, message_verdict}
-use Rattle.tape.specs.declared.Answer.{Answer}
 use Rattle.tape.specs.declared.Answer.TheVariants.{Accepted, Refused}
 use Rattle.tape.specs.Tape.{whole, answer_of, tape_step, before, answers_from, answers_at, tape_answers}
 

@@ -1,4 +1,6 @@
 // A whole tape of messages, stored end to end, read one by one past those that are refused.
+#![tactic(auto)]
+
 ghost use Rattle.std.specs.Prelude.{◌≡◌, ℕ, ◌+◌, ◌<◌, List, length};
 ghost use Rattle.table.specs.Index.{Checked};
 ghost use Rattle.tape.specs.Tape.{end_of, answer_of, step_to, tape_step, tape_scratch, handed, handed_from};
@@ -24,14 +26,14 @@ pub struct Step {
 }
 
 // The tape, and the place on it that the reader has come to. At or behind its end the tape has ended.
-#[derive(Drop)]
+#[derive(Clone, Copy)]
 pub struct TapeReader<'a> {
     pub tape: &'a [u8],
     pub at: usize,
 }
 
 // A message's own bytes, the empty part if it is refused, with its answer.
-#[derive(Drop)]
+#[derive(Clone, Copy)]
 pub struct TapeMessage<'a> {
     pub bytes: &'a [u8],
     pub answer: Answer,

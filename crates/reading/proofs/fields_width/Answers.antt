@@ -1,11 +1,8 @@
-use Prim.Native.Nat.{◌+◌, ◌-◌, ◌*◌, ◌≤◌}
-use mathlib.Core.Path.{◌≡◌, sym, ◌∙◌}
-use lib.ListN.{drop}
+use mathlib.Core.Path.{sym, ◌∙◌}
 use native.Mathlib.Omega.{arith}
-use Rattle.schema.specs.Schema.{fields_width}
-use Rattle.schema.specs.Table.{fields_at, enums}
+use Rattle.schema.specs.Table.{enums}
 use Rattle.schema.specs.Layout.{width_in}
-use Rattle.reading.proofs.Items.{width_from, width-all, width-more, width-end}
+use Rattle.reading.proofs.Items.{width-all, width-more, width-end}
 use borrow.Author.Rules.{rules}
 use Rattle.reading.proofs.fields_width.Goals as goal
 

@@ -1,11 +1,10 @@
 use Prim.Native.Nat.{◌+◌, ◌-◌, ◌*◌, ◌≤◌}
-use mathlib.Core.Path.{◌≡◌, sym, ◌∙◌}
+use mathlib.Core.Path.{◌≡◌}
 use lib.ListN.{drop}
-use native.Mathlib.Omega.{arith}
 use Rattle.schema.specs.Schema.{fields_width}
 use Rattle.schema.specs.Table.{fields_at, enums}
 use Rattle.schema.specs.Layout.{width_in}
-use Rattle.reading.proofs.Items.{width_from, width-all, width-more, width-end}
+use Rattle.reading.proofs.Items.{width_from}
 use Rattle.reading.proofs.fields_width.Given as goal
 
 abbrev pub invariant-loop-i : goal.invariant-loop-i

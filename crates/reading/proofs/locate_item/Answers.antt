@@ -1,28 +1,10 @@
 use mathlib.Core.Path.{◌≡◌, sym, ◌∙◌}
-use mathlib.Core.Bool.{true}
-use mathlib.Core.Logic.{⊎_elim}
 use Rattle.schema.specs.Table.{enums}
 use Rattle.schema.specs.Layout.{width_in}
 use Rattle.reading.specs.Item.{field_in, value_item, field_item}
-use Rattle.reading.specs.Laid.{Led}
 use Rattle.reading.proofs.Items.{field-absent, field-present, field-required, flag-inside, led-present, led-required}
+use Rattle.reading.proofs.locate_item.Goals.{then-is_optional+else-group-at-eq0, else-is_optional}
 use Rattle.reading.proofs.locate_item.Goals as goal
-
--- where the value stands
-
-value-at : (c : tie.Joined1) → let a = c.before.before.before.before.before.args in let f = field_in a.table.now a.row in let sw = width_in a.index.now in
-    (f.sequence ≡ true → Led a.group.now c.if1.place) × (value_item sw f a.group.now c.if1.place a.item ≡ field_item sw f a.group.now a.at a.item)
-value-at c =
-    let a = c.before.before.before.before.before.args in
-    let l = c.before.before.before.before.before.requires.2 in
-    let t = a.table.now in
-    let sw = width_in a.index.now in
-    let b = a.group.now in
-    let o = sym (c.before.is-optional.ensures (enums t)) in
-    ⊎_elim
-    (λ w. let e = o ∙ w.0.taken in rw w.3 (led-present t a.row sw b a.at a.item l e w.2.left, field-present t a.row sw b a.at a.item e w.2.left))
-    (λ w. let e = o ∙ w.0.left in rw w.1 (led-required t a.row sw b a.at a.item l e, field-required t a.row sw b a.at a.item e))
-    c.if1.branch
 
 pub bounds-group-at : goal.bounds-group-at
 bounds-group-at c =
@@ -35,7 +17,31 @@ returns-then-group-at-eq0 c =
     (field-absent a.table.now a.row (width_in a.index.now) a.group.now a.at a.item (sym (c.is_optional.ensures (enums a.table.now)) ∙ c.if-is_optional.true) c.if-group-at-eq0.true, tt)
 
 pub locate_value-requires : goal.locate_value-requires
-locate_value-requires c = let pre = c.requires in (pre.0, pre.1, (value-at c).0)
+locate_value-requires c =
+    let a = c.args in
+    let l = c.requires.2 in
+    let t = a.table.now in
+    let sw = width_in a.index.now in
+    let b = a.group.now in
+    let o = sym (c.is_optional.ensures (enums t)) in (
+      c.requires.0,
+      c.requires.1,
+      elim c.if-is_optional.branch [
+        | then-is_optional+else-group-at-eq0 w ↦ rw w.place-is (led-present t a.row sw b a.at a.item l (o ∙ w.if-is_optional.true) w.if-group-at-eq0.false)
+        | else-is_optional w ↦ rw w.place-is (led-required t a.row sw b a.at a.item l (o ∙ w.if-is_optional.false))
+      ],
+    )
 
 pub returns : goal.returns
-returns c = (c.locate_value.ensures.0 ∙ (value-at c).1, c.locate_value.ensures.1)
+returns c =
+    let a = c.args in
+    let t = a.table.now in
+    let sw = width_in a.index.now in
+    let b = a.group.now in
+    let o = sym (c.is_optional.ensures (enums t)) in
+    let f = field_in t a.row in
+    let e : value_item sw f b c.if-is_optional.place a.item ≡ field_item sw f b a.at a.item = elim c.if-is_optional.branch [
+      | then-is_optional+else-group-at-eq0 w ↦ rw w.place-is (field-present t a.row sw b a.at a.item (o ∙ w.if-is_optional.true) w.if-group-at-eq0.false)
+      | else-is_optional w ↦ rw w.place-is (field-required t a.row sw b a.at a.item (o ∙ w.if-is_optional.false))
+    ] in
+    (c.locate_value.ensures.0 ∙ e, c.locate_value.ensures.1)

@@ -17,9 +17,9 @@ slice_bounds-result-end-in-Lies c =
 pub returns-in-Refusal : goal.returns-in-Refusal
 returns-in-Refusal c =
     let a = c.args in
-    let e = sym c.in-Refusal.is ∙ c.find_part-part.ensures in (bytes-none a.message.now _ _ e, (refl, start_none a.message.now _ _ _ e))
+    let e = sym c.in-Refusal.is ∙ c.find_part-part.ensures in record { what = bytes-none a.message.now _ _ e; block = refl; offset = start_none a.message.now _ _ _ e }
 
 pub returns-in-Lies : goal.returns-in-Lies
 returns-in-Lies c =
     let a = c.args in
-    let e = sym c.in-Lies.is ∙ c.find_part-part.ensures in (simp add-sub_cancel_left (bytes-some a.message.now _ _ _ e), (refl, start-some a.message.now _ _ _ _ e))
+    let e = sym c.in-Lies.is ∙ c.find_part-part.ensures in record { what = simp add-sub_cancel_left (bytes-some a.message.now _ _ _ e); block = refl; offset = start-some a.message.now _ _ _ _ e }

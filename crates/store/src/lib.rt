@@ -1,6 +1,8 @@
 // The settings store: a lent buffer of records of nine bytes, from its start on, and zeros behind them.
 //
 // A record is named by its number, from 0; one that may be missing by its number plus 1, and 0 says that there is none.
+#![tactic(auto)]
+
 ghost use Rattle.std.specs.Prelude.{◌≡◌, true, ◌&&◌, [], ◌∷◌, ℕ, ◌+◌, ◌*◌, ◌≤◌, ◌<◌, ◌^◌, length, get_or, drop, eqb};
 ghost use Rattle.wire.specs.Bytes.{splice, all_zero};
 ghost use Rattle.settings.specs.Store.{customer_of, version_of, flags_ok, newest, versioned, above, follows, run, records, ignored_of, ignored_by, version_by, record_of, store_verdict, setting_of, setting_at, add_verdict, store_after};

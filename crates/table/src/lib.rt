@@ -1,5 +1,7 @@
 // The schema table's check. A table that passes leaves its index behind, so that no walk reads its
 // records in order again.
+#![tactic(auto)]
+
 ghost use Rattle.std.specs.Prelude.{◌≡◌, true, ◌&&◌, ◌||◌, cond, ◌+◌, ◌-◌, ◌*◌, ◌%◌, ◌<◌, ◌≤◌, ◌^◌, max, ℕ, length, drop, get_or, set, replicate, leb, ltb, eqb, List};
 ghost use Rattle.wire.specs.Bytes.{part, all_zero};
 ghost use Rattle.schema.specs.Symbols.{rank};

@@ -2,6 +2,8 @@
 //
 // Nothing here knows of a schema. A function with a `requires` is no public question of the codec:
 // its callers have shown that the bytes are there.
+#![tactic(auto)]
+
 ghost use Rattle.std.specs.Prelude.{◌≡◌, true, ℕ, ◌+◌, ◌<◌, ◌≤◌, ◌^◌, length, get_or, replicate, drop};
 ghost use Rattle.std.specs.Float.Ieee.{of_bits, nan_bits};
 ghost use Rattle.std.specs.Float.{binary64};

@@ -1,9 +1,8 @@
-use Prim.Native.Nat.{ℕ, ◌/◌, ◌<◌}
+use Prim.Native.Nat.{◌/◌}
 use mathlib.Core.Path.{sym, ◌∙◌}
 use native.Mathlib.Omega.{arith}
 use Rattle.store.specs.Check.{rising}
 use Rattle.store.proofs.Laws.{run_short}
-use borrow.Author.Rules.{rules}
 use Rattle.store.proofs.+count_rising.Goals as goal
 
 pub returns-then-k-first : goal.returns-then-k-first

@@ -1,5 +1,4 @@
 use mathlib.Core.Path.{sym, ◌∙◌}
-use borrow.Author.Tests.{not-true, not-false}
 use Rattle.store.proofs.Laws.{passes, refused}
 use Rattle.store.proofs.check_store.Goals as goal
 

@@ -1,8 +1,7 @@
-use Prim.Native.Nat.{◌-◌, ◌*◌, ◌≤◌}
-use mathlib.Core.Path.{◌≡◌, sym, ◌∙◌}
+use Prim.Native.Nat.{◌-◌}
+use mathlib.Core.Path.{sym, ◌∙◌}
 use native.Mathlib.Omega.{arith}
 use lib.ListN.{length}
-use Rattle.settings.specs.Store.{run}
 use Rattle.store.specs.Check.{standing}
 use Rattle.store.proofs.Laws.{run-first, run-turn, run-stop}
 use Rattle.store.proofs.count_standing.Goals as goal

@@ -1,10 +1,8 @@
 use Prim.Native.Nat.{◌-◌, ◌*◌, ◌≤◌}
-use mathlib.Core.Path.{◌≡◌, sym, ◌∙◌}
-use native.Mathlib.Omega.{arith}
+use mathlib.Core.Path.{◌≡◌}
 use lib.ListN.{length}
 use Rattle.settings.specs.Store.{run}
 use Rattle.store.specs.Check.{standing}
-use Rattle.store.proofs.Laws.{run-first, run-turn, run-stop}
 use Rattle.store.proofs.count_standing.Given as goal
 
 abbrev pub invariant-loop-n : goal.invariant-loop-n

@@ -1,8 +1,6 @@
-use Prim.Native.Nat.{◌-◌, ◌≤◌}
-use mathlib.Core.Path.{◌≡◌, sym, ◌∙◌}
+use Prim.Native.Nat.{◌-◌}
+use mathlib.Core.Path.{sym, ◌∙◌}
 use native.Mathlib.Omega.{arith}
-use borrow.Author.Tests.{not-true, not-false}
-use Rattle.settings.specs.Store.{run}
 use Rattle.store.specs.Check.{rising}
 use Rattle.store.proofs.Laws.{run-first, run-stop, run_end, run-turn, rising-all}
 use borrow.Author.Rules.{rules}

@@ -1,10 +1,7 @@
 use Prim.Native.Nat.{◌-◌, ◌≤◌}
-use mathlib.Core.Path.{◌≡◌, sym, ◌∙◌}
-use native.Mathlib.Omega.{arith}
-use borrow.Author.Tests.{not-true, not-false}
+use mathlib.Core.Path.{◌≡◌}
 use Rattle.settings.specs.Store.{run}
 use Rattle.store.specs.Check.{rising}
-use Rattle.store.proofs.Laws.{run-first, run-stop, run_end, run-turn, rising-all}
 use Rattle.store.proofs.few_rising.Given as goal
 
 abbrev pub invariant-loop-k : goal.invariant-loop-k

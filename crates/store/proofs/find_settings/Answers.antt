@@ -1,6 +1,5 @@
 use mathlib.Core.Path.{sym, ap, ◌∙◌}
 use native.Mathlib.Omega.{arith}
-use borrow.Author.Tests.{not-true, not-false}
 use Rattle.settings.specs.declared.Setting.TheVariants.{Ignores}
 use Prim.Native.Nat.{ℕ}
 use Rattle.settings.specs.Store.{newest, ignored_by}

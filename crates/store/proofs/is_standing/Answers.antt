@@ -1,7 +1,6 @@
 use Prim.Native.Nat.{ℕ}
 use mathlib.Core.Path.{◌≡◌, sym, ◌∙◌}
 use native.Mathlib.Omega.{arith}
-use borrow.Author.Tests.{not-true, not-false}
 use Rattle.store.proofs.Laws.{stands-short, stands-not, stands-flags}
 use Rattle.store.proofs.is_standing.Goals as goal
 

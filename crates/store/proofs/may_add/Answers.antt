@@ -1,6 +1,5 @@
 use mathlib.Core.Path.{sym, ◌∙◌}
 use native.Mathlib.Omega.{arith}
-use borrow.Author.Tests.{not-true, not-false}
 use Rattle.store.proofs.Laws.{and-not, follows-not, follows-above}
 use Rattle.store.proofs.may_add.Goals as goal
 

@@ -1,7 +1,5 @@
-use Prim.Native.Nat.{◌≤◌}
-use mathlib.Core.Path.{◌≡◌, refl, sym, ◌∙◌}
+use mathlib.Core.Path.{refl, sym, ◌∙◌}
 use borrow.Author.Tests.{eq-eqb, ne_eqb}
-use Rattle.settings.specs.Store.{newest}
 use Rattle.settings.proofs.Last.{last-hit, last-miss, last_none}
 use borrow.Author.Rules.{rules}
 use Rattle.store.proofs.newest.Goals as goal

@@ -1,8 +1,6 @@
 use Prim.Native.Nat.{◌≤◌}
-use mathlib.Core.Path.{◌≡◌, refl, sym, ◌∙◌}
-use borrow.Author.Tests.{eq-eqb, ne_eqb}
+use mathlib.Core.Path.{◌≡◌}
 use Rattle.settings.specs.Store.{newest}
-use Rattle.settings.proofs.Last.{last-hit, last-miss, last_none}
 use Rattle.store.proofs.newest.Given as goal
 
 abbrev pub invariant-loop-left : goal.invariant-loop-left

@@ -1,11 +1,9 @@
-use Prim.Native.Nat.{◌-◌, ◌≤◌}
-use mathlib.Core.Path.{◌≡◌, refl, sym, ◌∙◌}
+use Prim.Native.Nat.{◌-◌}
+use mathlib.Core.Path.{refl, sym, ◌∙◌}
 use native.Mathlib.Omega.{arith}
-use lib.ListN.{length, length-set}
-use borrow.Author.Tests.{not-true, not-false}
-use Rattle.settings.specs.Store.{run}
+use lib.ListN.{length-set}
 use Rattle.store.specs.Check.{rising}
-use Rattle.store.proofs.Laws.{run-first, run-stop, run_end, run-turn, Seen, seen_none, seen_next, rises, slot-in}
+use Rattle.store.proofs.Laws.{run-first, run-stop, run_end, run-turn, seen_none, seen_next, rises, slot-in}
 use borrow.Author.Rules.{rules}
 use Rattle.store.proofs.rising_in.Goals as goal
 

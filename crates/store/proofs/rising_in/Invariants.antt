@@ -1,11 +1,9 @@
 use Prim.Native.Nat.{◌-◌, ◌≤◌}
-use mathlib.Core.Path.{◌≡◌, refl, sym, ◌∙◌}
-use native.Mathlib.Omega.{arith}
-use lib.ListN.{length, length-set}
-use borrow.Author.Tests.{not-true, not-false}
+use mathlib.Core.Path.{◌≡◌}
+use lib.ListN.{length}
 use Rattle.settings.specs.Store.{run}
 use Rattle.store.specs.Check.{rising}
-use Rattle.store.proofs.Laws.{run-first, run-stop, run_end, run-turn, Seen, seen_none, seen_next, rises, slot-in}
+use Rattle.store.proofs.Laws.{Seen}
 use Rattle.store.proofs.rising_in.Given as goal
 
 abbrev pub invariant-loop-k : goal.invariant-loop-k

@@ -1,6 +1,4 @@
-use Prim.Native.Nat.{◌≤◌}
-use mathlib.Core.Path.{◌≡◌, refl, sym, ◌∙◌}
-use Rattle.settings.specs.Store.{versioned}
+use mathlib.Core.Path.{refl, sym, ◌∙◌}
 use Rattle.settings.proofs.Last.{last-hit, last-miss, last_none}
 use borrow.Author.Rules.{rules}
 use Rattle.store.proofs.versioned.Goals as goal

@@ -1,7 +1,6 @@
 use Prim.Native.Nat.{◌≤◌}
-use mathlib.Core.Path.{◌≡◌, refl, sym, ◌∙◌}
+use mathlib.Core.Path.{◌≡◌}
 use Rattle.settings.specs.Store.{versioned}
-use Rattle.settings.proofs.Last.{last-hit, last-miss, last_none}
 use Rattle.store.proofs.versioned.Given as goal
 
 abbrev pub invariant-loop-left : goal.invariant-loop-left

@@ -1,13 +1,10 @@
-use mathlib.Core.Path.{◌≡◌, sym, ◌∙◌}
+use mathlib.Core.Path.{◌≡◌}
 use mathlib.Core.Bool.{true}
-use mathlib.Core.Logic.{⊎_elim}
-use Prim.Native.Nat.{ℕ, ◌+◌, ◌-◌, ◌*◌, ◌<◌, ◌≤◌}
-use native.Mathlib.Omega.{arith}
+use Prim.Native.Nat.{◌+◌, ◌-◌, ◌*◌, ◌≤◌}
 use lib.ListN.{length, drop}
-use Rattle.schema.specs.Layout.{width_in}
-use Rattle.schema.specs.Table.{field_type, fields_at, enums, schema}
-use Rattle.table.specs.Measure.{sound_fields, levels, Grown}
-use Rattle.table.proofs.Widths.{Summed, summed-none, width-at, fields-inside, fields-start, fields-none, other-turn, static-beyond, static-turn, sound-turn, sound-here, kept-widths, grown-none, measured-beyond, measured, ready-now, ready-before}
+use Rattle.schema.specs.Table.{fields_at, enums, schema}
+use Rattle.table.specs.Measure.{sound_fields, Grown}
+use Rattle.table.proofs.Widths.{Summed}
 use Rattle.table.proofs.+measure_group.Given as goal
 
 abbrev pub decreases-measure_group : goal.decreases-measure_group

@@ -1,8 +1,6 @@
-use mathlib.Core.Path.{◌≡◌, refl, sym, ◌∙◌}
-use Prim.Native.Nat.{◌-◌, ◌≤◌}
+use mathlib.Core.Path.{refl, sym, ◌∙◌}
 use native.Mathlib.Omega.{arith}
-use lib.ListN.{drop}
-use Rattle.schema.specs.Table.{schema, group_at, any_id}
+use Rattle.schema.specs.Table.{schema, group_at}
 use Rattle.table.proofs.Laws.{any-yes, any-skip, any-end}
 use borrow.Author.Rules.{rules}
 use Rattle.table.proofs.any_id.Goals as goal

@@ -1,9 +1,7 @@
-use mathlib.Core.Path.{◌≡◌, refl, sym, ◌∙◌}
+use mathlib.Core.Path.{◌≡◌}
 use Prim.Native.Nat.{◌-◌, ◌≤◌}
-use native.Mathlib.Omega.{arith}
 use lib.ListN.{drop}
-use Rattle.schema.specs.Table.{schema, group_at, any_id}
-use Rattle.table.proofs.Laws.{any-yes, any-skip, any-end}
+use Rattle.schema.specs.Table.{schema, any_id}
 use Rattle.table.proofs.any_id.Given as goal
 
 abbrev pub invariant-loop-g : goal.invariant-loop-g

@@ -1,5 +1,4 @@
 use mathlib.Core.Path.{sym, ◌∙◌}
-use borrow.Author.Tests.{not-true, not-false}
 use Rattle.schema.specs.Table.{enum_verdict}
 use Rattle.table.proofs.Laws.{need-yes, need-no, zeros-before}
 use Rattle.table.proofs.check_enum.Goals as goal

@@ -1,10 +1,9 @@
-use mathlib.Core.Path.{◌≡◌, sym, ◌∙◌}
-use Prim.Native.Nat.{◌-◌, ◌*◌, ◌≤◌}
+use mathlib.Core.Path.{sym, ◌∙◌}
 use native.Mathlib.Omega.{arith}
-use lib.ListN.{length, drop}
+use lib.ListN.{length}
 use Rattle.table.proofs.Laws.{also-pass, also-stop}
-use Rattle.table.proofs.Records.{records-turn, records-start, records-end, left-start, left-turn, Left}
-use Rattle.schema.specs.Table.{enums, schema, record_count, records_verdict, records_from}
+use Rattle.table.proofs.Records.{records-turn, records-start, records-end, left-start, left-turn}
+use Rattle.schema.specs.Table.{enums, schema}
 use borrow.Author.Rules.{rules}
 use Rattle.table.proofs.check_records.Goals as goal
 

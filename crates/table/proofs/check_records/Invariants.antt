@@ -1,9 +1,7 @@
-use mathlib.Core.Path.{◌≡◌, sym, ◌∙◌}
+use mathlib.Core.Path.{◌≡◌}
 use Prim.Native.Nat.{◌-◌, ◌*◌, ◌≤◌}
-use native.Mathlib.Omega.{arith}
 use lib.ListN.{length, drop}
-use Rattle.table.proofs.Laws.{also-pass, also-stop}
-use Rattle.table.proofs.Records.{records-turn, records-start, records-end, left-start, left-turn, Left}
+use Rattle.table.proofs.Records.{Left}
 use Rattle.schema.specs.Table.{enums, schema, record_count, records_verdict, records_from}
 use Rattle.table.proofs.check_records.Given as goal
 

@@ -1,11 +1,10 @@
 use mathlib.Core.Path.{◌≡◌, sym, ap, ◌∙◌}
-use Prim.Native.Nat.{◌+◌, ◌-◌, ◌*◌, ◌≤◌}
+use Prim.Native.Nat.{◌+◌, ◌-◌, ◌*◌}
 use native.Mathlib.Omega.{arith}
 use lib.ListN.{length, drop, length-set}
-use borrow.Author.Tests.{not-true, not-false}
-use Rattle.schema.specs.Table.{Due, record_count, shape_verdict, shape_from}
+use Rattle.schema.specs.Table.{Due, record_count, shape_from}
 use Rattle.table.proofs.Records.{begun-none, shape-start, shape-stop, shape-turn, shape-short, shape-done, stopped, placed-all}
-use Rattle.table.specs.Index.{due_of, Begun}
+use Rattle.table.specs.Index.{due_of}
 use borrow.Author.Rules.{rules}
 use Rattle.table.proofs.check_shape.Goals as goal
 

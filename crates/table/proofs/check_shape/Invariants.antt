@@ -1,10 +1,7 @@
-use mathlib.Core.Path.{◌≡◌, sym, ap, ◌∙◌}
-use Prim.Native.Nat.{◌+◌, ◌-◌, ◌*◌, ◌≤◌}
-use native.Mathlib.Omega.{arith}
-use lib.ListN.{length, drop, length-set}
-use borrow.Author.Tests.{not-true, not-false}
-use Rattle.schema.specs.Table.{Due, record_count, shape_verdict, shape_from}
-use Rattle.table.proofs.Records.{begun-none, shape-start, shape-stop, shape-turn, shape-short, shape-done, stopped, placed-all}
+use mathlib.Core.Path.{◌≡◌}
+use Prim.Native.Nat.{◌-◌, ◌*◌, ◌≤◌}
+use lib.ListN.{drop}
+use Rattle.schema.specs.Table.{record_count, shape_verdict, shape_from}
 use Rattle.table.specs.Index.{due_of, Begun}
 use Rattle.table.proofs.check_shape.Given as goal
 

@@ -1,9 +1,6 @@
-use mathlib.Core.Path.{◌≡◌, refl, sym, ◌∙◌}
-use Prim.Native.Nat.{◌-◌, ◌≤◌}
+use mathlib.Core.Path.{refl, sym, ◌∙◌}
 use native.Mathlib.Omega.{arith}
-use lib.ListN.{drop}
-use borrow.Author.Tests.{not-true, not-false}
-use Rattle.schema.specs.Table.{places, each_group, stores_own, stored_verdict}
+use Rattle.schema.specs.Table.{stored_verdict}
 use Rattle.table.proofs.Groups.{each-stop, each_turn, each-end}
 use borrow.Author.Rules.{rules}
 use Rattle.table.proofs.check_stored.Goals as goal

@@ -1,10 +1,7 @@
-use mathlib.Core.Path.{◌≡◌, refl, sym, ◌∙◌}
+use mathlib.Core.Path.{◌≡◌}
 use Prim.Native.Nat.{◌-◌, ◌≤◌}
-use native.Mathlib.Omega.{arith}
 use lib.ListN.{drop}
-use borrow.Author.Tests.{not-true, not-false}
 use Rattle.schema.specs.Table.{places, each_group, stores_own, stored_verdict}
-use Rattle.table.proofs.Groups.{each-stop, each_turn, each-end}
 use Rattle.table.proofs.check_stored.Given as goal
 
 abbrev pub invariant-loop-g : goal.invariant-loop-g

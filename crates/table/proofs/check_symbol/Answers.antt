@@ -1,7 +1,7 @@
 use mathlib.Core.Path.{sym, ◌∙◌}
 use native.Mathlib.Omega.{arith}
 use lib.ListN.{drop}
-use borrow.Author.Tests.{not-true, not-false, le-leb, lt-leb}
+use borrow.Author.Tests.{le-leb, lt-leb}
 use Rattle.schema.specs.Symbols.{rank}
 use Rattle.schema.specs.Table.{symbol_value, symbol_verdict}
 use Rattle.table.proofs.Laws.{need-yes, need-no, zeros-before}

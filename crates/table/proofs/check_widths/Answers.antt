@@ -1,8 +1,7 @@
-use mathlib.Core.Path.{◌≡◌, refl, ◌∙◌}
-use Prim.Native.Nat.{ℕ, ◌-◌, ◌<◌, ◌≤◌}
+use mathlib.Core.Path.{refl, ◌∙◌}
+use Prim.Native.Nat.{◌≤◌}
 use native.Mathlib.Omega.{arith}
-use lib.ListN.{drop}
-use Rattle.schema.specs.Table.{schema, places, each_group, in_bounds, widths_verdict}
+use Rattle.schema.specs.Table.{widths_verdict}
 use Rattle.table.specs.Measure.{levels}
 use Rattle.table.proofs.Groups.{each-stop, each_turn, each-end}
 use Rattle.table.proofs.Laws.{never}
@@ -42,7 +41,7 @@ loop-g-preserved c =
     let m = c.measure_groups.ensures in
     let n = c.group_total-groups.ensures.0 ∙ m.0.placing.total in
     let taken = c.loop-g-test.true in
-    let k = c.measure_groups.new.1.0 in
+    let k = c.measure_groups.new.index in
     let low : levels k l.g ≤ 5 = omega (arith, c.group_levels.ensures.0, c.if-group_levels-gt5.false) in
     (search rules, up k l.g l.invariant.1 low, each_turn 35 _ _ _ m.0.placing _ n _ l.g l.invariant.2 taken (in-bounds _ _ _ m.0 m.1 l.g (omega (arith, n, taken)) low))
 

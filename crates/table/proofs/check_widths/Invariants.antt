@@ -1,12 +1,8 @@
-use mathlib.Core.Path.{◌≡◌, refl, ◌∙◌}
+use mathlib.Core.Path.{◌≡◌}
 use Prim.Native.Nat.{ℕ, ◌-◌, ◌<◌, ◌≤◌}
-use native.Mathlib.Omega.{arith}
 use lib.ListN.{drop}
 use Rattle.schema.specs.Table.{schema, places, each_group, in_bounds, widths_verdict}
 use Rattle.table.specs.Measure.{levels}
-use Rattle.table.proofs.Groups.{each-stop, each_turn, each-end}
-use Rattle.table.proofs.Laws.{never}
-use Rattle.table.proofs.Widths.{in-bounds, out-of-bounds, all-sized, up}
 use Rattle.table.proofs.check_widths.Given as goal
 
 abbrev pub invariant-loop-g : goal.invariant-loop-g

@@ -1,5 +1,4 @@
 use mathlib.Core.Path.{sym, ◌∙◌}
-use borrow.Author.Tests.{not-true, not-false}
 use Rattle.table.proofs.Formed.{whole_of, after-30, after-31, after-34, after-ids, by-groups, schema-sound, supers-low, layout_of}
 use Rattle.table.proofs.Values.{lists-ordered}
 use Rattle.table.proofs.Widths.{kept-none}
@@ -34,7 +33,7 @@ check_groups-requires c =
     let e = c.in-Accepted.is in
     let s = sym shape.verdict ∙ e in
     let r = sym c.check_records-records.ensures ∙ c.in-Accepted-records.is in
-    (shape.placing e, kept-none t c.check_shape-shape.new.1.0 (shape.blank e), schema-sound t s r, supers-low t s r)
+    (shape.placing e, kept-none t c.check_shape-shape.new.index (shape.blank e), schema-sound t s r, supers-low t s r)
 
 pub returns : goal.returns
 returns c =

@@ -1,9 +1,5 @@
 use mathlib.Core.Path.{◌∙◌}
-use Prim.Native.Nat.{ℕ, ◌-◌, ◌<◌, ◌≤◌}
 use native.Mathlib.Omega.{arith}
-use lib.ListN.{length}
-use Rattle.schema.specs.Table.{schema}
-use Rattle.table.specs.Measure.{levels, Grown}
 use Rattle.table.proofs.Widths.{grown-none, grown-more, down}
 use Rattle.table.proofs.measure_groups.Goals as goal
 
@@ -33,7 +29,7 @@ pub loop-g-preserved : goal.loop-g-preserved
 loop-g-preserved c =
     let l = c.loop-g in
     let m = c.measure_group.ensures in
-    (omega (arith, l.invariant.0), grown-more _ _ l.index _ l.invariant.1 m.0, down l.index c.measure_group.new.1.0 l.g _ l.invariant.2 m.0.more m.1)
+    (omega (arith, l.invariant.0), grown-more _ _ l.index _ l.invariant.1 m.0, down l.index c.measure_group.new.index l.g _ l.invariant.2 m.0.more m.1)
 
 pub returns : goal.returns
 returns c = let l = c.loop-g.invariant in (l.1, λ g q. l.2 g (omega (arith, c.loop-g-test.false)) q)

@@ -1,10 +1,7 @@
-use mathlib.Core.Path.{◌∙◌}
-use Prim.Native.Nat.{ℕ, ◌-◌, ◌<◌, ◌≤◌}
-use native.Mathlib.Omega.{arith}
+use Prim.Native.Nat.{ℕ, ◌<◌, ◌≤◌}
 use lib.ListN.{length}
 use Rattle.schema.specs.Table.{schema}
 use Rattle.table.specs.Measure.{levels, Grown}
-use Rattle.table.proofs.Widths.{grown-none, grown-more, down}
 use Rattle.table.proofs.measure_groups.Given as goal
 
 abbrev pub invariant-loop-g : goal.invariant-loop-g

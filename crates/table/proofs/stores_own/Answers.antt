@@ -1,6 +1,5 @@
 use mathlib.Core.Path.{sym, ◌∙◌}
 use native.Mathlib.Omega.{arith}
-use borrow.Author.Tests.{not-true, not-false}
 use Rattle.schema.proofs.Groups.{placed-inside}
 use Rattle.table.proofs.Stored.{stores-none, stores-width}
 use Rattle.table.proofs.stores_own.Goals as goal

@@ -1,9 +1,6 @@
-use Prim.Native.Nat.{◌-◌, ◌≤◌}
-use mathlib.Core.Path.{◌≡◌, sym, ap, ◌∙◌}
-use mathlib.Core.Bool.{◌&&◌}
-use Rattle.wire.specs.Bytes.{part}
+use mathlib.Core.Path.{sym, ap, ◌∙◌}
 use Rattle.wire.specs.Scan.{all_ascii}
-use Rattle.wire.proofs.Turns.{rest, rest_all, ascii-turn, ascii-end}
+use Rattle.wire.proofs.Turns.{rest_all, ascii-turn, ascii-end}
 use borrow.Author.Rules.{rules}
 use Rattle.wire.proofs.all_ascii.Goals as goal
 

@@ -1,9 +1,9 @@
 use Prim.Native.Nat.{◌-◌, ◌≤◌}
-use mathlib.Core.Path.{◌≡◌, sym, ap, ◌∙◌}
+use mathlib.Core.Path.{◌≡◌}
 use mathlib.Core.Bool.{◌&&◌}
 use Rattle.wire.specs.Bytes.{part}
 use Rattle.wire.specs.Scan.{all_ascii}
-use Rattle.wire.proofs.Turns.{rest, rest_all, ascii-turn, ascii-end}
+use Rattle.wire.proofs.Turns.{rest}
 use Rattle.wire.proofs.all_ascii.Given as goal
 
 abbrev pub invariant-loop-i : goal.invariant-loop-i

@@ -1,8 +1,6 @@
-use Prim.Native.Nat.{◌-◌, ◌≤◌}
-use mathlib.Core.Path.{◌≡◌, sym, ap, ◌∙◌}
-use mathlib.Core.Bool.{◌&&◌}
-use Rattle.wire.specs.Bytes.{part, all_zero}
-use Rattle.wire.proofs.Turns.{rest, rest_all, zero_turn, zero-end}
+use mathlib.Core.Path.{sym, ap, ◌∙◌}
+use Rattle.wire.specs.Bytes.{all_zero}
+use Rattle.wire.proofs.Turns.{rest_all, zero_turn, zero-end}
 use borrow.Author.Rules.{rules}
 use Rattle.wire.proofs.all_zero.Goals as goal
 

@@ -1,8 +1,8 @@
 use Prim.Native.Nat.{◌-◌, ◌≤◌}
-use mathlib.Core.Path.{◌≡◌, sym, ap, ◌∙◌}
+use mathlib.Core.Path.{◌≡◌}
 use mathlib.Core.Bool.{◌&&◌}
 use Rattle.wire.specs.Bytes.{part, all_zero}
-use Rattle.wire.proofs.Turns.{rest, rest_all, zero_turn, zero-end}
+use Rattle.wire.proofs.Turns.{rest}
 use Rattle.wire.proofs.all_zero.Given as goal
 
 abbrev pub invariant-loop-i : goal.invariant-loop-i

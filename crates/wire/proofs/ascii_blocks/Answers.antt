@@ -1,8 +1,4 @@
-use borrow.Author.Tests.{not-false}
-use Prim.Native.Nat.{◌-◌, ◌≤◌}
-use mathlib.Core.Path.{◌≡◌, refl, sym, ◌∙◌}
-use lib.ListN.{length, drop}
-use Rattle.wire.specs.Utf8.{utf8}
+use mathlib.Core.Path.{refl, sym, ◌∙◌}
 use Rattle.wire.proofs.Forms.{ascii-part}
 use borrow.Author.Rules.{rules}
 use Rattle.wire.proofs.ascii_blocks.Goals as goal

@@ -1,9 +1,7 @@
-use borrow.Author.Tests.{not-false}
 use Prim.Native.Nat.{◌-◌, ◌≤◌}
-use mathlib.Core.Path.{◌≡◌, refl, sym, ◌∙◌}
+use mathlib.Core.Path.{◌≡◌}
 use lib.ListN.{length, drop}
 use Rattle.wire.specs.Utf8.{utf8}
-use Rattle.wire.proofs.Forms.{ascii-part}
 use Rattle.wire.proofs.ascii_blocks.Given as goal
 
 abbrev pub invariant-loop-i : goal.invariant-loop-i

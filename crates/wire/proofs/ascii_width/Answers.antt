@@ -1,5 +1,4 @@
 use native.Mathlib.Omega.{arith}
-use borrow.Author.Tests.{not-false}
 use Rattle.wire.proofs.Forms.{no-ascii, one-ascii, four-eights, both}
 use Rattle.wire.proofs.ascii_width.Goals as goal
 

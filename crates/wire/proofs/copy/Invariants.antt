@@ -1,9 +1,7 @@
-use Prim.Native.Nat.{◌-◌, ◌≤◌}
-use mathlib.Core.Path.{◌≡◌, refl, sym, ◌∙◌}
-use native.Mathlib.Omega.{arith}
+use Prim.Native.Nat.{◌≤◌}
+use mathlib.Core.Path.{◌≡◌}
 use lib.ListN.{length}
 use Rattle.wire.specs.Bytes.{part, splice}
-use Rattle.wire.proofs.Copies.{copied-last}
 use Rattle.wire.proofs.copy.Given as goal
 
 abbrev pub invariant-loop-left : goal.invariant-loop-left

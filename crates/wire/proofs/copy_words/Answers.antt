@@ -1,8 +1,5 @@
-use Prim.Native.Nat.{◌+◌, ◌-◌, ◌≤◌}
-use mathlib.Core.Path.{◌≡◌, refl, sym, ◌∙◌}
+use mathlib.Core.Path.{refl, sym, ◌∙◌}
 use native.Mathlib.Omega.{arith}
-use lib.ListN.{length}
-use Rattle.wire.specs.Bytes.{part, splice}
 use Rattle.wire.proofs.Copies.{words-start, words-next}
 use borrow.Author.Rules.{rules}
 use Rattle.wire.proofs.copy_words.Goals as goal

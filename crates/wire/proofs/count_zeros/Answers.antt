@@ -1,8 +1,6 @@
-use Prim.Native.Nat.{◌+◌, ◌-◌, ◌≤◌}
-use mathlib.Core.Path.{◌≡◌, sym, ◌∙◌}
+use mathlib.Core.Path.{sym, ◌∙◌}
 use native.Mathlib.Omega.{arith}
-use Rattle.wire.specs.Bytes.{part, zeros}
-use Rattle.wire.proofs.Turns.{rest, rest_all, count_turn, count-stop, count-end}
+use Rattle.wire.proofs.Turns.{rest_all, count_turn, count-stop, count-end}
 use borrow.Author.Rules.{rules}
 use Rattle.wire.proofs.count_zeros.Goals as goal
 

@@ -1,8 +1,7 @@
 use Prim.Native.Nat.{◌+◌, ◌-◌, ◌≤◌}
-use mathlib.Core.Path.{◌≡◌, sym, ◌∙◌}
-use native.Mathlib.Omega.{arith}
+use mathlib.Core.Path.{◌≡◌}
 use Rattle.wire.specs.Bytes.{part, zeros}
-use Rattle.wire.proofs.Turns.{rest, rest_all, count_turn, count-stop, count-end}
+use Rattle.wire.proofs.Turns.{rest}
 use Rattle.wire.proofs.count_zeros.Given as goal
 
 abbrev pub invariant-loop-i : goal.invariant-loop-i

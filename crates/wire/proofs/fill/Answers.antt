@@ -1,9 +1,6 @@
-use Prim.Native.Nat.{◌+◌, ◌-◌, ◌≤◌}
-use mathlib.Core.Path.{◌≡◌, refl, sym, ◌∙◌}
+use mathlib.Core.Path.{refl, sym, ◌∙◌}
 use native.Mathlib.Omega.{arith}
 use native.Mathlib.Nat as nat
-use lib.ListN.{length, replicate}
-use Rattle.wire.specs.Bytes.{splice}
 use Rattle.wire.proofs.Turns.{fill-turn, fill_end}
 use borrow.Author.Rules.{rules}
 use Rattle.wire.proofs.fill.Goals as goal

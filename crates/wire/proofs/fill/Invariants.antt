@@ -1,10 +1,7 @@
 use Prim.Native.Nat.{◌+◌, ◌-◌, ◌≤◌}
-use mathlib.Core.Path.{◌≡◌, refl, sym, ◌∙◌}
-use native.Mathlib.Omega.{arith}
-use native.Mathlib.Nat as nat
+use mathlib.Core.Path.{◌≡◌}
 use lib.ListN.{length, replicate}
 use Rattle.wire.specs.Bytes.{splice}
-use Rattle.wire.proofs.Turns.{fill-turn, fill_end}
 use Rattle.wire.proofs.fill.Given as goal
 
 abbrev pub invariant-loop-i : goal.invariant-loop-i

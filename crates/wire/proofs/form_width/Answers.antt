@@ -1,4 +1,3 @@
-use borrow.Author.Tests.{not-true, not-false}
 use mathlib.Core.Path.{sym, ap, ◌∙◌}
 use mathlib.Core.Bool.{not}
 use Rattle.wire.proofs.Forms.{no_start, bad-second, form-two, bad-third, form-three, bad-fourth, form-four}

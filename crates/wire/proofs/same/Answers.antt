@@ -1,8 +1,5 @@
-use Prim.Native.Nat.{◌-◌, ◌≤◌}
-use mathlib.Core.Path.{◌≡◌, sym, ◌∙◌}
-use mathlib.Core.Bool.{◌&&◌}
-use Rattle.wire.specs.Bytes.{part, same}
-use Rattle.wire.proofs.Turns.{rest, rest_all, same_turn, same_end}
+use mathlib.Core.Path.{sym, ◌∙◌}
+use Rattle.wire.proofs.Turns.{rest_all, same_turn, same_end}
 use borrow.Author.Rules.{rules}
 use Rattle.wire.proofs.same.Goals as goal
 

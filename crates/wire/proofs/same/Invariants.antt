@@ -1,8 +1,8 @@
 use Prim.Native.Nat.{◌-◌, ◌≤◌}
-use mathlib.Core.Path.{◌≡◌, sym, ◌∙◌}
+use mathlib.Core.Path.{◌≡◌}
 use mathlib.Core.Bool.{◌&&◌}
 use Rattle.wire.specs.Bytes.{part, same}
-use Rattle.wire.proofs.Turns.{rest, rest_all, same_turn, same_end}
+use Rattle.wire.proofs.Turns.{rest}
 use Rattle.wire.proofs.same.Given as goal
 
 abbrev pub invariant-loop-i : goal.invariant-loop-i

@@ -2,6 +2,8 @@
 //
 // `index` is what Layout.antt says of an accepted table: where its records stand, and how wide its
 // groups are. Callers ask for a number of it by name, never by its position.
+#![tactic(auto)]
+
 ghost use Rattle.std.specs.Prelude.{◌≡◌, ℕ, ◌+◌, ◌*◌, ◌^◌, ◌<◌, ◌≤◌, ◌&&◌, List, [], length, take, drop, if◌then◌else◌, ◌==◌, slice_index, slice_index_or};
 ghost use Rattle.wire.specs.Bytes.{part};
 ghost use Rattle.schema.specs.Schema.{text_ok, member, find, known, allows, kind_width, value_width, field_width};

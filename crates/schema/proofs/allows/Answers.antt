@@ -1,5 +1,4 @@
-use Rattle.std.proofs.Common.{◌≡◌, ℕ, ◌-◌, ◌<◌, ◌≤◌, length, sym, refl, ◌∙◌, arith, rules}
-use Rattle.schema.specs.Schema.{under}
+use Rattle.std.proofs.Common.{◌-◌, sym, refl, ◌∙◌, arith, rules}
 use Rattle.schema.specs.Table.{schema}
 use Rattle.schema.proofs.Groups.{allows-any, allows-under, under_same, under_top, under_next, placed-inside, placed-super}
 use Rattle.schema.proofs.allows.Goals as goal

@@ -1,7 +1,6 @@
-use Rattle.std.proofs.Common.{◌≡◌, ℕ, ◌-◌, ◌<◌, ◌≤◌, length, sym, refl, ◌∙◌, arith, rules}
+use Rattle.std.proofs.Common.{◌≡◌, ℕ, ◌-◌, ◌<◌, ◌≤◌, length}
 use Rattle.schema.specs.Schema.{under}
 use Rattle.schema.specs.Table.{schema}
-use Rattle.schema.proofs.Groups.{allows-any, allows-under, under_same, under_top, under_next, placed-inside, placed-super}
 use Rattle.schema.proofs.allows.Given as goal
 
 abbrev pub invariant-loop-above : goal.invariant-loop-above

@@ -1,4 +1,4 @@
-use Rattle.std.proofs.Common.{sym, rules}
+use Rattle.std.proofs.Common.{sym}
 use Rattle.schema.proofs.Records.{byte_at}
 use Rattle.schema.proofs.field_type.Goals as goal
 

@@ -1,4 +1,4 @@
-use Rattle.std.proofs.Common.{sym, ◌∙◌, arith, rules}
+use Rattle.std.proofs.Common.{sym, ◌∙◌, arith}
 use Rattle.schema.proofs.Types.{width-optional, width-required}
 use Rattle.schema.proofs.field_width.Goals as goal
 

@@ -1,7 +1,6 @@
-use Rattle.std.proofs.Common.{◌≡◌, ◌+◌, ◌-◌, ◌≤◌, take, sym, ◌∙◌, arith, rules}
-use Rattle.schema.specs.Schema.{find}
+use Rattle.std.proofs.Common.{sym, ◌∙◌, arith, rules}
 use Rattle.schema.specs.Table.{schema}
-use Rattle.schema.proofs.Groups.{groups_in, find-all, find-hit, find-miss, find-end, placed-inside}
+use Rattle.schema.proofs.Groups.{find-all, find-hit, find-miss, find-end, placed-inside}
 use Rattle.schema.proofs.find.Goals as goal
 
 pub loop-i-init : goal.loop-i-init

@@ -1,7 +1,7 @@
-use Rattle.std.proofs.Common.{◌≡◌, ◌+◌, ◌-◌, ◌≤◌, take, sym, ◌∙◌, arith, rules}
+use Rattle.std.proofs.Common.{◌≡◌, ◌+◌, ◌-◌, ◌≤◌, take}
 use Rattle.schema.specs.Schema.{find}
 use Rattle.schema.specs.Table.{schema}
-use Rattle.schema.proofs.Groups.{groups_in, find-all, find-hit, find-miss, find-end, placed-inside}
+use Rattle.schema.proofs.Groups.{groups_in}
 use Rattle.schema.proofs.find.Given as goal
 
 abbrev pub invariant-loop-i : goal.invariant-loop-i

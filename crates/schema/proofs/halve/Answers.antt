@@ -1,4 +1,4 @@
-use Rattle.std.proofs.Common.{arith, rules}
+use Rattle.std.proofs.Common.{arith}
 use Rattle.schema.specs.Symbols.{halve}
 use Rattle.schema.proofs.halve.Goals as goal
 

@@ -1,4 +1,4 @@
-use Rattle.std.proofs.Common.{ℕ, eqb, sym, ap, rules}
+use Rattle.std.proofs.Common.{ℕ, eqb, sym, ap}
 use Rattle.schema.proofs.Records.{byte_at}
 use Rattle.schema.proofs.has_id.Goals as goal
 

@@ -1,6 +1,5 @@
-use Rattle.std.proofs.Common.{◌+◌, ◌≤◌, [], length, get_or, sym, ◌∙◌, arith, rules}
-use Rattle.schema.specs.Table.{enums}
-use Rattle.schema.proofs.Symbols.{symbols-count, halves, Running, running, running-on, running-over}
+use Rattle.std.proofs.Common.{sym, ◌∙◌, arith}
+use Rattle.schema.proofs.Symbols.{symbols-count, halves, running, running-on, running-over}
 use Rattle.schema.proofs.has_symbol.Goals as goal
 
 pub loop-search-init : goal.loop-search-init

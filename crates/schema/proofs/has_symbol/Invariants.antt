@@ -1,6 +1,6 @@
-use Rattle.std.proofs.Common.{◌+◌, ◌≤◌, [], length, get_or, sym, ◌∙◌, arith, rules}
+use Rattle.std.proofs.Common.{◌+◌, ◌≤◌, [], length, get_or}
 use Rattle.schema.specs.Table.{enums}
-use Rattle.schema.proofs.Symbols.{symbols-count, halves, Running, running, running-on, running-over}
+use Rattle.schema.proofs.Symbols.{Running}
 use Rattle.schema.proofs.has_symbol.Given as goal
 
 abbrev pub invariant-loop-search : goal.invariant-loop-search

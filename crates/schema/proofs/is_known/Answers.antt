@@ -1,4 +1,4 @@
-use Rattle.std.proofs.Common.{ltb, sym, ap, ◌∙◌, arith, rules}
+use Rattle.std.proofs.Common.{ltb, sym, ap, ◌∙◌, arith}
 use Rattle.schema.proofs.Groups.{find-whole, known_is}
 use Rattle.schema.specs.Table.{schema}
 use Rattle.schema.proofs.is_known.Goals as goal

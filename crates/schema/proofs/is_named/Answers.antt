@@ -1,4 +1,4 @@
-use Rattle.std.proofs.Common.{eqb, drop, sym, ◌∙◌, rules}
+use Rattle.std.proofs.Common.{eqb, drop, sym, ◌∙◌}
 use Rattle.schema.proofs.Groups.{named, not_named}
 use Rattle.schema.specs.Table.{id_flag}
 use Rattle.schema.proofs.is_named.Goals as goal

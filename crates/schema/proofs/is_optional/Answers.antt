@@ -1,4 +1,4 @@
-use Rattle.std.proofs.Common.{sym, rules}
+use Rattle.std.proofs.Common.{sym}
 use Rattle.schema.proofs.Records.{field-optional}
 use Rattle.schema.proofs.is_optional.Goals as goal
 

@@ -1,4 +1,4 @@
-use Rattle.std.proofs.Common.{sym, rules}
+use Rattle.std.proofs.Common.{sym}
 use Rattle.schema.proofs.Records.{field-sequence}
 use Rattle.schema.proofs.is_sequence.Goals as goal
 

@@ -1,4 +1,4 @@
-use Rattle.std.proofs.Common.{◌∙◌, rules}
+use Rattle.std.proofs.Common.{◌∙◌}
 use native.Mathlib.Nat.{add-sub_cancel_left}
 use Rattle.schema.specs.Schema.{text_ok}
 use Rattle.schema.proofs.is_text.Goals as goal

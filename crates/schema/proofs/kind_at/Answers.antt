@@ -1,4 +1,4 @@
-use Rattle.std.proofs.Common.{◌∙◌, rules}
+use Rattle.std.proofs.Common.{◌∙◌}
 use Rattle.schema.proofs.Records.{field-kind}
 use Rattle.schema.proofs.Types.{kind-flag, kind-millis, kind-nanos, kind-string, kind-binary, kind-fixed, kind-symbol, kind-static, kind-dynamic, kind-plain, kind-any, above}
 use Rattle.schema.proofs.kind_at.Goals as goal

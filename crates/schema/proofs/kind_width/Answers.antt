@@ -1,4 +1,4 @@
-use Rattle.std.proofs.Common.{◌∙◌, arith, rules}
+use Rattle.std.proofs.Common.{◌∙◌, arith}
 use Rattle.schema.specs.Schema.{kind_width}
 use Rattle.schema.specs.FieldKinds.{kind_from}
 use Rattle.schema.proofs.kind_width.Goals as goal

@@ -1,4 +1,4 @@
-use Rattle.std.proofs.Common.{◌∙◌, arith, rules}
+use Rattle.std.proofs.Common.{◌∙◌, arith}
 use Rattle.schema.proofs.Symbols.{symbol-inside, symbol-stands}
 use Rattle.schema.proofs.symbol_at.Goals as goal
 

@@ -1,4 +1,4 @@
-use Rattle.std.proofs.Common.{sym, ◌∙◌, rules}
+use Rattle.std.proofs.Common.{sym, ◌∙◌}
 use Rattle.schema.proofs.Records.{number-at}
 use Rattle.schema.proofs.symbol_value.Goals as goal
 

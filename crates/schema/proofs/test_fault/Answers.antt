@@ -1,4 +1,4 @@
-use Rattle.std.proofs.Common.{ℕ, ltb, [], get_or, drop, sym, ap, ◌∙◌, arith, rules, le-ltb, lt-ltb}
+use Rattle.std.proofs.Common.{ℕ, ltb, [], get_or, drop, sym, ap, ◌∙◌, arith, le-ltb, lt-ltb}
 use Rattle.schema.specs.Schema.{kind_width, test_fault, flag, below, symbol}
 use Rattle.schema.specs.Table.{enums}
 use Rattle.schema.specs.FieldKinds.{tested_kind}

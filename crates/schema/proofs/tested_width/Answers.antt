@@ -1,4 +1,3 @@
-use Rattle.std.proofs.Common.{rules}
 use Rattle.schema.specs.Schema.{kind_width}
 use Rattle.schema.specs.FieldKinds.{tested_kind}
 use Rattle.schema.proofs.tested_width.Goals as goal

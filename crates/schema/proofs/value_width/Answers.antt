@@ -1,4 +1,4 @@
-use Rattle.std.proofs.Common.{sym, ap, ◌∙◌, arith, rules}
+use Rattle.std.proofs.Common.{sym, ap, ◌∙◌, arith}
 use Rattle.schema.specs.Schema.{kind_width}
 use Rattle.schema.specs.Layout.{width_in}
 use Rattle.schema.proofs.Types.{width-sequence, width_one}

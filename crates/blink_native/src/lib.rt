@@ -1,5 +1,7 @@
 // The public questions for C and Rust. A slice passes as a pointer and a length, an answer as a struct of numbers by
 // value; include/blink_native.h declares them.
+#![tactic(auto)]
+
 ghost use Rattle.std.specs.Prelude.{◌≡◌, ◌≤◌, length};
 ghost use Rattle.schema.specs.Table.{table_verdict};
 ghost use Rattle.fields.specs.Fields.{field_shape};

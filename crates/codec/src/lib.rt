@@ -1,4 +1,6 @@
 // The public questions. Any bytes may arrive, so none has a `requires`.
+#![tactic(auto)]
+
 ghost use Rattle.std.specs.Prelude.{◌≡◌, ◌+◌, length};
 ghost use Rattle.schema.specs.Table.{schema, table_verdict};
 ghost use Rattle.schema.specs.Layout.{Layout};

@@ -1,4 +1,6 @@
 // The faults' words: the list of them, and one fault's words out of it.
+#![tactic(auto)]
+
 ghost use Rattle.std.specs.Prelude.{◌≡◌, ◌+◌, ◌≤◌, length, drop};
 ghost use Rattle.wire.specs.Bytes.{part, same};
 ghost use Rattle.faults.specs.Words.{heading, line, words_of, fitted, faults};

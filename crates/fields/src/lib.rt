@@ -1,4 +1,6 @@
 // What a group's fields are, for callers that must know it before they read them.
+#![tactic(auto)]
+
 ghost use Rattle.std.specs.Prelude.{◌≡◌, cond, ◌&&◌, List, ℕ, ◌+◌, ◌*◌, ◌≤◌, length, drop, get_or, eqb};
 ghost use Rattle.wire.specs.Bytes.{same};
 ghost use Rattle.schema.specs.Table.{schema, field_at, fields_at};

@@ -1,6 +1,8 @@
 // One ledger line for each message of the Blank group that nothing refuses.
 //
 // Of `codec` it sees what its public questions' contracts and its stated theorems say, and nothing else.
+#![tactic(auto)]
+
 ghost use Rattle.std.specs.Prelude.{◌≡◌, ◌+◌, ◌≤◌, length};
 ghost use Rattle.wire.specs.Bytes.{part, bytes_of, splice};
 ghost use Rattle.reading.specs.Part.{bytes_in};

@@ -1,5 +1,7 @@
 // Bytes, and records of an accepted table, found with no index. Each question has an answer at every place: past the end there are no
 // bytes, and the bytes that a number lacks are zeros.
+#![tactic(auto)]
+
 ghost use Rattle.std.specs.Prelude.{◌≡◌, ◌&&◌, ◌+◌, ◌*◌, ◌<◌, ◌^◌, take, drop, get_or, eqb};
 ghost use Rattle.wire.specs.Bytes.{part, le, same};
 ghost use Rattle.schema.specs.Table.{group_marked, type_id, id_flag, field_count, field_type, field_size, reference};

@@ -1,5 +1,7 @@
 // How many messages of a tape are accepted, exported so that `bench/` can time a loop that has the table's index. What the
 // scratch holds afterwards is not stated.
+#![tactic(auto)]
+
 ghost use Rattle.std.specs.Prelude.{◌≡◌, length};
 ghost use Rattle.table.specs.Index.{Checked};
 ghost use Rattle.opening.specs.Opening.{under};

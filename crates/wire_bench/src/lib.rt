@@ -1,4 +1,6 @@
 // The leaves of crate `wire`, exported so that `bench/` can time them beside the same loops in Rust.
+#![tactic(auto)]
+
 ghost use Rattle.std.specs.Prelude.{◌≡◌, cond, length, replicate, leb};
 ghost use Rattle.wire.specs.Bytes.{part, splice, all_zero, zeros};
 ghost use Rattle.wire.specs.Utf8.{utf8};

@@ -1,6 +1,5 @@
 use mathlib.Core.Path.{sym, ◌∙◌}
 use native.Mathlib.Omega.{arith}
-use borrow.Author.Tests.{not-true, not-false}
 use Rattle.reading.proofs.Found.{message-long}
 use Rattle.codec.specs.declared.Front.TheVariants.{Read}
 use Rattle.codec.proofs.Laws.{other-type, other-fields, front-is}

@@ -10,15 +10,15 @@ use Rattle.codec.proofs.Laws.{part-read, part-refused}
 use Rattle.codec.proofs.read_bytes.Goals as goal
 
 pub read_bytes-requires : goal.read_bytes-requires
-read_bytes-requires c = let K = c.open_message-walked.ensures.0.opens _ c.in-Counted.is in (K.layout, (K.sheet, [], K.walks))
+read_bytes-requires c = let K = c.open_message-walked.ensures.opened.opens _ c.in-Counted.is in (K.layout, (K.sheet, [], K.walks))
 
 pub returns-in-Counted : goal.returns-in-Counted
 unfolding bytes_in start_of
 returns-in-Counted c = let a = c.args in
-    let e = part-read a.table.now a.message.now (under a.store.now a.customer (length a.scratch.now)) a.field a.item _ _ (c.open_message-walked.ensures.0.opens _ c.in-Counted.is).means in (c.read_bytes.ensures.0 ∙ sym (ap (bytes_in a.message.now) e), (c.read_bytes.ensures.1.0, (c.read_bytes.ensures.1.1 ∙ sym (ap (λ (q : Part). a.message.ref_ptr.1 + start_of q) e), c.open_message-walked.ensures.1)))
+    let e = part-read a.table.now a.message.now (under a.store.now a.customer (length a.scratch.now)) a.field a.item _ _ (c.open_message-walked.ensures.opened.opens _ c.in-Counted.is).means in record { what = c.read_bytes.ensures.what ∙ sym (ap (bytes_in a.message.now) e); block = c.read_bytes.ensures.block; offset = c.read_bytes.ensures.offset ∙ sym (ap (λ (q : Part). a.message.ref_ptr.1 + start_of q) e); scratch_after = c.open_message-walked.ensures.scratch_after }
 
 pub returns-in-Refused : goal.returns-in-Refused
 unfolding bytes_in start_of
 returns-in-Refused c = let a = c.args in
-    let e = part-refused a.table.now a.message.now (under a.store.now a.customer (length a.scratch.now)) a.field a.item _ _ (c.open_message-walked.ensures.0.refuses _ _ c.in-Refused.is) in
-    let z : 0 + a.message.ref_ptr.1 ≡ a.message.ref_ptr.1 + 0 = omega arith in (sym (ap (bytes_in a.message.now) e), (refl, (z ∙ sym (ap (λ (q : Part). a.message.ref_ptr.1 + start_of q) e), c.open_message-walked.ensures.1)))
+    let e = part-refused a.table.now a.message.now (under a.store.now a.customer (length a.scratch.now)) a.field a.item _ _ (c.open_message-walked.ensures.opened.refuses _ _ c.in-Refused.is) in
+    let z : 0 + a.message.ref_ptr.1 ≡ a.message.ref_ptr.1 + 0 = omega arith in record { what = sym (ap (bytes_in a.message.now) e); block = refl; offset = z ∙ sym (ap (λ (q : Part). a.message.ref_ptr.1 + start_of q) e); scratch_after = c.open_message-walked.ensures.scratch_after }

@@ -1,12 +1,5 @@
-use mathlib.Core.Path.{◌≡◌, sym, ◌∙◌}
-use mathlib.Core.List.{List}
-use Prim.Native.Nat.{ℕ, ◌≤◌, ◌-◌, ◌*◌}
-use lib.ListN.{length, drop}
-use borrow.Author.Tests.{not-true, not-false}
-use Rattle.wire.specs.Bytes.{same}
-use Rattle.schema.specs.Table.{fields_at}
-use Rattle.fields.specs.Fields.{signature_of}
-use Rattle.fields.proofs.Laws.{Left, left-all, left_step, left_false, left-none, other_length}
+use mathlib.Core.Path.{sym, ◌∙◌}
+use Rattle.fields.proofs.Laws.{left-all, left_step, left_false, left-none, other_length}
 use borrow.Author.Rules.{rules}
 use Rattle.fields.proofs.have_signature.Goals as goal
 

@@ -1,12 +1,11 @@
-use mathlib.Core.Path.{◌≡◌, sym, ◌∙◌}
+use mathlib.Core.Path.{◌≡◌}
 use mathlib.Core.List.{List}
 use Prim.Native.Nat.{ℕ, ◌≤◌, ◌-◌, ◌*◌}
 use lib.ListN.{length, drop}
-use borrow.Author.Tests.{not-true, not-false}
 use Rattle.wire.specs.Bytes.{same}
 use Rattle.schema.specs.Table.{fields_at}
 use Rattle.fields.specs.Fields.{signature_of}
-use Rattle.fields.proofs.Laws.{Left, left-all, left_step, left_false, left-none, other_length}
+use Rattle.fields.proofs.Laws.{Left}
 use Rattle.fields.proofs.have_signature.Given as goal
 
 abbrev pub invariant-loop-i : goal.invariant-loop-i

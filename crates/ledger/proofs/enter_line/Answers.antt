@@ -9,10 +9,10 @@ pub returns-then-count-gt40 : goal.returns-then-count-gt40
 returns-then-count-gt40 c = enters-55-long _ _ _ c.requires _ _ _ _ _ _ c.refused-then-count-gt40.ensures c.if-count-gt40.true
 
 pub returns-then-ledger-fill : goal.returns-then-ledger-fill
-returns-then-ledger-fill c = enters-56 _ _ _ c.requires _ _ _ _ _ c.if-count-lt1.false c.if-count-gt40.false _ c.refused-then-ledger-fill.ensures (omega (arith, c.if-ledger-fill.true))
+returns-then-ledger-fill c = enters-56 _ _ _ c.requires _ _ _ _ _ (omega arith) (omega arith) _ c.refused-then-ledger-fill.ensures (omega arith)
 
 pub returns-then-ledger-fill-lt64 : goal.returns-then-ledger-fill-lt64
-returns-then-ledger-fill-lt64 c = enters-56 _ _ _ c.requires _ _ _ _ _ c.if-count-lt1.false c.if-count-gt40.false _ c.refused-then-ledger-fill-lt64.ensures (omega (arith, c.if-ledger-fill.false, c.if-ledger-fill-lt64.true))
+returns-then-ledger-fill-lt64 c = enters-56 _ _ _ c.requires _ _ _ _ _ (omega arith) (omega arith) _ c.refused-then-ledger-fill-lt64.ensures (omega arith)
 
 pub returns : goal.returns
-returns c = enters-it _ _ _ c.requires _ _ _ _ _ c.if-count-lt1.false c.if-count-gt40.false _ (omega (arith, c.if-ledger-fill.false, c.if-ledger-fill-lt64.false)) c.write_line.ensures
+returns c = enters-it _ _ _ c.requires _ _ _ _ _ (omega arith) (omega arith) _ (omega arith) c.write_line.ensures

@@ -1,4 +1,5 @@
 use mathlib.Core.Path.{sym, ap, ◌∙◌}
+use borrow.Author.Rules.{rules}
 use mir.Syntax.{w64}
 use mir.Facts.{to_z-of_z}
 use Rattle.wire.specs.Bytes.{pattern}
@@ -7,7 +8,7 @@ use Rattle.ledger.proofs.word_of.Goals as goal
 
 pub returns-in-Signed : goal.returns-in-Signed
 unfolding word_of
-returns-in-Signed c = let x = to_z-of_z {w = w64} {z = c.in-Signed.x} (record { sfits = c.in-Signed.known_told-1-own.given.0.1 }) in c.i64_to_bits.ensures ∙ ap (pattern 63) x ∙ sym (ap word_of c.in-Signed.is)
+returns-in-Signed c = let x = to_z-of_z {w = w64} {z = c.in-Signed.x} (search rules) in c.i64_to_bits.ensures ∙ ap (pattern 63) x ∙ sym (ap word_of c.in-Signed.is)
 
 pub returns-in-Unsigned : goal.returns-in-Unsigned
 unfolding word_of

@@ -1,4 +1,3 @@
-
 use Rattle.rows.proofs.field_size.Goals as goal
 
 pub returns : goal.returns

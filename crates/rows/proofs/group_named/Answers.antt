@@ -1,10 +1,6 @@
-use Prim.Native.Nat.{◌-◌, ◌≤◌}
-use mathlib.Core.Path.{◌≡◌, sym, ◌∙◌}
+use mathlib.Core.Path.{sym, ◌∙◌}
 use native.Mathlib.Omega.{arith}
-use lib.ListN.{length, get_or}
-use Rattle.schema.specs.Schema.{find}
-use Rattle.rows.specs.Rows.{place_named}
-use Rattle.rows.proofs.Places.{places_left, groups_left, name-all, name-hit, name-skip, places-end}
+use Rattle.rows.proofs.Places.{name-all, name-hit, name-skip, places-end}
 use borrow.Author.Rules.{rules}
 use Rattle.rows.proofs.group_named.Goals as goal
 

@@ -1,10 +1,9 @@
 use Prim.Native.Nat.{◌-◌, ◌≤◌}
-use mathlib.Core.Path.{◌≡◌, sym, ◌∙◌}
-use native.Mathlib.Omega.{arith}
+use mathlib.Core.Path.{◌≡◌}
 use lib.ListN.{length, get_or}
 use Rattle.schema.specs.Schema.{find}
 use Rattle.rows.specs.Rows.{place_named}
-use Rattle.rows.proofs.Places.{places_left, groups_left, name-all, name-hit, name-skip, places-end}
+use Rattle.rows.proofs.Places.{places_left, groups_left}
 use Rattle.rows.proofs.group_named.Given as goal
 
 abbrev pub invariant-loop-i : goal.invariant-loop-i

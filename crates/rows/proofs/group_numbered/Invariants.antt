@@ -1,10 +1,8 @@
-use Prim.Native.Nat.{◌+◌, ◌-◌, ◌≤◌}
-use mathlib.Core.Path.{◌≡◌, sym, ap, ◌∙◌}
-use mathlib.Core.Logic.{⊎_elim}
-use native.Mathlib.Omega.{arith}
+use Prim.Native.Nat.{◌-◌, ◌≤◌}
+use mathlib.Core.Path.{◌≡◌}
 use lib.ListN.{length, get_or}
 use Rattle.rows.specs.Rows.{place_of}
-use Rattle.rows.proofs.Places.{places_left, number-all, number-hit, number-next, number-skip, places-end}
+use Rattle.rows.proofs.Places.{places_left}
 use Rattle.rows.proofs.group_numbered.Given as goal
 
 abbrev pub invariant-loop-i : goal.invariant-loop-i

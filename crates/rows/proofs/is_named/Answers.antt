@@ -1,4 +1,3 @@
-
 use Rattle.rows.proofs.is_named.Goals as goal
 
 pub returns : goal.returns

@@ -1,4 +1,3 @@
-
 use Rattle.rows.proofs.message_type.Goals as goal
 
 pub returns : goal.returns

@@ -1,0 +1,6 @@
+use mathlib.Core.Path.{ap, ◌∙◌}
+use Rattle.blink_native.specs.Boundary.{exported}
+use Rattle.blink_native.proofs.blink_check_store.Goals as goal
+
+pub returns : goal.returns
+returns c = c.export.ensures ∙ ap exported c.check_store.ensures

@@ -1,5 +1,5 @@
 -- What the digits of a float mean.
-use Rattle.std.specs.Prelude.{◌≡◌, Bool, true, false, ℕ, ◌+◌, ◌-◌, ◌*◌, ◌^◌, ◌<◌, ◌≤◌}
+use Rattle.std.specs.Prelude.{◌≡◌, Bool, false, ℕ, ◌+◌, ◌-◌, ◌*◌, ◌^◌, ◌<◌, ◌≤◌}
 use Rattle.floats.specs.Limbs.{up_to}
 
 -- One step of a long division: d is the next digit of r / s, r' what is left of r, and m grows with it.

@@ -1,5 +1,7 @@
 // An f64 as text: the shortest decimal that reads back as the same f64, the nearest of these, as
 // Python's `repr` has it. Whole numbers have no point, and an exponent has no `+` and no leading zero.
+#![tactic(auto)]
+
 ghost use Rattle.std.specs.Prelude.{◌≡◌, ◌+◌, ◌<◌, ◌≤◌, length};
 ghost use Rattle.io.specs.Counts.{IsPrefixLen};
 

@@ -1,7 +1,4 @@
-use Prim.Native.Nat.{◌≤◌}
-use mathlib.Core.Path.{◌≡◌}
 use native.Mathlib.Omega.{arith}
-use lib.ListN.{length, drop}
 use Rattle.floats.proofs.Values.{below_at, none_above, same_above, same-all}
 use borrow.Author.Rules.{rules}
 use Rattle.floats.proofs.limbs.below.Goals as goal

@@ -1,8 +1,6 @@
 use Prim.Native.Nat.{◌≤◌}
 use mathlib.Core.Path.{◌≡◌}
-use native.Mathlib.Omega.{arith}
 use lib.ListN.{length, drop}
-use Rattle.floats.proofs.Values.{below_at, none_above, same_above, same-all}
 use Rattle.floats.proofs.limbs.below.Given as goal
 
 abbrev pub invariant-loop-i : goal.invariant-loop-i

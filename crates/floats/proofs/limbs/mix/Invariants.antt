@@ -1,9 +1,7 @@
 use Prim.Native.Nat.{◌+◌, ◌-◌, ◌*◌, ◌^◌, ◌<◌, ◌≤◌}
-use mathlib.Core.Path.{◌≡◌, refl}
-use native.Mathlib.Omega.{arith}
+use mathlib.Core.Path.{◌≡◌}
 use lib.ListN.{length, take}
 use Rattle.floats.specs.Limbs.{value}
-use Rattle.floats.proofs.Values.{mix-again, mix-end}
 use Rattle.floats.proofs.limbs.mix.Given as goal
 
 abbrev pub invariant-loop-i : goal.invariant-loop-i

@@ -1,7 +1,5 @@
-use Prim.Native.Nat.{◌+◌, ◌-◌, ◌*◌, ◌^◌, ◌<◌, ◌≤◌}
-use mathlib.Core.Path.{◌≡◌, refl}
+use mathlib.Core.Path.{refl}
 use native.Mathlib.Omega.{arith}
-use lib.ListN.{length, take, drop}
 use Rattle.floats.specs.Limbs.{value}
 use Rattle.floats.proofs.Values.{rest-stored, stored-below, all-below, subtract-again, subtract-end}
 use borrow.Author.Rules.{rules}

@@ -1,9 +1,7 @@
 use Prim.Native.Nat.{◌+◌, ◌-◌, ◌*◌, ◌^◌, ◌<◌, ◌≤◌}
-use mathlib.Core.Path.{◌≡◌, refl}
-use native.Mathlib.Omega.{arith}
+use mathlib.Core.Path.{◌≡◌}
 use lib.ListN.{length, take, drop}
 use Rattle.floats.specs.Limbs.{value}
-use Rattle.floats.proofs.Values.{rest-stored, times-again, times-end}
 use Rattle.floats.proofs.limbs.times.Given as goal
 
 abbrev pub invariant-loop-i : goal.invariant-loop-i

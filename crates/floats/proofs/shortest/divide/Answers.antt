@@ -1,9 +1,6 @@
-use Prim.Native.Nat.{◌+◌, ◌-◌, ◌*◌, ◌≤◌}
-use mathlib.Core.Path.{◌≡◌, refl, sym, ◌∙◌}
+use mathlib.Core.Path.{refl, sym, ◌∙◌}
 use native.Mathlib.Omega.{arith}
-use lib.ListN.{length}
 use borrow.Author.Tests.{ltb-true, ltb-false}
-use Rattle.floats.specs.Limbs.{value}
 use Rattle.floats.proofs.Division.{divide-turn}
 use borrow.Author.Rules.{rules}
 use Rattle.floats.proofs.shortest.divide.Goals as goal

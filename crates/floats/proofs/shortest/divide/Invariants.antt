@@ -1,10 +1,7 @@
 use Prim.Native.Nat.{◌+◌, ◌-◌, ◌*◌, ◌≤◌}
-use mathlib.Core.Path.{◌≡◌, refl, sym, ◌∙◌}
-use native.Mathlib.Omega.{arith}
+use mathlib.Core.Path.{◌≡◌}
 use lib.ListN.{length}
-use borrow.Author.Tests.{ltb-true, ltb-false}
 use Rattle.floats.specs.Limbs.{value}
-use Rattle.floats.proofs.Division.{divide-turn}
 use Rattle.floats.proofs.shortest.divide.Given as goal
 
 abbrev pub invariant-loop-digit : goal.invariant-loop-digit

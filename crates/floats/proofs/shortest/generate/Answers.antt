@@ -1,7 +1,5 @@
-use Prim.Native.Nat.{◌+◌, ◌-◌, ◌≤◌, ◌<◌, ◌^◌}
-use mathlib.Core.Path.{◌≡◌}
+use Prim.Native.Nat.{◌+◌}
 use native.Mathlib.Omega.{arith}
-use lib.ListN.{length}
 use Rattle.floats.proofs.Division.{digits_more, tens-most}
 use borrow.Author.Rules.{rules}
 use Rattle.floats.proofs.shortest.generate.Goals as goal

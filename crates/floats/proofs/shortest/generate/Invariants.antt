@@ -1,8 +1,6 @@
-use Prim.Native.Nat.{◌+◌, ◌-◌, ◌≤◌, ◌<◌, ◌^◌}
+use Prim.Native.Nat.{◌-◌, ◌≤◌, ◌<◌, ◌^◌}
 use mathlib.Core.Path.{◌≡◌}
-use native.Mathlib.Omega.{arith}
 use lib.ListN.{length}
-use Rattle.floats.proofs.Division.{digits_more, tens-most}
 use Rattle.floats.proofs.shortest.generate.Given as goal
 
 abbrev pub invariant-loop-places : goal.invariant-loop-places

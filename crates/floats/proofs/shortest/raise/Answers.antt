@@ -1,8 +1,5 @@
-use Prim.Native.Nat.{◌-◌, ◌*◌, ◌^◌, ◌≤◌}
 use mathlib.Core.Path.{◌≡◌, refl}
 use native.Mathlib.Omega.{arith}
-use lib.ListN.{length}
-use Rattle.floats.specs.Limbs.{value}
 use Rattle.floats.proofs.Division.{power-more, unsaid, power-none}
 use borrow.Author.Rules.{rules}
 use Rattle.floats.proofs.shortest.raise.Goals as goal

@@ -1,9 +1,7 @@
 use Prim.Native.Nat.{◌-◌, ◌*◌, ◌^◌, ◌≤◌}
-use mathlib.Core.Path.{◌≡◌, refl}
-use native.Mathlib.Omega.{arith}
+use mathlib.Core.Path.{◌≡◌}
 use lib.ListN.{length}
 use Rattle.floats.specs.Limbs.{value}
-use Rattle.floats.proofs.Division.{power-more, unsaid, power-none}
 use Rattle.floats.proofs.shortest.raise.Given as goal
 
 abbrev pub invariant-loop-i : goal.invariant-loop-i

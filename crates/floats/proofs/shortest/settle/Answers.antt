@@ -1,9 +1,5 @@
-use Prim.Native.Nat.{◌-◌, ◌*◌, ◌^◌, ◌≤◌}
-use mathlib.Core.Path.{◌≡◌, refl, sym, ◌∙◌}
+use mathlib.Core.Path.{refl, sym, ◌∙◌}
 use native.Mathlib.Omega.{arith}
-use lib.ListN.{length}
-use borrow.Author.Tests.{not-true}
-use Rattle.floats.specs.Limbs.{value}
 use Rattle.floats.proofs.Division.{settle-start, settle-turn}
 use borrow.Author.Rules.{rules}
 use Rattle.floats.proofs.shortest.settle.Goals as goal

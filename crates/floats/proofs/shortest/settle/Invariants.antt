@@ -1,10 +1,7 @@
 use Prim.Native.Nat.{◌-◌, ◌*◌, ◌^◌, ◌≤◌}
-use mathlib.Core.Path.{◌≡◌, refl, sym, ◌∙◌}
-use native.Mathlib.Omega.{arith}
+use mathlib.Core.Path.{◌≡◌}
 use lib.ListN.{length}
-use borrow.Author.Tests.{not-true}
 use Rattle.floats.specs.Limbs.{value}
-use Rattle.floats.proofs.Division.{settle-start, settle-turn}
 use Rattle.floats.proofs.shortest.settle.Given as goal
 
 abbrev pub invariant-loop-scale : goal.invariant-loop-scale

@@ -28,8 +28,11 @@ SHARED = target/shared/libblink_native.so.$(VERSION)
 
 library: $(ARCHIVE) $(SHARED)
 
-$(ARCHIVE): $(SOURCES)
-	rt staticlib blink_native
+# A static library's crate leaves its archive beside its proofs.
+target/staticlib/lib%.a: $(SOURCES)
+	mkdir -p $(@D)
+	cd crates/$* && rt lib
+	cp crates/$*/out/lib$*.a $@
 
 # The archive's code can stand anywhere in memory, so the same code is in both; only the names of the header are to be seen.
 $(SHARED): $(ARCHIVE) include/blink_native.map
@@ -40,23 +43,19 @@ $(SHARED): $(ARCHIVE) include/blink_native.map
 
 # THE COMMAND
 
-# The kit's own few lines of C, which ask for arguments and open files.
-SYSTEM = $(dir $(realpath $(shell command -v rt)))../lib/libos_c.a
-
 command: target/blink
 
-target/staticlib/libcli.a: $(SOURCES)
-	rt staticlib cli
-
-target/blink: crates/cli/main.c target/staticlib/libcli.a
-	$(CC) -O2 -Wall -Wextra -o $@ crates/cli/main.c target/staticlib/libcli.a $(SYSTEM)
+target/blink: $(SOURCES)
+	mkdir -p $(@D)
+	cd crates/blink && rt run -- help > /dev/null
+	cp crates/blink/out/blink $@
 
 # Proves what changed since the last run, runs every program on its stored input, and walks through the samples.
 BLINK = target/blink
 REFUSED = ; test $$? = 1
 
 run: command
-	rt check
+	rt all check
 	$(BLINK) check samples/blank.table
 	$(BLINK) table samples/blank.table
 	$(BLINK) check samples/blank.table samples/good.message samples/padded.message
@@ -140,9 +139,7 @@ target/examples/%: examples/%.c examples/tapes.h include/blink_native.h $(ARCHIV
 TIMED = cargo run --release --offline --quiet --manifest-path bench/Cargo.toml --bin
 FLAT = $(CXX) -std=c++17 -O3 -Wall -Wextra -iquote target/flatbuffers -Iinclude
 
-bench: $(ARCHIVE)
-	rt staticlib wire_bench
-	rt staticlib tape_bench
+bench: $(ARCHIVE) target/staticlib/libwire_bench.a target/staticlib/libtape_bench.a
 	$(TIMED) leaves
 	$(TIMED) questions
 	$(TIMED) tape -- target/blanks.tape
@@ -184,4 +181,4 @@ uninstall:
 	rm -f $(ROOT)/lib/pkgconfig/blink_native.pc $(ROOT)/share/man/man1/blink.1
 
 clean:
-	rm -rf target bindings/rust/target bench/target reference/target
+	rm -rf target crates/*/out bindings/rust/target bench/target reference/target

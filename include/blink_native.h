@@ -78,9 +78,6 @@
  * 48 the field is of another kind: no number, or no bytes
  * 50 the settings store is damaged, has a flag that is neither 0 nor 1 or a version that does not rise, or the addition would make it so
  * 51 the settings store has no room for another record
- * 54 the message is not of the ledger's group: another type, or other fields
- * 55 the barcode has no bytes, or more than 40
- * 56 the ledger has fewer than 64 bytes free
  * 59 the customer has no settings of that version
  *
  * Places. The byte that the words name, and:
@@ -106,7 +103,7 @@ extern "C" {
 
 /* The version of this header; blink_version() is that of the library. */
 #define BLINK_VERSION_MAJOR 0
-#define BLINK_VERSION_MINOR 4
+#define BLINK_VERSION_MINOR 3
 #define BLINK_VERSION_PATCH 0
 #define BLINK_VERSION (BLINK_VERSION_MAJOR << 16 | BLINK_VERSION_MINOR << 8 | BLINK_VERSION_PATCH)
 

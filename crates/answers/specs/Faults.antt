@@ -12,7 +12,7 @@ between low high n = leb low n && leb n high
 
 -- Whether a fault's place is no byte to look at: it is 0 and says nothing.
 unfoldable pub placeless : ℕ → Bool
-placeless n = between 20 23 n || between 28 30 n || eqb n 42 || between 46 48 n || eqb n 51 || between 54 56 n || eqb n 59
+placeless n = between 20 23 n || between 28 30 n || eqb n 42 || between 46 48 n || eqb n 51 || eqb n 59
 
 -- A field that is no number is asked for as bytes: "48 other kind".
 unfoldable pub or_bytes : Number → Verdict → Verdict

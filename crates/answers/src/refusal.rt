@@ -62,7 +62,6 @@ fn has_place(number: u8) -> bool
         42 => false,
         46 | 47 | 48 => false,
         51 => false,
-        54 | 55 | 56 => false,
         59 => false,
         _ => true,
     }

@@ -273,12 +273,12 @@ fn export_number(n: codec::Number) -> BlinkNumber
     }
 }
 
-// 0.4.0.
+// 0.3.0.
 #[unsafe(no_mangle)]
 pub extern "C" fn blink_version() -> u32
-    ensures { result ≡ version 0 4 0 }
+    ensures { result ≡ version 0 3 0 }
 {
-    0x00_04_00
+    0x00_03_00
 }
 
 // What a fault's number means: how long the words are, and as many of them as fit. 0 where no fault has the number.

@@ -1,4 +1,4 @@
--- One turn of each loop over a lent buffer, what a load leaves in a room, that a tape's reader moves on, and a ledger's fill.
+-- One turn of each loop over a lent buffer, what a load leaves in a room, and that a tape's reader moves on.
 use Prim.Native.Nat.{ℕ, zero, suc, ◌+◌, ◌-◌, ◌*◌, ◌%◌, ◌<◌, ◌≤◌}
 use mathlib.Core.Path.{◌≡◌, refl, sym}
 use mathlib.Core.Bool.{Bool, true, false}
@@ -13,12 +13,8 @@ use Rattle.wire.proofs.Laws.{drop_more, splice-cons, splice-nil}
 use Rattle.opening.specs.Opening.{Under}
 use Rattle.tape.specs.Tape.{tape_step}
 use Rattle.tape.proofs.Whole.{step_past, step-within}
-use Rattle.schema.specs.Faults.{need}
-use Rattle.ledger.specs.declared.Entered.{Entered}
-use Rattle.ledger.specs.declared.Entered.TheVariants.{Fill, Refused}
-use Rattle.ledger.specs.Ledger.{Line, unfit, line, Ledger, enters, entered}
 use Rattle.conformance.specs.Room.{filled, adler_from}
-use Rattle.conformance.specs.Vectors.{behind, fill_after}
+use Rattle.conformance.specs.Vectors.{behind}
 
 -- FILLING
 
@@ -67,18 +63,3 @@ loaded k n got f room is e h l =
 
 pub moved_on : (t s : List ℕ) (u : Under) (p next : ℕ) → next ≡ (tape_step t s p u).next → p < length s → p < next
 moved_on t s u p next e h = rw e (step_past t s u p h)
-
-pub stayed : (t s : List ℕ) (u : Under) (p next : ℕ) → next ≡ (tape_step t s p u).next → p < length s → next ≤ length s
-stayed t s u p next e h = rw e (step-within t s u p h)
-
--- A LEDGER'S FILL
-
-fill-by : (c : Bool) (n : ℕ) (s k : Ledger) → k.fill ≡ n → fill_after (need c (Refused 56 0) (Fill n)) s.fill ≡ (need c s k).fill
-unfolding fill_after need
-fill-by true n s k e = sym e
-fill-by false n s k e = refl
-
-pub fill-left : (s : Ledger) (x : Line) → fill_after (enters s x) s.fill ≡ (entered s x).fill
-unfolding fill_after enters entered
-fill-left s (unfit n p) = refl
-fill-left s (line x) = fill-by _ _ s _ refl

@@ -1,8 +1,6 @@
 -- The records of a file of questions, as README.md describes them.
-use Rattle.std.specs.Prelude.{Bool, cond, ◌&&◌, ◌||◌, List, ◌++◌, ℕ, ◌-◌, ◌%◌, ◌^◌, length, drop, replicate, leb, eqb}
+use Rattle.std.specs.Prelude.{Bool, cond, ◌&&◌, List, ◌++◌, ℕ, ◌-◌, ◌%◌, ◌^◌, length, drop, replicate, leb, eqb}
 use Rattle.wire.specs.Bytes.{part, le}
-use Rattle.ledger.specs.declared.Entered.{Entered}
-use Rattle.ledger.specs.declared.Entered.TheVariants.{Fill, Refused}
 use Rattle.conformance.specs.declared.record.Record.{Record}
 use Rattle.conformance.specs.declared.Held.{Held}
 
@@ -37,11 +35,6 @@ held_after r h =
     (record { table = h.table; store = r.length; customer = r.field % 2 ^ 16 })
     h)
 
--- A question that is lent more than a scratch, and those of the ledger: kinds 3, 4, 5, and 13 on.
+-- A question that writes a sheet or a message: kinds 3, 4 and 5.
 abbrev pub writes : ℕ → Bool
-writes kind = leb 13 kind || (leb 3 kind && leb kind 5)
-
--- "each with the fill that the last one left"
-unfoldable pub fill_after : Entered → ℕ → ℕ
-fill_after (Fill n) f = n
-fill_after (Refused n p) f = f
+writes kind = leb 3 kind && leb kind 5

@@ -1,6 +1,5 @@
-// Runs the stored questions through the codec, the tape's reader and the ledger and prints one answer a line, to be
-// compared with what the second program answered. README.md describes the files. What is read of them and printed has no
-// contract.
+// Runs the stored questions through the codec and the tape's reader and prints one answer a line, to be compared with
+// what the second program answered. README.md describes the files. What is read of them and printed has no contract.
 mod print;
 mod record;
 mod room;
@@ -8,10 +7,8 @@ mod room;
 ghost use Rattle.std.specs.Prelude.{◌≡◌, ◌%◌, ◌^◌, length};
 ghost use Rattle.opening.specs.Opening.{under};
 ghost use Rattle.tape.specs.Tape.{tape_step};
-ghost use Rattle.ledger.specs.Ledger.{call, line_of, lines, entered};
-ghost use Rattle.conformance.specs.Vectors.{held_after, writes, fill_after};
+ghost use Rattle.conformance.specs.Vectors.{held_after, writes};
 
-use ledger::Entered;
 use record::Record;
 use std::fs::File;
 use std::os::fd::AsRawFd;
@@ -197,87 +194,6 @@ fn answer_tape(
     answer_step(table, store, customer, tape, at, scratch, true);
 }
 
-fn answer_line(
-    table: &[u8],
-    store: &[u8],
-    customer: u16,
-    message: &[u8],
-    scratch: &mut [u8],
-    id: u64,
-    ledger: &mut [u8],
-    fill: usize,
-) {
-    room::fill(scratch);
-    room::fill(ledger);
-    print::entered(
-        ledger::add_line(table, store, customer, message, scratch, id, ledger, fill),
-        0,
-    );
-    print::sum(scratch);
-    print::sum(ledger);
-}
-
-// One call of a run, and the fill for the next one.
-fn answer_call(
-    table: &[u8],
-    store: &[u8],
-    customer: u16,
-    message: &[u8],
-    scratch: &mut [u8],
-    id: u64,
-    ledger: &mut [u8],
-    fill: usize,
-) -> usize
-    ensures { result ≡ (entered (lines ledger.old fill) (line_of (call table.now message.now (under store.now customer (length scratch.old)) id))).fill }
-{
-    let entered = ledger::add_line(table, store, customer, message, scratch, id, ledger, fill);
-    print::entered(entered, fill);
-    print::sum(scratch);
-    print::semicolon();
-    fill_after(entered, fill)
-}
-
-fn fill_after(entered: Entered, fill: usize) -> usize
-    ensures { result ≡ fill_after entered fill }
-{
-    match entered {
-        Entered::Fill(n) => n,
-        Entered::Refused { number, place } => fill,
-    }
-}
-
-// A call for each message that the tape's reader finds, a cut tail too.
-fn answer_lines(
-    table: &[u8],
-    store: &[u8],
-    customer: u16,
-    tape: &[u8],
-    scratch: &mut [u8],
-    id: u64,
-    ledger: &mut [u8],
-    from: usize,
-) {
-    room::fill(ledger);
-    let mut at = 0;
-    let mut fill = from;
-    while at < tape.len() {
-        let next = answer_step(table, store, customer, tape, at, scratch, false);
-        room::fill(scratch);
-        fill = answer_call(
-            table,
-            store,
-            customer,
-            &tape[at..next],
-            scratch,
-            id,
-            ledger,
-            fill,
-        );
-        at = next;
-    }
-    print::number(room::adler32(ledger));
-}
-
 // A question about a store, which is the input.
 fn ask_store(r: Record, store: &mut [u8]) {
     let kind = r.kind;
@@ -302,9 +218,9 @@ fn ask(r: Record, table: &[u8], store: &[u8], customer: u16, input: &mut [u8], s
     }
 }
 
-// A question that writes a sheet, a message or a ledger, or has no message.
+// A question that writes a sheet or a message.
 fn ask_writing(
-    r: Record,
+    kind: usize,
     table: &[u8],
     store: &[u8],
     customer: u16,
@@ -313,19 +229,10 @@ fn ask_writing(
     sheet: &mut [u8],
     output: &mut [u8],
 ) {
-    let kind = r.kind;
-    let item = r.item as usize;
     match kind {
         3 => answer_sheet(table, store, customer, input, scratch, sheet),
         4 => answer_write(table, input, output),
-        5 => answer_rewrite(table, store, customer, input, scratch, sheet, output),
-        13 => answer_line(
-            table, store, customer, input, scratch, r.field, output, item,
-        ),
-        14 => print::shape(codec::field_shape(table, r.field, item)),
-        _ => answer_lines(
-            table, store, customer, input, scratch, r.field, output, item,
-        ),
+        _ => answer_rewrite(table, store, customer, input, scratch, sheet, output),
     }
 }
 
@@ -363,7 +270,7 @@ fn lend_rooms(
         return;
     }
     ask_writing(
-        r,
+        r.kind,
         table,
         store,
         customer,
@@ -422,9 +329,6 @@ fn answer(r: Record, table: &[u8], store: &[u8], customer: u16, input: &mut [u8]
 fn is_writing(kind: usize) -> bool
     ensures { result ≡ writes kind }
 {
-    if 13 <= kind {
-        return true;
-    }
     3 <= kind && kind <= 5
 }
 
@@ -533,6 +437,5 @@ fn main(rt: HostRuntime) -> std::io::Result<()> {
     answer_file(&rt, "bytes.vec")?;
     answer_file(&rt, "store.vec")?;
     answer_file(&rt, "settings.vec")?;
-    answer_file(&rt, "tape.vec")?;
-    answer_file(&rt, "ledger.vec")
+    answer_file(&rt, "tape.vec")
 }

@@ -1,8 +1,7 @@
 // Answers as text.
 ghost use Rattle.std.specs.Prelude.{◌≡◌};
 
-use codec::{FieldShape, Number, Setting, Span, Verdict, Written};
-use ledger::Entered;
+use codec::{Number, Setting, Span, Verdict, Written};
 use tape::{Answer, Step};
 
 const STDOUT_FILENO: i32 = 1;
@@ -35,14 +34,6 @@ pub fn written(w: Written) {
     }
 }
 
-// The ledger's new fill, or on a refusal this one.
-pub fn entered(e: Entered, refused: usize) {
-    match e {
-        Entered::Fill(n) => three(0, 0, n),
-        Entered::Refused { number, place } => three(number as usize, place, refused),
-    }
-}
-
 fn three(number: usize, place: usize, length: usize) {
     fault(number, place);
     space();
@@ -72,34 +63,6 @@ fn flags(absent: bool, pads: bool, unused: bool) {
 fn flag(set: bool) {
     space();
     number(set as usize);
-}
-
-// A field's type, flags and size, all 0 on a refusal.
-pub fn shape(s: FieldShape) {
-    match s {
-        FieldShape::Field {
-            number,
-            optional,
-            sequence,
-            size,
-        } => {
-            fault(0, 0);
-            record(number, optional, sequence, size);
-        }
-        FieldShape::Refused { number, place } => {
-            fault(number as usize, place);
-            record(0, false, false, 0);
-        }
-    }
-}
-
-fn record(kind: u8, optional: bool, sequence: bool, size: u8) {
-    space();
-    number(kind as usize);
-    flag(optional);
-    flag(sequence);
-    space();
-    number(size as usize);
 }
 
 // Where bytes lie in the message, and how many they are: after a space, and both 0 on a refusal.
@@ -165,11 +128,6 @@ fn handed(next: usize, part: &[u8], scratch: &[u8]) {
     number(part.len());
     sum(part);
     sum(scratch);
-}
-
-// Between the calls of a run.
-pub fn semicolon() {
-    text(b"; ");
 }
 
 // A lent buffer's checksum, after a space.

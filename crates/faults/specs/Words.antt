@@ -78,7 +78,4 @@ faults =
     ++ bytes "48 the field is of another kind: no number, or no bytes"
     ++ bytes "50 the settings store is damaged, has a flag that is neither 0 nor 1 or a version that does not rise, or the addition would make it so"
     ++ bytes "51 the settings store has no room for another record"
-    ++ bytes "54 the message is not of the ledger's group: another type, or other fields"
-    ++ bytes "55 the barcode has no bytes, or more than 40"
-    ++ bytes "56 the ledger has fewer than 64 bytes free"
     ++ bytes "59 the customer has no settings of that version"

@@ -5,7 +5,7 @@ ghost use Rattle.std.specs.Prelude.{◌≡◌, ◌+◌, ◌≤◌, length, drop}
 ghost use Rattle.wire.specs.Bytes.{part, same};
 ghost use Rattle.faults.specs.Words.{heading, line, words_of, fitted, faults};
 
-const LENGTH: usize = 2581;
+const LENGTH: usize = 2418;
 
 // What each means, in plain words, as include/faults.txt has them for all.
 const FAULTS: [u8; LENGTH] =
@@ -52,9 +52,6 @@ const FAULTS: [u8; LENGTH] =
 48 the field is of another kind: no number, or no bytes
 50 the settings store is damaged, has a flag that is neither 0 nor 1 or a version that does not rise, or the addition would make it so
 51 the settings store has no room for another record
-54 the message is not of the ledger's group: another type, or other fields
-55 the barcode has no bytes, or more than 40
-56 the ledger has fewer than 64 bytes free
 59 the customer has no settings of that version
 ";
 

@@ -1,4 +1,6 @@
 // Values as text for people: days, times, and the characters of a text. Everything is over slices and numbers.
+#![tactic(auto)]
+
 mod calendar;
 mod characters;
 mod spelling;

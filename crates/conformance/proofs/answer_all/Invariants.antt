@@ -1,4 +1,3 @@
-
 use Rattle.conformance.proofs.answer_all.Given as goal
 
 abbrev pub invariant-loop-left : goal.invariant-loop-left

@@ -1,4 +1,3 @@
-
 use Rattle.conformance.proofs.record.parse.Goals as goal
 
 pub returns : goal.returns

@@ -1,4 +1,3 @@
-
 use Rattle.printing.proofs.store.is_of.Goals as goal
 
 pub returns : goal.returns

@@ -1,9 +1,4 @@
-use Prim.Native.Nat.{◌≤◌, ◌/◌}
-use mathlib.Core.Path.{◌≡◌, refl, sym, ◌∙◌}
-use mathlib.Core.Bool.{◌&&◌}
-use lib.Dec.{eqb}
-use lib.ListN.{length}
-use Rattle.settings.specs.Store.{customer_of, stands, last_of}
+use mathlib.Core.Path.{refl, sym, ◌∙◌}
 use Rattle.settings.proofs.Last.{last-hit, last-miss, last_none}
 use borrow.Author.Rules.{rules}
 use Rattle.printing.proofs.store.newest.Goals as goal

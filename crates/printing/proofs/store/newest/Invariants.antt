@@ -1,10 +1,9 @@
 use Prim.Native.Nat.{◌≤◌, ◌/◌}
-use mathlib.Core.Path.{◌≡◌, refl, sym, ◌∙◌}
+use mathlib.Core.Path.{◌≡◌}
 use mathlib.Core.Bool.{◌&&◌}
 use lib.Dec.{eqb}
 use lib.ListN.{length}
 use Rattle.settings.specs.Store.{customer_of, stands, last_of}
-use Rattle.settings.proofs.Last.{last-hit, last-miss, last_none}
 use Rattle.printing.proofs.store.newest.Given as goal
 
 abbrev pub invariant-loop-n : goal.invariant-loop-n

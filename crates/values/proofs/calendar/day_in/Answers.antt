@@ -1,7 +1,7 @@
 use mathlib.Core.Path.{◌∙◌}
 use mir.Syntax.{w64}
 use mir.Facts.{to_z-of_z}
-use borrow.Author.Rules.{sfits_of, rules}
+use borrow.Author.Rules.{sfits_of}
 use Rattle.values.proofs.Days.{in-year, in-next}
 use Rattle.values.proofs.calendar.day_in.Goals as goal
 

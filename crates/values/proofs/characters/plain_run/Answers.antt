@@ -1,9 +1,8 @@
-use Prim.Native.Nat.{ℕ, ◌+◌, ◌-◌, ◌≤◌, max}
-use mathlib.Core.Path.{◌≡◌, sym, ◌∙◌}
+use Prim.Native.Nat.{◌-◌}
+use mathlib.Core.Path.{sym, ◌∙◌}
 use native.Mathlib.Omega.{arith}
 use lib.ListN.{length}
-use borrow.Author.Tests.{not-true, not-false}
-use Rattle.values.specs.Characters.{plain_from, plain_run}
+use Rattle.values.specs.Characters.{plain_run}
 use Rattle.values.proofs.Texts.{run_on, run-stop, run_end}
 use Rattle.values.proofs.characters.plain_run.Goals as goal
 

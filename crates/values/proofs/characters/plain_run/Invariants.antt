@@ -1,10 +1,7 @@
 use Prim.Native.Nat.{ℕ, ◌+◌, ◌-◌, ◌≤◌, max}
-use mathlib.Core.Path.{◌≡◌, sym, ◌∙◌}
-use native.Mathlib.Omega.{arith}
+use mathlib.Core.Path.{◌≡◌}
 use lib.ListN.{length}
-use borrow.Author.Tests.{not-true, not-false}
 use Rattle.values.specs.Characters.{plain_from, plain_run}
-use Rattle.values.proofs.Texts.{run_on, run-stop, run_end}
 use Rattle.values.proofs.characters.plain_run.Given as goal
 
 abbrev pub invariant-loop-i : goal.invariant-loop-i

@@ -1,9 +1,5 @@
-use Prim.Native.Nat.{◌≤◌}
-use mathlib.Core.Path.{◌≡◌, refl, sym, ◌∙◌}
+use mathlib.Core.Path.{refl, sym, ◌∙◌}
 use native.Mathlib.Omega.{arith}
-use lib.ListN.{length}
-use Rattle.io.specs.Digits.{last_digits}
-use Rattle.wire.specs.Bytes.{splice}
 use Rattle.values.proofs.Rooms.{length_digits, digits-turn, digits-end}
 use borrow.Author.Rules.{rules}
 use Rattle.values.proofs.spelling.digits.Goals as goal

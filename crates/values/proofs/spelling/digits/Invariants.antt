@@ -1,10 +1,8 @@
 use Prim.Native.Nat.{◌≤◌}
-use mathlib.Core.Path.{◌≡◌, refl, sym, ◌∙◌}
-use native.Mathlib.Omega.{arith}
+use mathlib.Core.Path.{◌≡◌}
 use lib.ListN.{length}
 use Rattle.io.specs.Digits.{last_digits}
 use Rattle.wire.specs.Bytes.{splice}
-use Rattle.values.proofs.Rooms.{length_digits, digits-turn, digits-end}
 use Rattle.values.proofs.spelling.digits.Given as goal
 
 abbrev pub invariant-loop-i : goal.invariant-loop-i

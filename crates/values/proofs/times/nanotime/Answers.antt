@@ -2,7 +2,7 @@ use native.Mathlib.Omega.{arith}
 use mir.Syntax.{w64}
 use mir.Facts.{to_z-of_z}
 use mathlib.Core.Path.{◌∙◌}
-use borrow.Author.Rules.{sfits_of, rules}
+use borrow.Author.Rules.{sfits_of}
 use Rattle.values.proofs.Rooms.{wrote-text, wrote-counts}
 use Rattle.values.proofs.Days.{not_negative, negative}
 use Rattle.values.proofs.Names.{moment-after, moment-before}
@@ -17,4 +17,3 @@ pub returns : goal.returns
 returns c = let z = negative c.i64_to_bits-bits.result c.args.ns c.ranges.ns c.i64_to_bits-bits.ensures c.if-bits-lt9223372036854775808.false in
     let w = wrote-counts (wrote-text _ c.put_moment-2.ensures.1 (moment-before 1000000000 9 c.args.ns _ _ z (to_z-of_z {w = w64} (sfits_of c.minus-day-2.type_inv) ∙ c.minus-day-2.ensures))) (omega (arith, c.put_moment-2.ensures.0)) in
     record { prefix_len = w.0; out_after = w.1 }
-

@@ -14,4 +14,3 @@ pub returns : goal.returns
 unfolding time_of time_text
 returns c = let w = wrote-counts (wrote_then c.put_clock-dot.ensures c.put_fraction.ensures (omega (arith, places-most 2 (c.args.ns / 1000000000 / 3600) (omega arith) (omega arith), c.put_clock-dot.ensures.next, c.put_fraction.ensures.next))) (omega (arith, places-most 2 (c.args.ns / 1000000000 / 3600) (omega arith) (omega arith), c.put_clock-dot.ensures.next, c.put_fraction.ensures.next)) in
     record { prefix_len = w.0; out_after = w.1 }
-

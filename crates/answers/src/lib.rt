@@ -1,5 +1,7 @@
 // What the command answers: for programs a line and an exit status, for people what they mean. What comes of a question is stated; what is
 // printed has no contract.
+#![tactic(auto)]
+
 pub mod field;
 pub mod outcome;
 pub mod questions;

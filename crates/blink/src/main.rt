@@ -1,5 +1,7 @@
 // The command `blink` as the gate runs it, with its rooms on the stack, so that a tape and a ledger have little. Its exit status is lost,
 // since the language has none: the command that users have is crates/cli with a main in C.
+#![tactic(auto)]
+
 fn main() {
     let mut tables = [0u8; 65537];
     let mut stores = [0u8; 65537];

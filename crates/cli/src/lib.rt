@@ -1,5 +1,7 @@
 // The command `blink`: the public questions, asked of files. What it asks of `codec` is stated there, and what comes of it is stated here; what
 // it prints, loads and saves has no contract.
+#![tactic(auto)]
+
 mod check;
 mod lines;
 mod output;

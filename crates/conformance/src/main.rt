@@ -1,5 +1,7 @@
 // Runs the stored questions through the codec and the tape's reader and prints one answer a line, to be compared with
 // what the second program answered. README.md describes the files. What is read of them and printed has no contract.
+#![tactic(auto)]
+
 mod print;
 mod record;
 mod room;

@@ -2,6 +2,8 @@
 // far as it gets.
 //
 // The functions are proved safe. They say nothing of where a label goes; what a label says has its definition in specs/.
+#![tactic(auto)]
+
 pub mod label;
 pub mod marks;
 pub mod walk;

@@ -1,5 +1,7 @@
 // Listings for people: a table, a line for each record, and a message, byte by byte. The functions are proved safe; what they print has no
 // contract.
+#![tactic(auto)]
+
 mod dump;
 mod names;
 mod tables;

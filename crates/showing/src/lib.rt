@@ -2,6 +2,8 @@
 //
 // The sheet is that of an accepted message, so each record is the one that is due. Nothing here rests on it: where a record is not
 // one, the text stops.
+#![tactic(auto)]
+
 ghost use Rattle.std.specs.Prelude.{◌≡◌, ◌*◌, ◌<◌, length, take};
 ghost use Rattle.wire.specs.Bytes.{splice};
 ghost use Rattle.showing.specs.Show.{kind_of, value_length, record_length, frame_at, numbers_of, next_field, advanced, in_sequence, after, opened, extension_of, closed, groups, entered, extended, stepped};

@@ -1,4 +1,6 @@
 // The messages of a tape: a line for each, with its place on the tape, and how many there are.
+#![tactic(auto)]
+
 ghost use Rattle.std.specs.Prelude.{◌≡◌, ◌≤◌, cond, length, eqb};
 ghost use Rattle.table.specs.Index.{Checked};
 ghost use Rattle.opening.specs.Opening.{under};

@@ -1,4 +1,3 @@
-
 use Rattle.ledgers.proofs.list_refused.Goals as goal
 
 pub list_under-requires : goal.list_under-requires

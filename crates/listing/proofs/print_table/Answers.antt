@@ -1,4 +1,3 @@
-
 use Rattle.listing.proofs.print_table.Goals as goal
 
 pub print_records-requires : goal.print_records-requires

@@ -1,4 +1,3 @@
-
 use Rattle.answers.proofs.questions.check_briefly.Goals as goal
 
 pub returns : goal.returns

@@ -1,4 +1,3 @@
-
 use Rattle.answers.proofs.questions.check_table.Goals as goal
 
 pub returns : goal.returns

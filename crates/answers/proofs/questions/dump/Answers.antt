@@ -1,4 +1,3 @@
-
 use Rattle.answers.proofs.questions.dump.Goals as goal
 
 pub returns-in-Accepted : goal.returns-in-Accepted

@@ -1,4 +1,3 @@
-
 use Rattle.answers.proofs.questions.list_table.Goals as goal
 
 pub returns-in-Accepted : goal.returns-in-Accepted

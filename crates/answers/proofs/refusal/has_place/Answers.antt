@@ -28,26 +28,18 @@ pub returns-in-46 : goal.returns-in-46
 unfolding placeless
 returns-in-46 c = rw (above 20 23 c.args.number (omega arith), above 28 30 c.args.number (omega arith), ne_eqb c.args.number 42 c.in-46.in_default-own.rest.0.0.1, within 46 48 c.args.number (omega arith) (omega arith))
 
-pub returns-in-54 : goal.returns-in-54
-unfolding placeless
-returns-in-54 c = rw (above 20 23 c.args.number (omega arith), above 28 30 c.args.number (omega arith), ne_eqb c.args.number 42 c.in-54.in_default-own.rest.0.0.1, above 46 48 c.args.number (omega arith), ne_eqb c.args.number 51 c.in-54.in_default-own.rest.0.1, within 54 56 c.args.number (omega arith) (omega arith))
-
 pub returns-in_default : goal.returns-in_default
 unfolding placeless
-returns-in_default c = rw (below 20 23 c.args.number (omega arith), below 28 30 c.args.number (omega arith), ne_eqb c.args.number 42 c.in_default.in_default-own.rest.0.0.1, below 46 48 c.args.number (omega arith), ne_eqb c.args.number 51 c.in_default.in_default-own.rest.0.1, below 54 56 c.args.number (omega arith), ne_eqb c.args.number 59 c.in_default.in_default-own.rest.1)
+returns-in_default c = rw (below 20 23 c.args.number (omega arith), below 28 30 c.args.number (omega arith), ne_eqb c.args.number 42 c.in_default.in_default-own.rest.0.0.1, below 46 48 c.args.number (omega arith), ne_eqb c.args.number 51 c.in_default.in_default-own.rest.0.1, ne_eqb c.args.number 59 c.in_default.in_default-own.rest.1)
 
 pub returns-in_default-2 : goal.returns-in_default-2
 unfolding placeless
-returns-in_default-2 c = rw (above 20 23 c.args.number (omega arith), below 28 30 c.args.number (omega arith), ne_eqb c.args.number 42 c.in_default.in_default-own.rest.0.0.1, below 46 48 c.args.number (omega arith), ne_eqb c.args.number 51 c.in_default.in_default-own.rest.0.1, below 54 56 c.args.number (omega arith), ne_eqb c.args.number 59 c.in_default.in_default-own.rest.1)
+returns-in_default-2 c = rw (above 20 23 c.args.number (omega arith), below 28 30 c.args.number (omega arith), ne_eqb c.args.number 42 c.in_default.in_default-own.rest.0.0.1, below 46 48 c.args.number (omega arith), ne_eqb c.args.number 51 c.in_default.in_default-own.rest.0.1, ne_eqb c.args.number 59 c.in_default.in_default-own.rest.1)
 
 pub returns-in_default-3 : goal.returns-in_default-3
 unfolding placeless
-returns-in_default-3 c = rw (above 20 23 c.args.number (omega arith), above 28 30 c.args.number (omega arith), ne_eqb c.args.number 42 c.in_default.in_default-own.rest.0.0.1, below 46 48 c.args.number (omega arith), ne_eqb c.args.number 51 c.in_default.in_default-own.rest.0.1, below 54 56 c.args.number (omega arith), ne_eqb c.args.number 59 c.in_default.in_default-own.rest.1)
+returns-in_default-3 c = rw (above 20 23 c.args.number (omega arith), above 28 30 c.args.number (omega arith), ne_eqb c.args.number 42 c.in_default.in_default-own.rest.0.0.1, below 46 48 c.args.number (omega arith), ne_eqb c.args.number 51 c.in_default.in_default-own.rest.0.1, ne_eqb c.args.number 59 c.in_default.in_default-own.rest.1)
 
 pub returns-in_default-4 : goal.returns-in_default-4
 unfolding placeless
-returns-in_default-4 c = rw (above 20 23 c.args.number (omega arith), above 28 30 c.args.number (omega arith), ne_eqb c.args.number 42 c.in_default.in_default-own.rest.0.0.1, above 46 48 c.args.number (omega arith), ne_eqb c.args.number 51 c.in_default.in_default-own.rest.0.1, below 54 56 c.args.number (omega arith), ne_eqb c.args.number 59 c.in_default.in_default-own.rest.1)
-
-pub returns-in_default-5 : goal.returns-in_default-5
-unfolding placeless
-returns-in_default-5 c = rw (above 20 23 c.args.number (omega arith), above 28 30 c.args.number (omega arith), ne_eqb c.args.number 42 c.in_default.in_default-own.rest.0.0.1, above 46 48 c.args.number (omega arith), ne_eqb c.args.number 51 c.in_default.in_default-own.rest.0.1, above 54 56 c.args.number (omega arith), ne_eqb c.args.number 59 c.in_default.in_default-own.rest.1)
+returns-in_default-4 c = rw (above 20 23 c.args.number (omega arith), above 28 30 c.args.number (omega arith), ne_eqb c.args.number 42 c.in_default.in_default-own.rest.0.0.1, above 46 48 c.args.number (omega arith), ne_eqb c.args.number 51 c.in_default.in_default-own.rest.0.1, ne_eqb c.args.number 59 c.in_default.in_default-own.rest.1)

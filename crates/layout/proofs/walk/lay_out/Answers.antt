@@ -1,4 +1,3 @@
-
 use borrow.Author.Rules.{rules}
 use Rattle.layout.proofs.walk.lay_out.Goals as goal
 

@@ -65,11 +65,6 @@ run: command
 	$(BLINK) show samples/widths.table samples/good.message | cmp - target/shown.text
 	$(BLINK) tape samples/blank.table samples/shift.tape $(REFUSED)
 	$(BLINK) tape samples/blank.table samples/cut.tape $(REFUSED)
-	rm -f target/shift.ledger target/night.ledger
-	$(BLINK) ledger samples/blank.table samples/shift.tape target/shift.ledger --type 1 $(REFUSED)
-	$(BLINK) ledger samples/blank.table samples/night.tape target/night.ledger --type 1 > target/night.answer $(REFUSED)
-	head -n 1 target/night.answer
-	tail -n 1 target/night.answer
 	$(BLINK) read samples/blank.table samples/good-no-note.message 1
 	$(BLINK) read samples/blank.table samples/good-no-note.message 4 $(REFUSED)
 	$(BLINK) check samples/blank.table samples/dusty.message $(REFUSED)

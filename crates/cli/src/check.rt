@@ -1,5 +1,5 @@
 // Messages checked under one table: one with all that can be said of it, or several, or those of a tape, with a line for each.
-use crate::rooms::{Long, Message};
+use crate::rooms;
 use answers::outcome::Outcome;
 use answers::{outcome, questions, refusal};
 use inputs::{arguments, command};
@@ -12,14 +12,15 @@ use transfer::{loaded, named};
 const ROOM: usize = 65537;
 
 fn check_one(
+    rt: &HostRuntime,
     page: &mut Page,
     table: &[u8],
     store: &[u8],
     customer: u16,
-    room: &mut Long,
-    scratch: &mut Message,
+    room: &mut [u8],
+    scratch: &mut [u8],
 ) -> Outcome {
-    let read = loaded::read_most(arguments::plain(command::INPUT), room, ROOM);
+    let read = loaded::read_most(rt, arguments::plain(rt, command::INPUT), room, ROOM);
     if !read.is_read {
         return refusal::fail(page);
     }
@@ -28,25 +29,26 @@ fn check_one(
 }
 
 // The name of the file that argument `i` names.
-fn print_name(page: &mut Page, i: usize) {
+fn print_name(rt: &HostRuntime, page: &mut Page, i: usize) {
     let mut name = io::buffer();
-    let n = arguments::read(i, &mut name);
+    let n = arguments::read(rt, i, &mut name);
     letters::print_text(page, rows::part(&name, 0, n));
     print::text(page, b": ");
 }
 
 // The line of the message that argument `i` names.
 fn check_at(
+    rt: &HostRuntime,
     page: &mut Page,
     i: usize,
     table: &[u8],
     store: &[u8],
     customer: u16,
-    room: &mut Long,
-    scratch: &mut Message,
+    room: &mut [u8],
+    scratch: &mut [u8],
 ) -> Outcome {
-    let read = loaded::read_most(i, room, ROOM);
-    print_name(page, i);
+    let read = loaded::read_most(rt, i, room, ROOM);
+    print_name(rt, page, i);
     if !read.is_read {
         return refusal::fail(page);
     }
@@ -55,37 +57,38 @@ fn check_at(
 }
 
 fn check_each(
+    rt: &HostRuntime,
     page: &mut Page,
     table: &[u8],
     store: &[u8],
     customer: u16,
-    room: &mut Long,
-    scratch: &mut Message,
+    room: &mut [u8],
+    scratch: &mut [u8],
 ) -> Outcome {
-    let end = os::arg_count();
     let mut worst = Outcome::Answered;
-    let mut i = arguments::plain(command::INPUT);
-    while i < end {
-        let next = check_at(page, i, table, store, customer, room, scratch);
+    let mut i = arguments::plain(rt, command::INPUT);
+    while arguments::is_there(rt, i) {
+        let next = check_at(rt, page, i, table, store, customer, room, scratch);
         worst = outcome::worse(worst, next);
-        i = arguments::next_plain(i);
+        i = arguments::next_plain(rt, i);
     }
     worst
 }
 
 // A message has an answer for people, several have a line each.
 pub fn check_messages(
+    rt: &HostRuntime,
     page: &mut Page,
     table: &[u8],
     store: &[u8],
     customer: u16,
-    room: &mut Long,
-    scratch: &mut Message,
+    room: &mut [u8],
+    scratch: &mut [u8],
 ) -> Outcome {
-    if command::INPUT < arguments::count_plain() {
-        return check_each(page, table, store, customer, room, scratch);
+    if command::INPUT < arguments::count_plain(rt) {
+        return check_each(rt, page, table, store, customer, room, scratch);
     }
-    check_one(page, table, store, customer, room, scratch)
+    check_one(rt, page, table, store, customer, room, scratch)
 }
 
 // The most bytes of a file that a room of this length holds whole: one more shows that it may be longer.
@@ -97,37 +100,52 @@ fn most(room: usize) -> usize {
 }
 
 // Whether the room holds all of the file that argument `i` names, of which it was filled with so many bytes.
-pub fn holds(room: &[u8], i: usize, length: usize) -> bool {
+fn holds(rt: &HostRuntime, room: &[u8], i: usize, length: usize) -> bool {
     if room.len() <= length {
-        named::complain_long(i, most(room.len()));
+        named::complain_long(rt, i, most(room.len()));
         return false;
     }
     true
 }
 
-pub fn read_tape(room: &mut [u8]) -> Input {
-    let i = arguments::plain(command::INPUT);
-    let read = loaded::read(i, room);
+fn read_tape(rt: &HostRuntime, room: &mut [u8]) -> Input {
+    let i = arguments::plain(rt, command::INPUT);
+    let read = loaded::read(rt, i, room);
     let of = read.of;
     if !read.is_read {
         return read;
     }
     Input {
-        is_read: holds(room, i, read.length),
+        is_read: holds(rt, room, i, read.length),
         length: read.length,
         of,
     }
 }
 
 pub fn check_tape(
+    rt: &HostRuntime,
+    page: &mut Page,
+    table: &[u8],
+    store: &[u8],
+    customer: u16,
+    scratch: &mut [u8],
+) -> Outcome {
+    match rooms::tape(rt.alloc()) {
+        Ok(mut room) => check_tape_in(rt, page, table, store, customer, &mut room, scratch),
+        Err(_) => rooms::fail(page),
+    }
+}
+
+fn check_tape_in(
+    rt: &HostRuntime,
     page: &mut Page,
     table: &[u8],
     store: &[u8],
     customer: u16,
     room: &mut [u8],
-    scratch: &mut Message,
+    scratch: &mut [u8],
 ) -> Outcome {
-    let read = read_tape(room);
+    let read = read_tape(rt, room);
     if !read.is_read {
         return refusal::fail(page);
     }

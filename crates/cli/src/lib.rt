@@ -3,7 +3,6 @@
 #![tactic(auto)]
 
 mod check;
-mod lines;
 mod output;
 mod rooms;
 mod store;
@@ -19,7 +18,7 @@ use inputs::options::Options;
 use inputs::{arguments, command, help, options, request};
 use printing::print;
 use printing::print::Page;
-use rooms::{Labels, Long, Message, Sheet, Short};
+use rooms::Rooms;
 use transfer::loaded::Input;
 use transfer::{destination, loaded, named};
 
@@ -43,10 +42,11 @@ fn print_faults(page: &mut Page) -> Outcome {
     Outcome::Answered
 }
 
-fn print_fault(page: &mut Page, number: u8) -> Outcome {
+fn print_fault(rt: &HostRuntime, page: &mut Page, number: u8) -> Outcome {
     if faults::copy_words(number, &mut [0u8; 0]) == 0 {
         named::complain_of(
-            arguments::plain(command::NUMBER),
+            rt,
+            arguments::plain(rt, command::NUMBER),
             b"no fault has this number",
         );
         return refusal::fail(page);
@@ -58,35 +58,35 @@ fn print_fault(page: &mut Page, number: u8) -> Outcome {
 
 // FILES
 
-fn read_table(room: &mut Short) -> Input {
-    loaded::read(arguments::plain(command::TABLE), room)
+fn read_table(rt: &HostRuntime, room: &mut [u8]) -> Input {
+    loaded::read(rt, arguments::plain(rt, command::TABLE), room)
 }
 
 // The store that the options name. None is an empty one, which has no settings.
-fn read_store(room: &mut Short) -> Input {
-    let i = options::store();
+fn read_store(rt: &HostRuntime, room: &mut [u8]) -> Input {
+    let i = options::store(rt);
     if i == 0 {
         return loaded::none();
     }
-    let read = loaded::read(i, room);
+    let read = loaded::read(rt, i, room);
     let of = read.of;
     Input {
-        is_read: read.is_read && store::fits(i, read.length),
+        is_read: read.is_read && store::fits(rt, i, read.length),
         length: read.length,
         of,
     }
 }
 
-fn check_table(page: &mut Page, room: &mut Short) -> Outcome {
-    let table = read_table(room);
+fn check_table(rt: &HostRuntime, page: &mut Page, room: &mut [u8]) -> Outcome {
+    let table = read_table(rt, room);
     if !table.is_read {
         return refusal::fail(page);
     }
     questions::check_table(page, rows::part(room, 0, table.length))
 }
 
-fn list_table(page: &mut Page, room: &mut Short) -> Outcome {
-    let table = read_table(room);
+fn list_table(rt: &HostRuntime, page: &mut Page, room: &mut [u8]) -> Outcome {
+    let table = read_table(rt, room);
     if !table.is_read {
         return refusal::fail(page);
     }
@@ -95,28 +95,28 @@ fn list_table(page: &mut Page, room: &mut Short) -> Outcome {
 
 // Messages that are files, or those of a tape.
 fn check_messages(
+    rt: &HostRuntime,
     page: &mut Page,
     command: Command,
     customer: u16,
-    tables: &mut Short,
-    stores: &mut Short,
-    messages: &mut Long,
-    tape: &mut [u8],
-    scratch: &mut Message,
+    tables: &mut [u8],
+    stores: &mut [u8],
+    messages: &mut [u8],
+    scratch: &mut [u8],
 ) -> Outcome {
-    let table = read_table(tables);
+    let table = read_table(rt, tables);
     if !table.is_read {
         return refusal::fail(page);
     }
-    let store = read_store(stores);
+    let store = read_store(rt, stores);
     if !store.is_read {
         return refusal::fail(page);
     }
     let table = rows::part(tables, 0, table.length);
     let store = rows::part(stores, 0, store.length);
     match command {
-        Command::Tape => check::check_tape(page, table, store, customer, tape, scratch),
-        _ => check::check_messages(page, table, store, customer, messages, scratch),
+        Command::Tape => check::check_tape(rt, page, table, store, customer, scratch),
+        _ => check::check_messages(rt, page, table, store, customer, messages, scratch),
     }
 }
 
@@ -142,9 +142,9 @@ fn answer_in_text(
     store: &[u8],
     customer: u16,
     message: &[u8],
-    scratch: &mut Message,
-    sheet: &mut Sheet,
-    labels: &mut Labels,
+    scratch: &mut [u8],
+    sheet: &mut [u8],
+    labels: &mut [u64],
 ) -> Outcome {
     match question {
         Question::Read { field, item } => {
@@ -157,38 +157,42 @@ fn answer_in_text(
 
 // Questions whose answer goes to OUT.
 fn answer_in_bytes(
+    rt: &HostRuntime,
     page: &mut Page,
     question: Question,
     table: &[u8],
     store: &[u8],
     customer: u16,
     input: &[u8],
-    scratch: &mut Message,
-    sheet: &mut Sheet,
-    output: &mut Message,
+    scratch: &mut [u8],
+    sheet: &mut [u8],
+    output: &mut [u8],
 ) -> Outcome {
     match question {
-        Question::Sheet => output::sheet(page, table, store, customer, input, scratch, sheet),
-        Question::Write => output::write(page, table, input, output),
-        _ => output::rewrite(page, table, store, customer, input, scratch, sheet, output),
+        Question::Sheet => output::sheet(rt, page, table, store, customer, input, scratch, sheet),
+        Question::Write => output::write(rt, page, table, input, output),
+        _ => output::rewrite(
+            rt, page, table, store, customer, input, scratch, sheet, output,
+        ),
     }
 }
 
 fn answer_with(
+    rt: &HostRuntime,
     page: &mut Page,
     question: Question,
     table: &[u8],
     store: &[u8],
     customer: u16,
     input: &[u8],
-    scratch: &mut Message,
-    sheet: &mut Sheet,
-    output: &mut Message,
-    labels: &mut Labels,
+    scratch: &mut [u8],
+    sheet: &mut [u8],
+    output: &mut [u8],
+    labels: &mut [u64],
 ) -> Outcome {
     if destination::writes(question) {
         return answer_in_bytes(
-            page, question, table, store, customer, input, scratch, sheet, output,
+            rt, page, question, table, store, customer, input, scratch, sheet, output,
         );
     }
     answer_in_text(
@@ -216,21 +220,23 @@ fn unread() -> Lengths {
 
 // Reads them all. Where one cannot be read, or would be written over, standard error says so.
 fn read_all(
+    rt: &HostRuntime,
     question: Question,
-    tables: &mut Short,
-    stores: &mut Short,
-    messages: &mut Long,
+    tables: &mut [u8],
+    stores: &mut [u8],
+    messages: &mut [u8],
 ) -> Lengths {
-    let table = read_table(tables);
+    let table = read_table(rt, tables);
     if !table.is_read {
         return unread();
     }
-    let store = read_store(stores);
+    let store = read_store(rt, stores);
     if !store.is_read {
         return unread();
     }
     let input = loaded::read_most(
-        arguments::plain(command::INPUT),
+        rt,
+        arguments::plain(rt, command::INPUT),
         messages,
         room_of(question),
     );
@@ -238,7 +244,7 @@ fn read_all(
         return unread();
     }
     Lengths {
-        are_read: !destination::is_taken(question, table.of, store.of, input.of),
+        are_read: !destination::is_taken(rt, question, table.of, store.of, input.of),
         table: table.length,
         store: store.length,
         input: input.length,
@@ -246,37 +252,35 @@ fn read_all(
 }
 
 // The answer's lines are on standard error where standard output takes the bytes.
-fn direct_beside(page: &mut Page) {
-    if destination::is_output() {
-        print::redirect(page);
-    }
-}
-
-fn direct(page: &mut Page, question: Question) {
+fn direct(rt: &HostRuntime, page: &mut Page, question: Question) {
     if destination::writes(question) {
-        direct_beside(page);
+        if destination::is_output(rt) {
+            print::redirect(page);
+        }
     }
 }
 
 // A question about one message or sheet.
 fn ask(
+    rt: &HostRuntime,
     page: &mut Page,
     question: Question,
     customer: u16,
-    tables: &mut Short,
-    stores: &mut Short,
-    messages: &mut Long,
-    scratch: &mut Message,
-    sheet: &mut Sheet,
-    output: &mut Message,
-    labels: &mut Labels,
+    tables: &mut [u8],
+    stores: &mut [u8],
+    messages: &mut [u8],
+    scratch: &mut [u8],
+    sheet: &mut [u8],
+    output: &mut [u8],
+    labels: &mut [u64],
 ) -> Outcome {
-    direct(page, question);
-    let files = read_all(question, tables, stores, messages);
+    direct(rt, page, question);
+    let files = read_all(rt, question, tables, stores, messages);
     if !files.are_read {
         return refusal::fail(page);
     }
     answer_with(
+        rt,
         page,
         question,
         rows::part(tables, 0, files.table),
@@ -287,56 +291,6 @@ fn ask(
         sheet,
         output,
         labels,
-    )
-}
-
-// The same of a ledger, which is none of them.
-fn read_for_ledger(tables: &mut Short, stores: &mut Short, tape: &mut [u8]) -> Lengths {
-    let table = read_table(tables);
-    if !table.is_read {
-        return unread();
-    }
-    let store = read_store(stores);
-    if !store.is_read {
-        return unread();
-    }
-    let read = check::read_tape(tape);
-    if !read.is_read {
-        return unread();
-    }
-    Lengths {
-        are_read: !destination::is_input(table.of, store.of, read.of),
-        table: table.length,
-        store: store.length,
-        input: read.length,
-    }
-}
-
-// A tape's messages of one type in a ledger.
-fn enter(
-    page: &mut Page,
-    id: u64,
-    customer: u16,
-    tables: &mut Short,
-    stores: &mut Short,
-    tape: &mut [u8],
-    scratch: &mut Message,
-    ledger: &mut [u8],
-) -> Outcome {
-    direct_beside(page);
-    let files = read_for_ledger(tables, stores, tape);
-    if !files.are_read {
-        return refusal::fail(page);
-    }
-    lines::enter(
-        page,
-        rows::part(tables, 0, files.table),
-        rows::part(stores, 0, files.store),
-        customer,
-        rows::part(tape, 0, files.input),
-        scratch,
-        id,
-        ledger,
     )
 }
 
@@ -354,52 +308,56 @@ fn customer_of(options: Options) -> u16
 }
 
 // What needs no room.
-fn run_words(page: &mut Page, command: Command) -> Outcome {
+fn run_words(rt: &HostRuntime, page: &mut Page, command: Command) -> Outcome {
     match command {
         Command::Help => print_help(page),
         Command::Version => print_version(page),
         Command::Faults => print_faults(page),
-        Command::Fault { number } => print_fault(page, number),
+        Command::Fault { number } => print_fault(rt, page, number),
         _ => refusal::fail(page),
     }
 }
 
 // What needs the rooms of a table or a store alone.
-fn run_alone(page: &mut Page, command: Command, tables: &mut Short, stores: &mut Short) -> Outcome {
+fn run_alone(
+    rt: &HostRuntime,
+    page: &mut Page,
+    command: Command,
+    tables: &mut [u8],
+    stores: &mut [u8],
+) -> Outcome {
     match command {
-        Command::CheckTable => check_table(page, tables),
-        Command::ListTable => list_table(page, tables),
-        Command::Store { question } => store::ask(page, question, stores),
-        Command::NewStore { records } => store::create(page, records, stores),
-        _ => run_words(page, command),
+        Command::CheckTable => check_table(rt, page, tables),
+        Command::ListTable => list_table(rt, page, tables),
+        Command::Store { question } => store::ask(rt, page, question, stores),
+        Command::NewStore { records } => store::create(rt, page, records, stores),
+        _ => run_words(rt, page, command),
     }
 }
 
 fn run(
+    rt: &HostRuntime,
     page: &mut Page,
-    tables: &mut Short,
-    stores: &mut Short,
-    messages: &mut Long,
-    tape: &mut [u8],
-    ledger: &mut [u8],
-    scratch: &mut Message,
-    sheet: &mut Sheet,
-    output: &mut Message,
-    labels: &mut Labels,
+    tables: &mut [u8],
+    stores: &mut [u8],
+    messages: &mut [u8],
+    scratch: &mut [u8],
+    sheet: &mut [u8],
+    output: &mut [u8],
+    labels: &mut [u64],
 ) -> Outcome {
-    let request = request::read();
+    let request = request::read(rt);
     let options = request.options;
     let customer = customer_of(options);
     let command = request.command;
     match command {
         Command::Message { question } => ask(
-            page, question, customer, tables, stores, messages, scratch, sheet, output, labels,
+            rt, page, question, customer, tables, stores, messages, scratch, sheet, output, labels,
         ),
-        Command::Ledger { id } => enter(page, id, customer, tables, stores, tape, scratch, ledger),
         Command::Check | Command::Tape => check_messages(
-            page, command, customer, tables, stores, messages, tape, scratch,
+            rt, page, command, customer, tables, stores, messages, scratch,
         ),
-        _ => run_alone(page, command, tables, stores),
+        _ => run_alone(rt, page, command, tables, stores),
     }
 }
 
@@ -412,23 +370,30 @@ fn finish(page: &mut Page, outcome: Outcome) -> i32 {
     outcome::status(outcome)
 }
 
-// The whole command, by the arguments that the program was started with; the answer is its exit status.
-#[unsafe(no_mangle)]
-pub extern "C" fn blink_run(
-    tables: &mut Short,
-    stores: &mut Short,
-    messages: &mut Long,
-    tape: &mut [u8],
-    ledger: &mut [u8],
-    scratch: &mut Message,
-    sheet: &mut Sheet,
-    output: &mut Message,
-    labels: &mut Labels,
-) -> i32 {
-    loading::hold_standard();
-    let mut page = print::page();
+fn run_in(rt: &HostRuntime, rooms: &mut Rooms) -> i32 {
+    let mut page = print::new_page(rt);
     let outcome = run(
-        &mut page, tables, stores, messages, tape, ledger, scratch, sheet, output, labels,
+        rt,
+        &mut page,
+        &mut rooms.tables,
+        &mut rooms.stores,
+        &mut rooms.messages,
+        &mut rooms.scratch,
+        &mut rooms.sheet,
+        &mut rooms.output,
+        &mut rooms.labels,
     );
     finish(&mut page, outcome)
+}
+
+// The whole command, by the arguments that the program was started with; the answer is its exit status.
+pub fn blink_run(rt: &HostRuntime) -> i32 {
+    loading::hold_standard(rt);
+    match rooms::make(rt.alloc()) {
+        Ok(mut rooms) => run_in(rt, &mut rooms),
+        Err(_) => {
+            rooms::complain();
+            outcome::status(Outcome::Failed)
+        }
+    }
 }

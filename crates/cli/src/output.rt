@@ -6,6 +6,7 @@ use printing::print::Page;
 use transfer::destination;
 
 pub fn sheet(
+    rt: &HostRuntime,
     page: &mut Page,
     table: &[u8],
     store: &[u8],
@@ -16,17 +17,23 @@ pub fn sheet(
 ) -> Outcome {
     let w = codec::message_to_sheet(table, store, customer, message, scratch, sheet);
     match w {
-        Written::Bytes(length) => destination::save(page, sheet, length),
+        Written::Bytes(length) => destination::save(rt, page, sheet, length),
         Written::Refused { number, place } => {
             refusal::refuse(page, number, place, table, store, message)
         }
     }
 }
 
-pub fn write(page: &mut Page, table: &[u8], sheet: &[u8], output: &mut [u8]) -> Outcome {
+pub fn write(
+    rt: &HostRuntime,
+    page: &mut Page,
+    table: &[u8],
+    sheet: &[u8],
+    output: &mut [u8],
+) -> Outcome {
     let w = codec::sheet_to_message(table, sheet, output);
     match w {
-        Written::Bytes(length) => destination::save(page, output, length),
+        Written::Bytes(length) => destination::save(rt, page, output, length),
         Written::Refused { number, place } => {
             refusal::refuse(page, number, place, table, &table[0..0], sheet)
         }
@@ -34,6 +41,7 @@ pub fn write(page: &mut Page, table: &[u8], sheet: &[u8], output: &mut [u8]) -> 
 }
 
 pub fn rewrite(
+    rt: &HostRuntime,
     page: &mut Page,
     table: &[u8],
     store: &[u8],
@@ -45,7 +53,7 @@ pub fn rewrite(
 ) -> Outcome {
     let w = codec::rewrite(table, store, customer, message, scratch, sheet, output);
     match w {
-        Written::Bytes(length) => destination::save(page, output, length),
+        Written::Bytes(length) => destination::save(rt, page, output, length),
         Written::Refused { number, place } => {
             refusal::refuse(page, number, place, table, store, message)
         }

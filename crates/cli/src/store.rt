@@ -4,7 +4,6 @@ ghost use Rattle.settings.specs.Store.{store_verdict};
 ghost use Rattle.answers.specs.Outcomes.{outcome_of};
 ghost use Rattle.cli.specs.Questions.{store_at};
 
-use crate::rooms::Short;
 use answers::outcome::Outcome;
 use answers::refusal;
 use codec::{Ignored, Setting, Verdict};
@@ -18,9 +17,9 @@ use transfer::{destination, loaded, named};
 const LONGEST: usize = 65536;
 
 // Whether the store that argument `i` names has no more. No fault says this, so standard error does.
-pub fn fits(i: usize, length: usize) -> bool {
+pub fn fits(rt: &HostRuntime, i: usize, length: usize) -> bool {
     if LONGEST < length {
-        named::complain_long(i, LONGEST);
+        named::complain_long(rt, i, LONGEST);
         return false;
     }
     true
@@ -46,28 +45,34 @@ fn place(question: StoreQuestion) -> usize
     }
 }
 
-pub fn ask(page: &mut Page, question: StoreQuestion, room: &mut Short) -> Outcome {
-    let i = arguments::plain(place(question));
-    let read = loaded::read(i, room);
+pub fn ask(rt: &HostRuntime, page: &mut Page, question: StoreQuestion, room: &mut [u8]) -> Outcome {
+    let i = arguments::plain(rt, place(question));
+    let read = loaded::read(rt, i, room);
     if !read.is_read {
         return refusal::fail(page);
     }
     let length = read.length;
-    if !fits(i, length) {
+    if !fits(rt, i, length) {
         return refusal::fail(page);
     }
-    lend(page, question, room, length)
+    lend(rt, page, question, room, length)
 }
 
 // The store is the first `length` bytes of the room.
-fn lend(page: &mut Page, question: StoreQuestion, room: &mut [u8], length: usize) -> Outcome {
+fn lend(
+    rt: &HostRuntime,
+    page: &mut Page,
+    question: StoreQuestion,
+    room: &mut [u8],
+    length: usize,
+) -> Outcome {
     if room.len() < length {
         return refusal::fail(page);
     }
-    answer(page, question, &mut room[0..length])
+    answer(rt, page, question, &mut room[0..length])
 }
 
-fn answer(page: &mut Page, question: StoreQuestion, store: &mut [u8]) -> Outcome {
+fn answer(rt: &HostRuntime, page: &mut Page, question: StoreQuestion, store: &mut [u8]) -> Outcome {
     match question {
         StoreQuestion::List => list(page, store),
         StoreQuestion::Get { customer, version } => get(page, store, customer, version),
@@ -77,7 +82,7 @@ fn answer(page: &mut Page, question: StoreQuestion, store: &mut [u8]) -> Outcome
             absent,
             pads,
             unused,
-        } => add(page, store, customer, version, absent, pads, unused),
+        } => add(rt, page, store, customer, version, absent, pads, unused),
     }
 }
 
@@ -112,6 +117,7 @@ fn print_ignored(page: &mut Page, ignored: Ignored) -> Outcome {
 
 // The file keeps its length, and on a refusal its bytes.
 fn add(
+    rt: &HostRuntime,
     page: &mut Page,
     store: &mut [u8],
     customer: u16,
@@ -123,8 +129,9 @@ fn add(
     let v = codec::add_settings(store, customer, version, absent, pads, unused);
     match v {
         Verdict::Accepted => destination::replace(
+            rt,
             page,
-            arguments::plain(store_command::STORE),
+            arguments::plain(rt, store_command::STORE),
             store,
         ),
         Verdict::Refused { number, place } => refusal::explain(page, number, place, store),
@@ -132,14 +139,15 @@ fn add(
 }
 
 // A store of zeros has all of its room free.
-pub fn create(page: &mut Page, records: usize, room: &mut Short) -> Outcome {
+pub fn create(rt: &HostRuntime, page: &mut Page, records: usize, room: &mut [u8]) -> Outcome {
     if room.len() / 9 < records {
         return refusal::fail(page);
     }
     wire::fill(room, 0, 9 * records, 0);
     destination::create(
+        rt,
         page,
-        arguments::plain(store_command::STORE),
+        arguments::plain(rt, store_command::STORE),
         rows::part(room, 0, 9 * records),
     )
 }

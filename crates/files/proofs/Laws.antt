@@ -10,11 +10,10 @@ use lib.Dec.{eqb}
 use borrow.Author.Tests.{lt-ltb, le-ltb, le-leb, lt-leb, eq-eqb, ne_eqb, not-true, not-false}
 use Rattle.wire.specs.Bytes.{part, splice}
 use Rattle.io.specs.Counts.{IsPrefixLen}
-use Rattle.libc.specs.Io.{Ended}
 use Rattle.wire.proofs.Laws.{drop_more, length_part, length-splice}
 use Rattle.files.specs.declared.identity.Identity.{Identity}
 use Rattle.files.specs.Identities.{is_regular, same_file, kept_mode}
-use Rattle.files.specs.Paths.{is_dash, has_zero, is_path, ended_of, directory_in, is_rooted, start_of, joined, fitting, short_name}
+use Rattle.files.specs.Paths.{Ended, is_dash, has_zero, is_path, ended_of, directory_in, is_rooted, start_of, joined, fitting, short_name}
 
 -- WHICH FILE
 

@@ -1,5 +1,5 @@
 -- Names of files, as bytes. 45 is the dash, and 47 the slash.
-use Rattle.std.specs.Prelude.{Bool, true, false, cond, not, ◌&&◌, List, [], ◌∷◌, ◌++◌, ℕ, zero, suc, ◌-◌, length, take, get_or, replicate, eqb, ltb, leb}
+use Rattle.std.specs.Prelude.{◌≡◌, Bool, true, false, cond, not, ◌&&◌, List, [], ◌∷◌, ◌++◌, ℕ, zero, suc, ◌-◌, length, take, get_or, replicate, slice_index_or, eqb, ltb, leb}
 
 unfoldable pub is_dash : List ℕ → Bool
 is_dash s = eqb (length s) 1 && eqb (get_or s 0 0) 45
@@ -11,6 +11,10 @@ has_zero (b ∷ bs) = cond (eqb b 0) true (has_zero bs)
 -- C is handed at most 4095 bytes, and reads up to a 0.
 unfoldable pub is_path : List ℕ → Bool
 is_path s = ltb (length s) 4096 && not (has_zero s)
+
+-- The last of a path's 4096 bytes is 0.
+abbrev pub Ended : List ℕ → Type 0
+Ended bytes = slice_index_or bytes 4095 1 ≡ 0
 
 unfoldable pub ended_of : List ℕ → List ℕ
 ended_of s = take 4095 s ++ replicate (4096 - length (take 4095 s)) 0

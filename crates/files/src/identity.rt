@@ -1,11 +1,13 @@
 // Which file it is, of what kind, and whose. Device and inode number tell a file from every other, whatever names lead to it.
 ghost use Rattle.std.specs.Prelude.{◌≡◌};
-ghost use Rattle.libc.specs.Io.{Ended};
 ghost use Rattle.files.specs.Identities.{is_regular, same_file};
 
+use crate::loading::Source;
 use crate::paths;
-use libc::PATH_MAX;
-use libc::types::{stat, timespec};
+use std::fs;
+use std::fs::{File, Metadata};
+use std::io::Error;
+use std::os::unix::fs::MetadataExt;
 
 #[derive(Clone, Copy)]
 pub struct Identity {
@@ -15,32 +17,6 @@ pub struct Identity {
     pub mode: u32,
     pub owner: u32,
     pub group: u32,
-}
-
-// What C is lent to fill.
-fn blank() -> stat {
-    let time = timespec {
-        tv_sec: 0,
-        tv_nsec: 0,
-    };
-    let unused = [0i64; 3];
-    stat {
-        st_dev: 0,
-        st_ino: 0,
-        st_nlink: 0,
-        st_mode: 0,
-        st_uid: 0,
-        st_gid: 0,
-        __pad: 0,
-        st_rdev: 0,
-        st_size: 0,
-        st_blksize: 0,
-        st_blocks: 0,
-        st_atim: time,
-        st_mtim: time,
-        st_ctim: time,
-        __unused: unused,
-    }
 }
 
 // What is not known of a file that is missing.
@@ -55,40 +31,58 @@ pub fn unknown() -> Identity {
     }
 }
 
-// What C told, where it answered 0.
-fn told(status: i32, of: stat) -> Identity {
+fn told(of: &Metadata) -> Identity {
     Identity {
-        is_known: status == 0,
-        device: of.st_dev,
-        inode: of.st_ino,
-        mode: of.st_mode,
-        owner: of.st_uid,
-        group: of.st_gid,
+        is_known: true,
+        device: of.dev(),
+        inode: of.ino(),
+        mode: of.mode(),
+        owner: of.uid(),
+        group: of.gid(),
     }
 }
 
-// The file that a descriptor is open on. Where there is none, errno says why.
-pub fn of_open(fd: i32) -> Identity {
-    let mut of = blank();
-    let status = libc::fstat(fd, &mut of);
-    told(status, of)
-}
-
-fn of_path(path: &[u8; PATH_MAX]) -> Identity
-    requires { Ended path.now }
-{
-    let mut of = blank();
-    let status = libc::stat(path, &mut of);
-    told(status, of)
-}
-
-// The file that a name leads to, at the end of its links. Where there is none, or it cannot be asked about, errno says why.
-pub fn of_name(name: &[u8]) -> Identity {
-    if !paths::is_taken(name) {
-        return unknown();
+fn of_file(file: &File) -> Identity {
+    match file.metadata() {
+        Ok(of) => told(&of),
+        Err(_) => unknown(),
     }
-    let path = paths::ended(name);
-    of_path(&path)
+}
+
+fn of_path(rt: &HostRuntime, path: &str) -> Result<Identity, Error> {
+    match fs::metadata(rt, path) {
+        Ok(of) => Ok(told(&of)),
+        Err(error) => Err(error),
+    }
+}
+
+// The file of a standard descriptor, by the name that leads to it.
+fn of_standard(rt: &HostRuntime, path: &str) -> Identity {
+    match of_path(rt, path) {
+        Ok(of) => of,
+        Err(_) => unknown(),
+    }
+}
+
+// The file that is open for reading.
+pub fn of_open(rt: &HostRuntime, source: &Source) -> Identity {
+    match source {
+        Source::Standard => of_standard(rt, "/dev/stdin"),
+        Source::Named(file) => of_file(file),
+    }
+}
+
+// The file that standard output is open on.
+pub fn of_output(rt: &HostRuntime) -> Identity {
+    of_standard(rt, "/dev/stdout")
+}
+
+// The file that a name leads to, at the end of its links.
+pub fn of_name(rt: &HostRuntime, name: &[u8]) -> Result<Identity, Error> {
+    match paths::text(name) {
+        Ok(path) => of_path(rt, path),
+        Err(error) => Err(error),
+    }
 }
 
 pub fn is_regular(of: Identity) -> bool

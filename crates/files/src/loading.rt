@@ -3,72 +3,104 @@ ghost use Rattle.std.specs.Prelude.{length};
 ghost use Rattle.files.specs.Loads.{Within};
 
 use crate::paths;
-use libc::{STDERR_FILENO, STDIN_FILENO};
+use std::fs::File;
+use std::io::{Error, Read};
+use std::os::fd::{AsRawFd, IntoRawFd};
+
+// Standard input, and the last of the standard descriptors.
+
+const INPUT: i32 = 0;
+
+const ERRORS: i32 = 2;
 
 // The lowest free number is taken, where it is a standard one: for reading, so that what is written there fails, and 0 for writing, so
 // that what is read there fails. Answers whether there was one.
-fn hold_one() -> bool {
-    let fd = os::open_read(b"/dev/null");
-    if fd < 0 {
+fn hold_one(rt: &HostRuntime) -> bool {
+    match File::open(rt, "/dev/null") {
+        Ok(file) => hold(rt, file),
+        Err(_) => false,
+    }
+}
+
+// A file that is given out as its number is not closed again.
+fn hold(rt: &HostRuntime, file: File) -> bool {
+    let fd = file.as_raw_fd();
+    if ERRORS < fd {
         return false;
     }
-    if STDERR_FILENO < fd {
-        libc::close(fd);
-        return false;
+    if fd == INPUT {
+        drop(file);
+        return hold_input(rt);
     }
-    if fd == STDIN_FILENO {
-        libc::close(fd);
-        os::open_overwrite(b"/dev/null");
-    }
+    file.into_raw_fd();
     true
 }
 
+fn hold_input(rt: &HostRuntime) -> bool {
+    match File::create(rt, "/dev/null") {
+        Ok(file) => {
+            file.into_raw_fd();
+            true
+        }
+        Err(_) => false,
+    }
+}
+
 // Takes each standard descriptor that the caller closed, so that no file gets its number.
-pub fn hold_standard() {
+pub fn hold_standard(rt: &HostRuntime) {
     let mut i: usize = 0;
     while i < 3 {
-        if !hold_one() {
+        if !hold_one(rt) {
             return;
         }
         i += 1;
     }
 }
 
-// A descriptor to read from, or -1. `-` is standard input.
-pub fn open_input(name: &[u8]) -> i32 {
-    if paths::is_dash(name) {
-        return STDIN_FILENO;
-    }
-    os::open_read(name)
+// What is read. A file is closed where it is dropped.
+#[derive(Drop)]
+pub enum Source {
+    // Standard input.
+    Standard,
+    Named(File),
 }
 
-pub fn close_input(fd: i32) {
-    if fd != STDIN_FILENO {
-        libc::close(fd);
+// `-` is standard input.
+pub fn open_input(rt: &HostRuntime, name: &[u8]) -> Result<Source, Error> {
+    if paths::is_dash(name) {
+        return Ok(Source::Standard);
     }
+    let path = paths::text(name)?;
+    let file = File::open(rt, path)?;
+    Ok(Source::Named(file))
 }
 
 #[derive(Clone, Copy)]
 pub enum Loaded {
     // So many bytes stand at the start of the room: all of the input, or as many as the room takes.
     Bytes(usize),
-    Failed,
+    Failed(Error),
 }
 
-pub fn load(fd: i32, room: &mut [u8]) -> Loaded
+pub fn load(rt: &HostRuntime, source: &mut Source, room: &mut [u8]) -> Loaded
+    ensures { Within result (length room.new) }
+{
+    match source {
+        Source::Standard => load_all(&mut rt.stdin(), room),
+        Source::Named(file) => load_all(file, room),
+    }
+}
+
+fn load_all<R: Read>(from: &mut R, room: &mut [u8]) -> Loaded
     ensures { Within result (length room.new) }
 {
     let mut n = 0;
     while n < room.len() {
-        let got = libc::read(fd, &mut room[n..]);
-        if got < 0 {
-            return Loaded::Failed;
+        match from.read(&mut room[n..]) {
+            Ok(0) => return Loaded::Bytes(n),
+            Ok(more) => n += more,
+            Err(error) => return Loaded::Failed(error),
         }
-        let more = io::count(got, &room[n..]);
-        if more == 0 {
-            return Loaded::Bytes(n);
-        }
-        n += more;
     }
     Loaded::Bytes(n)
 }

@@ -1,11 +1,12 @@
 // Names of files, as bytes. A name that is made stands at the start of a room; where it does not fit, the whole room is taken for it, and
-// a room of 4096 bytes is then refused by the system as too long a name.
+// a room of 4096 bytes is then refused as too long a name.
 ghost use Rattle.std.specs.Prelude.{◌≡◌, ◌++◌, ◌≤◌, length, take};
 ghost use Rattle.io.specs.Counts.{IsPrefixLen};
-ghost use Rattle.libc.specs.Io.{Ended};
-ghost use Rattle.files.specs.Paths.{is_dash, has_zero, is_path, ended_of, directory_in, is_rooted, start_of, joined, fitting, short_name};
+ghost use Rattle.files.specs.Paths.{Ended, is_dash, has_zero, is_path, ended_of, directory_in, is_rooted, start_of, joined, fitting, short_name};
 
-use libc::PATH_MAX;
+use std::io::Error;
+
+const PATH_MAX: usize = 4096;
 
 const LAST: usize = PATH_MAX - 1;
 
@@ -44,13 +45,30 @@ pub fn is_path(name: &[u8]) -> bool
     !has_zero(name)
 }
 
-// The same. Where it cannot, errno says why: opening such a name opens nothing, and sets it.
+// The same.
 pub fn is_taken(name: &[u8]) -> bool {
-    if is_path(name) {
-        return true;
+    is_path(name)
+}
+
+// What the system says of too long a name, and of bytes that are no text.
+
+const TOO_LONG: i32 = 36;
+
+const NO_TEXT: i32 = 84;
+
+// A name as the library takes it. One that is not UTF-8 cannot be asked for.
+pub fn text(name: &[u8]) -> Result<&str, Error> {
+    if PATH_MAX <= name.len() {
+        return Err(Error::from_raw_os_error(TOO_LONG));
     }
-    os::open_read(name);
-    false
+    match std::str::from_utf8(name) {
+        Ok(text) => Ok(text),
+        Err(_) => Err(no_text()),
+    }
+}
+
+pub fn no_text() -> Error {
+    Error::from_raw_os_error(NO_TEXT)
 }
 
 // As much of a name as leaves room for a 0.

@@ -1,107 +1,136 @@
 // Saving: the file of a name has all of the bytes, or is as it was. A new file is written beside it and takes its name at the end. Where the
 // name is a link, the file that it leads to is replaced, and the link stays. The new file has the old one's mode, and its owner and group
 // where the system allows it.
-ghost use Rattle.std.specs.Prelude.{◌≡◌};
+ghost use Rattle.std.specs.Prelude.{◌≡◌, IfOk};
 ghost use Rattle.io.specs.Counts.{IsPrefixLen};
 ghost use Rattle.files.specs.Identities.{kept_mode};
 
 use crate::identity::Identity;
 use crate::{identity, paths, report};
+use std::fs::{File, OpenOptions, Permissions};
+use std::io::{Error, ErrorKind, Write};
+use std::os::unix::fs::{PermissionsExt, fchown};
+use std::{fs, process};
 
 // The kernel follows no more.
 const MOST_LINKS: usize = 40;
 
-// What leaves the owner as it is.
-const UNCHANGED: u32 = 0xffff_ffff;
+// Where the name is no link, nothing is read. A text that is not UTF-8 cannot be followed.
+fn no_link(error: Error) -> Result<usize, Error>
+    ensures { IfOk result (λ n. n ≡ 0) }
+{
+    match error.raw_os_error() {
+        Some(_) => Ok(0),
+        None => match error.kind() {
+            ErrorKind::InvalidFilename => Err(paths::no_text()),
+            _ => Err(error),
+        },
+    }
+}
 
 // Puts the link's text at the start of the room and answers its length, or 0 where the name is no link.
-fn read_link(name: &[u8], text: &mut [u8]) -> usize
-    ensures { IsPrefixLen result text.new }
+fn read_link(rt: &HostRuntime, name: &[u8], text: &mut [u8]) -> Result<usize, Error>
+    ensures { IfOk result (λ n. IsPrefixLen n text.new) }
 {
-    if !paths::is_taken(name) {
-        return 0;
+    let path = paths::text(name)?;
+    match fs::read_link(rt, path) {
+        Ok(link) => Ok(paths::append(text, 0, link.as_str().as_bytes())),
+        Err(error) => no_link(error),
     }
-    let path = paths::ended(name);
-    let got = libc::readlink(&path, text);
-    io::count(got, text)
 }
 
 // The name at the end of the links, at the start of the room.
-fn follow(name: &[u8], room: &mut [u8], text: &mut [u8]) -> usize
-    ensures { IsPrefixLen result room.new }
+fn follow(rt: &HostRuntime, name: &[u8], room: &mut [u8], text: &mut [u8]) -> Result<usize, Error>
+    ensures { IfOk result (λ n. IsPrefixLen n room.new) }
 {
     let mut n = paths::join(room, 0, name);
     let mut i = 0;
     while i < MOST_LINKS {
-        let m = read_link(&room[..n], text);
+        let m = read_link(rt, &room[..n], text)?;
         if m == 0 {
-            return n;
+            return Ok(n);
         }
         n = paths::join(room, n, &text[..m]);
         i += 1;
     }
-    n
+    Ok(n)
 }
 
-fn may_write(name: &[u8]) -> bool {
-    if !paths::is_taken(name) {
-        return false;
-    }
-    let path = paths::ended(name);
-    libc::access(&path, libc::W_OK) == 0
+// Whether the old file may be written, which it is not: a new one takes its name.
+fn may_write(rt: &HostRuntime, name: &[u8]) -> Result<(), Error> {
+    let path = paths::text(name)?;
+    OpenOptions::new().write(true).open(rt, path)?;
+    Ok(())
 }
 
 // The process's number, in digits.
-fn number(out: &mut [u8; 20]) -> usize
+fn number(rt: &HostRuntime, out: &mut [u8; 20]) -> usize
     ensures { IsPrefixLen result out.new }
 {
-    let pid = libc::getpid();
-    io::decimal(wire::i64_to_bits(pid as i64), out)
+    let pid = process::id(rt.process());
+    io::decimal(pid as u64, out)
 }
 
 // Puts the name of a new file beside this one at the start of the room.
-fn name_beside(name: &[u8], letter: u8, room: &mut [u8]) -> usize
+fn name_beside(rt: &HostRuntime, name: &[u8], letter: u8, room: &mut [u8]) -> usize
     ensures { IsPrefixLen result room.new }
 {
     let mut digits = [0u8; 20];
-    let k = number(&mut digits);
+    let k = number(rt, &mut digits);
     let mut short = [0u8; 64];
     let m = paths::short_name(&mut short, &digits[..k], letter);
     let n = paths::join(room, 0, name);
     paths::join(room, n, &short[..m])
 }
 
-#[derive(Clone, Copy)]
+// A file that is not there yet. The system narrows its mode, by the process's umask.
+fn create_new(rt: &HostRuntime, name: &[u8]) -> Result<File, Error> {
+    let path = paths::text(name)?;
+    OpenOptions::new()
+        .write(true)
+        .create_new(true)
+        .open(rt, path)
+}
+
+#[derive(Drop)]
 struct New {
-    fd: i32,
+    file: File,
     // of its name
     length: usize,
 }
 
+// What the system says of a file that is there.
+const EXISTS: i32 = 17;
+
 // Makes a file beside this one. Each name has another letter, so that a file which a killed command left stands in no way.
-fn create_beside(name: &[u8], room: &mut [u8]) -> New
-    ensures { IsPrefixLen result.length room.new }
+fn create_beside(rt: &HostRuntime, name: &[u8], room: &mut [u8]) -> Result<New, Error>
+    ensures { IfOk result (λ new. IsPrefixLen new.length room.new) }
 {
     let mut letter = b'a';
-    let mut n = 0;
     while letter < b'z' {
-        n = name_beside(name, letter, room);
-        let fd = os::create(&room[..n]);
-        if 0 <= fd || os::errno() != libc::EEXIST {
-            return New { fd: fd, length: n };
+        let length = name_beside(rt, name, letter, room);
+        match create_new(rt, &room[..length]) {
+            Ok(file) => return Ok(New { file, length }),
+            Err(error) => {
+                if error.kind() != ErrorKind::AlreadyExists {
+                    return Err(error);
+                }
+            }
         }
         letter += 1;
     }
-    New { fd: -1, length: n }
+    Err(Error::from_raw_os_error(EXISTS))
 }
 
-// The owner and the group, or the group alone.
-fn give(fd: i32, owner: u32, group: u32) -> bool {
-    if libc::fchown(fd, owner, group) == 0 {
-        return true;
+// The owner and the group, or the group alone. Answers whether it was both.
+fn give(file: &File, owner: u32, group: u32) -> bool {
+    match fchown(file, Some(owner), Some(group)) {
+        Ok(()) => true,
+        Err(_) => {
+            let _ = fchown(file, None, Some(group));
+            false
+        }
     }
-    libc::fchown(fd, UNCHANGED, group);
-    false
 }
 
 // The bits of a mode that a new file takes over. With another owner it takes none by which it would run as its owner.
@@ -115,138 +144,137 @@ fn kept_mode(mode: u32, is_given: bool) -> u32
 }
 
 // Makes a new file what the old one is.
-fn take_after(fd: i32, old: Identity) -> bool {
+fn take_after(file: &File, old: Identity) -> Result<(), Error> {
     if !old.is_known {
-        return true;
+        return Ok(());
     }
-    let is_given = give(fd, old.owner, old.group);
-    libc::fchmod(fd, kept_mode(old.mode, is_given)) == 0
+    let is_given = give(file, old.owner, old.group);
+    file.set_permissions(Permissions::from_mode(kept_mode(old.mode, is_given)))
 }
 
-fn fill(fd: i32, bytes: &[u8]) -> bool {
-    if !io::write_all(fd, bytes) {
-        return false;
+// All of the bytes, as far as the disk.
+fn fill(file: &mut File, bytes: &[u8]) -> Result<(), Error> {
+    file.write_all(bytes)?;
+    file.sync_all()
+}
+
+// Closes it whatever comes. What closing would say is lost: the bytes are on the disk.
+fn fill_new(mut file: File, old: Identity, bytes: &[u8]) -> Result<(), Error> {
+    take_after(&file, old)?;
+    fill(&mut file, bytes)
+}
+
+fn rename(rt: &HostRuntime, from: &[u8], to: &[u8]) -> Result<(), Error> {
+    let from = paths::text(from)?;
+    let to = paths::text(to)?;
+    fs::rename(rt, from, to)
+}
+
+fn remove(rt: &HostRuntime, name: &[u8]) -> Result<(), Error> {
+    let path = paths::text(name)?;
+    fs::remove_file(rt, path)
+}
+
+// The new file is removed where it was not written whole, or cannot take the name.
+fn rename_after(
+    rt: &HostRuntime,
+    new: &[u8],
+    name: &[u8],
+    is_written: Result<(), Error>,
+) -> Result<(), Error> {
+    let is_renamed = match is_written {
+        Ok(()) => rename(rt, new, name),
+        Err(error) => Err(error),
+    };
+    if is_renamed.is_err() {
+        let _ = remove(rt, new);
     }
-    libc::fsync(fd) == 0
-}
-
-fn fill_new(fd: i32, old: Identity, bytes: &[u8]) -> bool {
-    if !take_after(fd, old) {
-        return false;
-    }
-    fill(fd, bytes)
-}
-
-// Closes it whatever came before, and answers whether all went well. The reason is that of the call that failed last.
-fn close_after(fd: i32, is_written: bool) -> bool {
-    let is_closed = libc::close(fd) == 0;
-    is_written && is_closed
-}
-
-fn rename_after(new: &[u8], name: &[u8], is_written: bool) -> bool {
-    if is_written {
-        if os::rename(new, name) == 0 {
-            return true;
-        }
-    }
-    os::unlink(new);
-    false
-}
-
-fn replace_by(fd: i32, new: &[u8], name: &[u8], old: Identity, bytes: &[u8]) -> bool {
-    let is_filled = fill_new(fd, old, bytes);
-    let is_written = close_after(fd, is_filled);
-    rename_after(new, name, is_written)
+    is_renamed
 }
 
 // Replaces the file of a name that is no link.
-fn replace(name: &[u8], old: Identity, bytes: &[u8]) -> bool {
+fn replace(rt: &HostRuntime, name: &[u8], old: Identity, bytes: &[u8]) -> Result<(), Error> {
     if old.is_known {
-        if !may_write(name) {
-            return false;
-        }
+        may_write(rt, name)?;
     }
     let mut room = io::buffer();
-    let new = create_beside(name, &mut room);
-    let fd = new.fd;
+    let new = create_beside(rt, name, &mut room)?;
     let n = new.length;
-    if fd < 0 {
-        return false;
-    }
-    replace_by(fd, &room[..n], name, old, bytes)
+    let is_written = fill_new(new.file, old, bytes);
+    rename_after(rt, &room[..n], name, is_written)
 }
 
-fn replace_followed(name: &[u8], old: Identity, bytes: &[u8]) -> bool {
+fn replace_followed(
+    rt: &HostRuntime,
+    name: &[u8],
+    old: Identity,
+    bytes: &[u8],
+) -> Result<(), Error> {
     let mut room = io::buffer();
     let mut text = io::buffer();
-    let n = follow(name, &mut room, &mut text);
-    replace(&room[..n], old, bytes)
+    let n = follow(rt, name, &mut room, &mut text)?;
+    replace(rt, &room[..n], old, bytes)
 }
 
 // Writes to what is no regular file, as a pipe or a device.
-fn write_straight(name: &[u8], bytes: &[u8]) -> bool {
-    let fd = os::open_overwrite(name);
-    if fd < 0 {
-        return false;
-    }
-    let is_written = io::write_all(fd, bytes);
-    close_after(fd, is_written)
+fn write_straight(rt: &HostRuntime, name: &[u8], bytes: &[u8]) -> Result<(), Error> {
+    let path = paths::text(name)?;
+    let mut file = File::create(rt, path)?;
+    file.write_all(bytes)
 }
 
-fn save_over(name: &[u8], old: Identity, bytes: &[u8]) -> bool {
-    if old.is_known {
-        if !identity::is_regular(old) {
-            return write_straight(name, bytes);
+fn save_over(rt: &HostRuntime, name: &[u8], bytes: &[u8]) -> Result<(), Error> {
+    match identity::of_name(rt, name) {
+        Ok(old) => {
+            if !identity::is_regular(old) {
+                return write_straight(rt, name, bytes);
+            }
+            replace_followed(rt, name, old, bytes)
         }
-        return replace_followed(name, old, bytes);
+        Err(error) => {
+            if error.kind() != ErrorKind::NotFound {
+                return Err(error);
+            }
+            replace_followed(rt, name, identity::unknown(), bytes)
+        }
     }
-    if os::errno() != libc::ENOENT {
-        return false;
+}
+
+// Where it failed, standard error says why.
+fn is_done(rt: &HostRuntime, name: &[u8], done: Result<(), Error>) -> bool {
+    match done {
+        Ok(()) => true,
+        Err(error) => {
+            report::fail(rt, name, error);
+            false
+        }
     }
-    replace_followed(name, old, bytes)
 }
 
 // Answers whether it was saved. Where it was not, standard error says why.
-pub fn save(name: &[u8], bytes: &[u8]) -> bool {
-    let old = identity::of_name(name);
-    let is_saved = save_over(name, old, bytes);
-    if !is_saved {
-        report::fail(name);
-    }
-    is_saved
+pub fn save(rt: &HostRuntime, name: &[u8], bytes: &[u8]) -> bool {
+    is_done(rt, name, save_over(rt, name, bytes))
 }
 
-fn fill_created(fd: i32, name: &[u8], bytes: &[u8]) -> bool {
-    let is_filled = fill(fd, bytes);
-    if close_after(fd, is_filled) {
-        return true;
+fn fill_created(rt: &HostRuntime, mut file: File, name: &[u8], bytes: &[u8]) -> Result<(), Error> {
+    let is_filled = fill(&mut file, bytes);
+    if is_filled.is_err() {
+        let _ = remove(rt, name);
     }
-    os::unlink(name);
-    false
+    is_filled
 }
 
-fn create(name: &[u8], bytes: &[u8]) -> bool {
-    let fd = os::create(name);
-    if fd < 0 {
-        return false;
-    }
-    fill_created(fd, name, bytes)
+fn create(rt: &HostRuntime, name: &[u8], bytes: &[u8]) -> Result<(), Error> {
+    let file = create_new(rt, name)?;
+    fill_created(rt, file, name, bytes)
 }
 
 // The same, of a file that is not there yet. It is removed again where it cannot be written whole.
-pub fn save_new(name: &[u8], bytes: &[u8]) -> bool {
-    let is_saved = create(name, bytes);
-    if !is_saved {
-        report::fail(name);
-    }
-    is_saved
+pub fn save_new(rt: &HostRuntime, name: &[u8], bytes: &[u8]) -> bool {
+    is_done(rt, name, create(rt, name, bytes))
 }
 
-// Writes to a descriptor that is open. Where it cannot be written to, it is called standard output.
-pub fn write_output(fd: i32, bytes: &[u8]) -> bool {
-    let is_written = io::write_all(fd, bytes);
-    if !is_written {
-        report::fail(b"standard output");
-    }
-    is_written
+// Writes to standard output, and calls it so where it cannot be written to.
+pub fn write_output(rt: &HostRuntime, bytes: &[u8]) -> bool {
+    is_done(rt, b"standard output", rt.stdout().write_all(bytes))
 }

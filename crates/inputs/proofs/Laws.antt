@@ -1,7 +1,7 @@
 -- Laws of words, of numbers as text, and of how many arguments a command takes.
 use Prim.Native.Nat.{ℕ, ◌+◌, ◌-◌, ◌*◌, ◌<◌, ◌≤◌}
 use mathlib.Core.Path.{◌≡◌, refl, ap}
-use mathlib.Core.Bool.{Bool, true, false, cond, ◌&&◌, and-false, ◌||◌, or-true}
+use mathlib.Core.Bool.{Bool, true, false, cond, ◌&&◌, and-false, or-true}
 use mathlib.Core.List.{List, [], ◌∷◌}
 use native.Mathlib.Omega.{arith}
 use lib.ListN.{length, get_or, drop}
@@ -70,15 +70,15 @@ module _ (n i : ℕ) (s : List ℕ) where
 
 -- COMMANDS
 
-module _ (w : Word) (last : ℕ) (second fourth fifth : Count) (ignored : Ignored) (id : Count) where
-  pub too_few : last < least_of w → command_of w last second fourth fifth ignored id ≡ Wrong
+module _ (w : Word) (last : ℕ) (second fourth fifth : Count) (ignored : Ignored) where
+  pub too_few : last < least_of w → command_of w last second fourth fifth ignored ≡ Wrong
   unfolding command_of
   too_few h = rw (lt-ltb last (least_of w) h)
 
-  pub too_many : most_of w < last → command_of w last second fourth fifth ignored id ≡ Wrong
+  pub too_many : most_of w < last → command_of w last second fourth fifth ignored ≡ Wrong
   unfolding command_of
   too_many h = rw (lt-ltb (most_of w) last h, or-true)
 
-  pub as_many : least_of w ≤ last → last ≤ most_of w → command_of w last second fourth fifth ignored id ≡ asked_of w last second fourth fifth ignored id
+  pub as_many : least_of w ≤ last → last ≤ most_of w → command_of w last second fourth fifth ignored ≡ asked_of w last second fourth fifth ignored
   unfolding command_of
   as_many h k = rw (le-ltb last (least_of w) h, le-ltb (most_of w) last k)

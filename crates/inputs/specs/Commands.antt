@@ -1,7 +1,7 @@
 -- What the words and numbers of the arguments ask for.
 use Rattle.std.specs.Prelude.{Bool, true, false, cond, ◌&&◌, ◌||◌, List, ◌++◌, ℕ, ◌+◌, leb, ltb, eqb}
 use Rattle.wire.specs.Bytes.{same}
-use Rattle.inputs.specs.Words.{HYPHENS, SETTINGS, CUSTOMER, TYPE}
+use Rattle.inputs.specs.Words.{HYPHENS, SETTINGS, CUSTOMER}
 use Rattle.inputs.specs.Numbers.{short_of}
 use Rattle.inputs.specs.declared.numbers.Count.{Count}
 use Rattle.inputs.specs.declared.numbers.Count.TheVariants.{Is, Wrong as NoCount}
@@ -17,7 +17,7 @@ use Rattle.inputs.specs.declared.store_command.Ignored.{Ignored}
 use Rattle.inputs.specs.declared.store_command.Ignored.TheVariants.{Are, Wrong as NoFaults}
 use Rattle.inputs.specs.declared.command.StoreQuestion.TheVariants.{List as Listing, Get, Add}
 use Rattle.inputs.specs.declared.command.Command.{Command}
-use Rattle.inputs.specs.declared.command.Command.TheVariants.{Help, Version, Faults, Fault, CheckTable, Check, Tape, ListTable, Message, Ledger, Store, NewStore, Wrong}
+use Rattle.inputs.specs.declared.command.Command.TheVariants.{Help, Version, Faults, Fault, CheckTable, Check, Tape, ListTable, Message, Store, NewStore, Wrong}
 
 -- HOW MANY
 -- The number of the last plain argument that a command must have, and of the last that it may have. The command's word is plain argument 1.
@@ -35,7 +35,6 @@ least_of word.Table = 2
 least_of word.Sheet = 4
 least_of word.Write = 4
 least_of word.Rewrite = 4
-least_of word.Ledger = 4
 least_of word.Settings = 2
 least_of word.Get = 5
 least_of word.Add = 5
@@ -55,7 +54,6 @@ most_of word.Table = 2
 most_of word.Sheet = 4
 most_of word.Write = 4
 most_of word.Rewrite = 4
-most_of word.Ledger = 4
 most_of word.Settings = 2
 most_of word.Get = 5
 most_of word.Add = 8
@@ -83,11 +81,6 @@ reading_of NoCount item = Wrong
 -- The first item, where none is named.
 unfoldable pub read_of : ℕ → Count → Count → Command
 read_of last field item = reading_of field (cond (ltb last 5) (Is 0) item)
-
--- The type id is an option's value.
-abbrev pub ledger_of : Count → Command
-ledger_of (Is id) = Ledger id
-ledger_of NoCount = Wrong
 
 -- ON A SETTINGS STORE
 
@@ -121,37 +114,36 @@ making_of (Is records) = making records
 making_of NoCount = Wrong
 
 -- ALL OF THEM
--- By the word, the number of the last plain argument, plain arguments 2, 4 and 5 as numbers, and the type id.
+-- By the word, the number of the last plain argument, and plain arguments 2, 4 and 5 as numbers.
 
-abbrev pub asked_of : Word → ℕ → Count → Count → Count → Ignored → Count → Command
-asked_of word.Help last second fourth fifth ignored id = Help
-asked_of word.Version last second fourth fifth ignored id = Version
-asked_of word.Faults last second fourth fifth ignored id = faults_of last second
-asked_of word.Check last second fourth fifth ignored id = check_of last
-asked_of word.Read last second fourth fifth ignored id = read_of last fourth fifth
-asked_of word.Show last second fourth fifth ignored id = Message Show
-asked_of word.Dump last second fourth fifth ignored id = Message Dump
-asked_of word.Tape last second fourth fifth ignored id = Tape
-asked_of word.Table last second fourth fifth ignored id = ListTable
-asked_of word.Sheet last second fourth fifth ignored id = Message Sheet
-asked_of word.Write last second fourth fifth ignored id = Message Write
-asked_of word.Rewrite last second fourth fifth ignored id = Message Rewrite
-asked_of word.Ledger last second fourth fifth ignored id = ledger_of id
-asked_of word.Settings last second fourth fifth ignored id = Store Listing
-asked_of word.Get last second fourth fifth ignored id = get_of fourth fifth
-asked_of word.Add last second fourth fifth ignored id = add_of fourth fifth ignored
-asked_of word.New last second fourth fifth ignored id = making_of fourth
-asked_of word.Other last second fourth fifth ignored id = Wrong
+abbrev pub asked_of : Word → ℕ → Count → Count → Count → Ignored → Command
+asked_of word.Help last second fourth fifth ignored = Help
+asked_of word.Version last second fourth fifth ignored = Version
+asked_of word.Faults last second fourth fifth ignored = faults_of last second
+asked_of word.Check last second fourth fifth ignored = check_of last
+asked_of word.Read last second fourth fifth ignored = read_of last fourth fifth
+asked_of word.Show last second fourth fifth ignored = Message Show
+asked_of word.Dump last second fourth fifth ignored = Message Dump
+asked_of word.Tape last second fourth fifth ignored = Tape
+asked_of word.Table last second fourth fifth ignored = ListTable
+asked_of word.Sheet last second fourth fifth ignored = Message Sheet
+asked_of word.Write last second fourth fifth ignored = Message Write
+asked_of word.Rewrite last second fourth fifth ignored = Message Rewrite
+asked_of word.Settings last second fourth fifth ignored = Store Listing
+asked_of word.Get last second fourth fifth ignored = get_of fourth fifth
+asked_of word.Add last second fourth fifth ignored = add_of fourth fifth ignored
+asked_of word.New last second fourth fifth ignored = making_of fourth
+asked_of word.Other last second fourth fifth ignored = Wrong
 
 -- Too few or too many ask for nothing.
-unfoldable pub command_of : Word → ℕ → Count → Count → Count → Ignored → Count → Command
-command_of w last second fourth fifth ignored id =
-    cond (ltb last (least_of w) || ltb (most_of w) last) Wrong (asked_of w last second fourth fifth ignored id)
+unfoldable pub command_of : Word → ℕ → Count → Count → Count → Ignored → Command
+command_of w last second fourth fifth ignored =
+    cond (ltb last (least_of w) || ltb (most_of w) last) Wrong (asked_of w last second fourth fifth ignored)
 
 -- OPTIONS
 
 abbrev pub is_known : List ℕ → Bool
-is_known option = (same option (HYPHENS ++ SETTINGS) || same option (HYPHENS ++ CUSTOMER)) || same option (HYPHENS ++ TYPE)
+is_known option = same option (HYPHENS ++ SETTINGS) || same option (HYPHENS ++ CUSTOMER)
 
 abbrev pub options_of : Short → Options
 options_of (IsShort customer) = Given customer
@@ -176,25 +168,9 @@ takes_settings Check = true
 takes_settings Tape = true
 takes_settings ListTable = false
 takes_settings (Message question) = takes_question question
-takes_settings (Ledger id) = true
 takes_settings (Store question) = false
 takes_settings (NewStore records) = false
 takes_settings Wrong = false
-
-abbrev pub takes_type : Command → Bool
-takes_type Help = false
-takes_type Version = false
-takes_type Faults = false
-takes_type (Fault number) = false
-takes_type CheckTable = false
-takes_type Check = false
-takes_type Tape = false
-takes_type ListTable = false
-takes_type (Message question) = false
-takes_type (Ledger id) = true
-takes_type (Store question) = false
-takes_type (NewStore records) = false
-takes_type Wrong = false
 
 abbrev pub agree : Command → Options → Bool
 agree command Missing = true

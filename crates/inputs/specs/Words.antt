@@ -2,7 +2,7 @@
 use Rattle.std.specs.Prelude.{Bool, cond, ◌||◌, List, [], ◌∷◌, ◌++◌, ℕ}
 use Rattle.wire.specs.Bytes.{part, same}
 use Rattle.inputs.specs.declared.words.Word.{Word}
-use Rattle.inputs.specs.declared.words.Word.TheVariants.{Help, Version, Faults, Check, Read, Show, Dump, Tape, Table, Sheet, Write, Rewrite, Ledger, Settings, Get, Add, New, Other}
+use Rattle.inputs.specs.declared.words.Word.TheVariants.{Help, Version, Faults, Check, Read, Show, Dump, Tape, Table, Sheet, Write, Rewrite, Settings, Get, Add, New, Other}
 
 abbrev pub HELP : List ℕ
 HELP = 104 ∷ (101 ∷ (108 ∷ (112 ∷ [])))
@@ -40,9 +40,6 @@ WRITE = 119 ∷ (114 ∷ (105 ∷ (116 ∷ (101 ∷ []))))
 abbrev pub REWRITE : List ℕ
 REWRITE = 114 ∷ (101 ∷ WRITE)
 
-abbrev pub LEDGER : List ℕ
-LEDGER = 108 ∷ (101 ∷ (100 ∷ (103 ∷ (101 ∷ (114 ∷ [])))))
-
 abbrev pub SETTINGS : List ℕ
 SETTINGS = 115 ∷ (101 ∷ (116 ∷ (116 ∷ (105 ∷ (110 ∷ (103 ∷ (115 ∷ [])))))))
 
@@ -65,9 +62,6 @@ H = 45 ∷ (104 ∷ [])
 
 abbrev pub CUSTOMER : List ℕ
 CUSTOMER = 99 ∷ (117 ∷ (115 ∷ (116 ∷ (111 ∷ (109 ∷ (101 ∷ (114 ∷ [])))))))
-
-abbrev pub TYPE : List ℕ
-TYPE = 116 ∷ (121 ∷ (112 ∷ (101 ∷ [])))
 
 abbrev pub is_option : List ℕ → Bool
 is_option s = same (part 2 0 s) HYPHENS
@@ -95,8 +89,7 @@ file_word w =
     cond (same w SHEET) Sheet
     (cond (same w WRITE) Write
     (cond (same w REWRITE) Rewrite
-    (cond (same w LEDGER) Ledger
-    (plain_word w))))
+    (plain_word w)))
 
 unfoldable pub word_of : List ℕ → Word
 word_of w =

@@ -1,12 +1,12 @@
 // What the arguments ask for: `named` decides by the command's word and the plain arguments. Where it is nothing, `explain` says why.
 ghost use Rattle.std.specs.Prelude.{◌≡◌, ◌≤◌};
 ghost use Rattle.inputs.specs.declared.command.Command.TheVariants.{Message};
-ghost use Rattle.inputs.specs.Commands.{least_of, most_of, faults_of, fault_of, check_of, read_of, reading_of, ledger_of, asked_of, command_of};
+ghost use Rattle.inputs.specs.Commands.{least_of, most_of, faults_of, fault_of, check_of, read_of, reading_of, asked_of, command_of};
 
 use crate::numbers::Count;
 use crate::store_command::Ignored;
 use crate::words::Word;
-use crate::{arguments, complaints, numbers, options, store_command, words};
+use crate::{arguments, complaints, numbers, store_command, words};
 
 #[derive(Clone, Copy)]
 pub enum Command {
@@ -22,8 +22,6 @@ pub enum Command {
     Tape,
     ListTable,
     Message { question: Question },
-    // The lines of a tape's messages of this type.
-    Ledger { id: u64 },
     Store { question: StoreQuestion },
     NewStore { records: usize },
     // Standard error has said why.
@@ -94,7 +92,6 @@ fn least(word: Word) -> usize
         Word::Sheet => OUT,
         Word::Write => OUT,
         Word::Rewrite => OUT,
-        Word::Ledger => OUT,
         Word::Settings => store_command::LISTED,
         Word::Get => store_command::VERSION,
         Word::Add => store_command::VERSION,
@@ -120,7 +117,6 @@ fn most(word: Word) -> usize
         Word::Sheet => OUT,
         Word::Write => OUT,
         Word::Rewrite => OUT,
-        Word::Ledger => OUT,
         Word::Settings => store_command::LISTED,
         Word::Get => store_command::VERSION,
         Word::Add => store_command::LAST_FAULT,
@@ -189,16 +185,7 @@ fn read_item(field: Count, item: Count) -> Command
     }
 }
 
-fn ledger(id: Count) -> Command
-    ensures { result ≡ ledger_of id }
-{
-    match id {
-        Count::Is(id) => Command::Ledger { id: id as u64 },
-        Count::Wrong => Command::Wrong,
-    }
-}
-
-// By the word, where the plain arguments are as many as it takes. The numbers are what plain arguments 2, 4 and 5 are, and the type id.
+// By the word, where the plain arguments are as many as it takes. The numbers are what plain arguments 2, 4 and 5 are.
 fn asked(
     word: Word,
     last: usize,
@@ -206,9 +193,8 @@ fn asked(
     fourth: Count,
     fifth: Count,
     ignored: Ignored,
-    id: Count,
 ) -> Command
-    ensures { result ≡ asked_of word last second fourth fifth ignored id }
+    ensures { result ≡ asked_of word last second fourth fifth ignored }
 {
     match word {
         Word::Help => Command::Help,
@@ -223,7 +209,6 @@ fn asked(
         Word::Sheet => about(Question::Sheet),
         Word::Write => about(Question::Write),
         Word::Rewrite => about(Question::Rewrite),
-        Word::Ledger => ledger(id),
         Word::Settings => store_command::list(),
         Word::Get => store_command::get(fourth, fifth),
         Word::Add => store_command::add(fourth, fifth, ignored),
@@ -240,9 +225,8 @@ fn named(
     fourth: Count,
     fifth: Count,
     ignored: Ignored,
-    id: Count,
 ) -> Command
-    ensures { result ≡ command_of word last second fourth fifth ignored id }
+    ensures { result ≡ command_of word last second fourth fifth ignored }
 {
     if last < least(word) {
         return Command::Wrong;
@@ -250,172 +234,170 @@ fn named(
     if most(word) < last {
         return Command::Wrong;
     }
-    asked(word, last, second, fourth, fifth, ignored, id)
+    asked(word, last, second, fourth, fifth, ignored)
 }
 
 // FROM THE ARGUMENTS
 
 // The command that argument `i` names.
-pub fn word_at(i: usize) -> Word {
+pub fn word_at(rt: &HostRuntime, i: usize) -> Word {
     let mut word = [0u8; 16];
-    let n = os::arg(i, &mut word);
+    let n = arguments::read_whole(rt, i, &mut word);
     words::word_of(&word[..n])
 }
 
 // `settings` may have a word of its own behind it.
-fn read_word() -> Word {
-    let word = word_at(arguments::plain(WORD));
+fn read_word(rt: &HostRuntime) -> Word {
+    let word = word_at(rt, arguments::plain(rt, WORD));
     match word {
-        Word::Settings => read_store_word(),
+        Word::Settings => read_store_word(rt),
         _ => word,
     }
 }
 
-fn read_store_word() -> Word {
+fn read_store_word(rt: &HostRuntime) -> Word {
     let mut word = [0u8; 16];
-    let n = os::arg(arguments::plain(store_command::LISTED), &mut word);
+    let i = arguments::plain(rt, store_command::LISTED);
+    let n = arguments::read_whole(rt, i, &mut word);
     words::store_word(&word[..n])
 }
 
-fn decimal(number: usize) -> Count {
-    numbers::decimal(arguments::plain(number))
+fn decimal(rt: &HostRuntime, number: usize) -> Count {
+    numbers::decimal(rt, arguments::plain(rt, number))
 }
 
 // WHY THERE IS NO COMMAND
 
 // The first argument too many.
-fn extra(command: &[u8], number: usize) {
+fn extra(rt: &HostRuntime, command: &[u8], number: usize) {
     let mut argument = io::buffer();
-    let n = arguments::read(arguments::plain(number), &mut argument);
+    let n = arguments::read(rt, arguments::plain(rt, number), &mut argument);
     complaints::complain_extra(command, &argument[..n]);
 }
 
-fn extra_of_word(number: usize) {
+fn extra_of_word(rt: &HostRuntime, number: usize) {
     let mut command = io::buffer();
-    let n = arguments::read(arguments::plain(WORD), &mut command);
-    extra(&command[..n], number);
+    let n = arguments::read(rt, arguments::plain(rt, WORD), &mut command);
+    extra(rt, &command[..n], number);
 }
 
-fn explain_extra(word: Word, number: usize) {
+fn explain_extra(rt: &HostRuntime, word: Word, number: usize) {
     match word {
-        Word::Get => extra(b"settings get", number),
-        Word::Add => extra(b"settings add", number),
-        Word::New => extra(b"settings new", number),
-        _ => extra_of_word(number),
+        Word::Get => extra(rt, b"settings get", number),
+        Word::Add => extra(rt, b"settings add", number),
+        Word::New => extra(rt, b"settings new", number),
+        _ => extra_of_word(rt, number),
     }
 }
 
-fn missing_of_word(name: &[u8]) {
+fn missing_of_word(rt: &HostRuntime, name: &[u8]) {
     let mut command = io::buffer();
-    let n = arguments::read(arguments::plain(WORD), &mut command);
+    let n = arguments::read(rt, arguments::plain(rt, WORD), &mut command);
     complaints::complain_missing(&command[..n], name);
 }
 
 // The first argument that is missing, by its name in the help.
-fn missing(word: Word, name: &[u8]) {
+fn missing(rt: &HostRuntime, word: Word, name: &[u8]) {
     match word {
         Word::Get => complaints::complain_missing(b"settings get", name),
         Word::Add => complaints::complain_missing(b"settings add", name),
         Word::New => complaints::complain_missing(b"settings new", name),
-        _ => missing_of_word(name),
+        _ => missing_of_word(rt, name),
     }
 }
 
-fn explain_second(word: Word) {
+fn explain_second(rt: &HostRuntime, word: Word) {
     match word {
-        Word::Settings => missing(word, b"STORE"),
-        _ => missing(word, b"TABLE"),
+        Word::Settings => missing(rt, word, b"STORE"),
+        _ => missing(rt, word, b"TABLE"),
     }
 }
 
-fn explain_third(word: Word) {
+fn explain_third(rt: &HostRuntime, word: Word) {
     match word {
-        Word::Tape | Word::Ledger => missing(word, b"TAPE"),
-        Word::Write => missing(word, b"SHEET"),
-        Word::Get | Word::Add | Word::New => missing(word, b"STORE"),
-        _ => missing(word, b"MESSAGE"),
+        Word::Tape => missing(rt, word, b"TAPE"),
+        Word::Write => missing(rt, word, b"SHEET"),
+        Word::Get | Word::Add | Word::New => missing(rt, word, b"STORE"),
+        _ => missing(rt, word, b"MESSAGE"),
     }
 }
 
-fn explain_fourth(word: Word) {
+fn explain_fourth(rt: &HostRuntime, word: Word) {
     match word {
-        Word::Read => missing(word, b"FIELD"),
-        Word::Get | Word::Add => missing(word, b"CUSTOMER"),
-        Word::New => missing(word, b"RECORDS"),
-        _ => missing(word, b"OUT"),
+        Word::Read => missing(rt, word, b"FIELD"),
+        Word::Get | Word::Add => missing(rt, word, b"CUSTOMER"),
+        Word::New => missing(rt, word, b"RECORDS"),
+        _ => missing(rt, word, b"OUT"),
     }
 }
 
-fn explain_missing(word: Word, number: usize) {
+fn explain_missing(rt: &HostRuntime, word: Word, number: usize) {
     match number {
         1 => complaints::complain_none(b"COMMAND"),
-        2 => explain_second(word),
-        3 => explain_third(word),
-        4 => explain_fourth(word),
-        _ => missing(word, b"VERSION"),
+        2 => explain_second(rt, word),
+        3 => explain_third(rt, word),
+        4 => explain_fourth(rt, word),
+        _ => missing(rt, word, b"VERSION"),
     }
 }
 
-fn explain_read() {
-    if numbers::is_number(arguments::plain(FIELD), b"FIELD") {
-        numbers::is_number(arguments::plain(ITEM), b"ITEM");
+fn explain_read(rt: &HostRuntime) {
+    if numbers::is_number(rt, arguments::plain(rt, FIELD), b"FIELD") {
+        numbers::is_number(rt, arguments::plain(rt, ITEM), b"ITEM");
     }
 }
 
-fn explain_type() {
-    let i = options::type_id();
-    if i == 0 {
-        complaints::complain_missing(b"ledger", b"--type N");
-        return;
-    }
-    numbers::is_number(i, b"--type");
-}
-
-fn explain_word() {
+fn explain_word(rt: &HostRuntime) {
     let mut word = io::buffer();
-    let n = arguments::read(arguments::plain(WORD), &mut word);
+    let n = arguments::read(rt, arguments::plain(rt, WORD), &mut word);
     complaints::complain(&word[..n], b"no such command");
 }
 
 // They are as many as the command takes, and one of them is wrong.
-fn explain_value(word: Word) {
+fn explain_value(rt: &HostRuntime, word: Word) {
     match word {
         Word::Faults => numbers::complain(
-            arguments::plain(NUMBER),
+            rt,
+            arguments::plain(rt, NUMBER),
             b"NUMBER",
             b"is not a number from 0 to 255",
         ),
-        Word::Read => explain_read(),
-        Word::Ledger => explain_type(),
-        Word::Get => store_command::explain_get(),
-        Word::Add => store_command::explain_add(),
-        Word::New => store_command::explain_new(),
-        _ => explain_word(),
+        Word::Read => explain_read(rt),
+        Word::Get => store_command::explain_get(rt),
+        Word::Add => store_command::explain_add(rt),
+        Word::New => store_command::explain_new(rt),
+        _ => explain_word(rt),
     }
 }
 
-fn explain(word: Word, last: usize) {
+fn explain(rt: &HostRuntime, word: Word, last: usize) {
     let least = least(word);
     if last < least {
-        explain_missing(word, last + 1);
+        explain_missing(rt, word, last + 1);
         return;
     }
     let most = most(word);
     if most < last {
-        explain_extra(word, most + 1);
+        explain_extra(rt, word, most + 1);
         return;
     }
-    explain_value(word);
+    explain_value(rt, word);
 }
 
-pub fn read() -> Command {
-    let word = read_word();
-    let last = arguments::count_plain();
-    let ignored = store_command::read_ignored(last);
-    let id = options::read_type();
-    let command = named(word, last, decimal(2), decimal(4), decimal(5), ignored, id);
+pub fn read(rt: &HostRuntime) -> Command {
+    let word = read_word(rt);
+    let last = arguments::count_plain(rt);
+    let ignored = store_command::read_ignored(rt, last);
+    let command = named(
+        word,
+        last,
+        decimal(rt, 2),
+        decimal(rt, 4),
+        decimal(rt, 5),
+        ignored,
+    );
     match command {
-        Command::Wrong => explain(word, last),
+        Command::Wrong => explain(rt, word, last),
         _ => {}
     }
     command

@@ -1,7 +1,8 @@
 // What standard error says. A line goes out by one write, so that lines of commands that run side by side do not mix.
 ghost use Rattle.std.specs.Prelude.{◌≤◌};
 
-use libc::STDERR_FILENO;
+// Standard error.
+const ERRORS: i32 = 2;
 
 // Room for an argument and what is said of it. What does not fit is left out.
 const LINE: usize = 4608;
@@ -39,7 +40,7 @@ fn write_start(line: &[u8], end: usize) {
     if line.len() < end {
         return;
     }
-    io::write_all(STDERR_FILENO, &line[0..end]);
+    io::write_all(ERRORS, &line[0..end]);
 }
 
 fn write(line: &[u8; LINE], end: usize) {

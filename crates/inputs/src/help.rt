@@ -1,8 +1,8 @@
 // What the command is for, and which it is. The bytes only: whoever prints them knows where to.
 ghost use Rattle.std.specs.Prelude.{◌≡◌, length};
 
-pub fn text() -> [u8; 2208]
-    ensures { 2208 ≡ length result }
+pub fn text() -> [u8; 1954]
+    ensures { 1954 ≡ length result }
 {
     *b"blink check TABLE [MESSAGE..]          whether a table or messages are accepted
 blink read TABLE MESSAGE FIELD [ITEM]  a field's value; both count from 0
@@ -13,8 +13,6 @@ blink table TABLE                      the table as text
 blink sheet TABLE MESSAGE OUT          writes the message's sheet
 blink write TABLE SHEET OUT            writes the message that a sheet describes
 blink rewrite TABLE MESSAGE OUT        writes the message in its one form
-blink ledger TABLE TAPE OUT --type N   appends the lines of a tape's messages of
-                                       type id N to a ledger
 blink faults [NUMBER]                  what the faults' numbers mean
 blink help                             this text; also --help and -h
 blink version                          also --version
@@ -26,8 +24,8 @@ blink settings add STORE CUSTOMER VERSION [FAULT..]
                                        adds one that ignores these of 4, 6 and 8
 blink settings new STORE RECORDS       makes a store with room for so many
 
-Options, anywhere, for check with messages, read, show, dump, tape, sheet,
-rewrite and ledger:
+Options, anywhere, for check with messages, read, show, dump, tape, sheet and
+rewrite:
 --settings STORE --customer N          ignores what customer N's settings say
 
 A file named - is standard input, once at most. As OUT it is standard output,
@@ -36,9 +34,8 @@ and the answer is on standard error. OUT is written whole or left as it was.
 The first line of an answer is for programs: accepted, refused NUMBER at PLACE,
 done LENGTH, a field's type and value, ignores FAULTS, or error. With several
 messages each has a line, NAME: accepted and so on; on a tape PLACE: accepted,
-LENGTH bytes and so on. A ledger has done LENGTH, then a line for each message
-that is refused, PLACE: refused NUMBER at PLACE. Standard error says what an
-error is. Exit status: 0 accepted, done or answered, 1 refused, 2 error.
+LENGTH bytes and so on. Standard error says what an error is. Exit status: 0
+accepted, done or answered, 1 refused, 2 error.
 
 More is in the manual: man blink.
 "
@@ -47,5 +44,5 @@ More is in the manual: man blink.
 pub fn version() -> [u8; 12]
     ensures { 12 ≡ length result }
 {
-    *b"blink 0.4.0\n"
+    *b"blink 0.3.0\n"
 }

@@ -24,12 +24,9 @@ const MOST: usize = 0xffff_ffff_ffff_ffff;
 const MOST_TENS: usize = 1844674407370955161;
 
 // Argument `i` as a decimal number.
-pub fn decimal(i: usize) -> Count {
+pub fn decimal(rt: &HostRuntime, i: usize) -> Count {
     let mut digits = io::buffer();
-    let n = os::arg(i, &mut digits);
-    if os::errno() != 0 {
-        return Count::Wrong;
-    }
+    let n = arguments::read_whole(rt, i, &mut digits);
     decimal_of(&digits[..n])
 }
 
@@ -79,35 +76,40 @@ pub fn short_of(n: Count) -> Short
 // WHERE AN ARGUMENT IS NO SUCH NUMBER
 // Standard error says so, by the argument's name in the help and the reason.
 
-pub fn complain(i: usize, name: &[u8], reason: &[u8]) {
+pub fn complain(rt: &HostRuntime, i: usize, name: &[u8], reason: &[u8]) {
     let mut argument = io::buffer();
-    let n = arguments::read(i, &mut argument);
+    let n = arguments::read(rt, i, &mut argument);
     complaints::complain_value(name, &argument[..n], reason);
 }
 
-pub fn complain_short(i: usize, name: &[u8]) {
-    complain(i, name, b"is not a number from 0 to 65535");
+pub fn complain_short(rt: &HostRuntime, i: usize, name: &[u8]) {
+    complain(rt, i, name, b"is not a number from 0 to 65535");
 }
 
 // Whether the argument is a number.
-pub fn is_number(i: usize, name: &[u8]) -> bool {
-    let n = decimal(i);
+pub fn is_number(rt: &HostRuntime, i: usize, name: &[u8]) -> bool {
+    let n = decimal(rt, i);
     match n {
         Count::Is(_) => true,
         Count::Wrong => {
-            complain(i, name, b"is not a number from 0 to 18446744073709551615");
+            complain(
+                rt,
+                i,
+                name,
+                b"is not a number from 0 to 18446744073709551615",
+            );
             false
         }
     }
 }
 
 // Whether it is one of at most 65535.
-pub fn is_short(i: usize, name: &[u8]) -> bool {
-    let n = short_of(decimal(i));
+pub fn is_short(rt: &HostRuntime, i: usize, name: &[u8]) -> bool {
+    let n = short_of(decimal(rt, i));
     match n {
         Short::Is(_) => true,
         Short::Wrong => {
-            complain_short(i, name);
+            complain_short(rt, i, name);
             false
         }
     }

@@ -1,9 +1,8 @@
-// The options of the questions about a message: a settings store, and the customer whose message it is, both or neither. A ledger has
-// one more, the type id of the messages that it takes.
+// The options of the questions about a message: a settings store, and the customer whose message it is. Both or neither.
 ghost use Rattle.std.specs.Prelude.{◌≡◌, ◌<◌};
 ghost use Rattle.inputs.specs.Commands.{is_known, options_of};
 
-use crate::numbers::{Count, Short};
+use crate::numbers::Short;
 use crate::{arguments, complaints, numbers, words};
 
 #[derive(Clone, Copy)]
@@ -15,42 +14,28 @@ pub enum Options {
 }
 
 // Which argument names the store; 0 where none does.
-pub fn store() -> usize {
-    arguments::value_of(b"--settings")
+pub fn store(rt: &HostRuntime) -> usize {
+    arguments::value_of(rt, b"--settings")
 }
 
-fn customer() -> usize {
-    arguments::value_of(b"--customer")
-}
-
-// Which argument is the type id; 0 where none is.
-pub fn type_id() -> usize {
-    arguments::value_of(b"--type")
-}
-
-// It as a number. The argument with number 0 is the program's name.
-pub fn read_type() -> Count {
-    let i = type_id();
-    if i == 0 {
-        return Count::Wrong;
-    }
-    numbers::decimal(i)
+fn customer(rt: &HostRuntime) -> usize {
+    arguments::value_of(rt, b"--customer")
 }
 
 fn is_known(option: &[u8]) -> bool
     ensures { result ≡ is_known option.now }
 {
-    words::is_either(option, b"--settings", b"--customer") || words::is_word(option, b"--type")
+    words::is_either(option, b"--settings", b"--customer")
 }
 
-pub fn read() -> Options {
-    if !are_right() {
+pub fn read(rt: &HostRuntime) -> Options {
+    if !are_right(rt) {
         return Options::Wrong;
     }
-    read_both(store(), customer())
+    read_both(rt, store(rt), customer(rt))
 }
 
-fn read_both(store: usize, customer: usize) -> Options {
+fn read_both(rt: &HostRuntime, store: usize, customer: usize) -> Options {
     if store == 0 {
         if customer == 0 {
             return Options::Missing;
@@ -60,7 +45,7 @@ fn read_both(store: usize, customer: usize) -> Options {
     if customer == 0 {
         return one_alone(b"--settings", b"goes with --customer N");
     }
-    read_customer(customer)
+    read_customer(rt, customer)
 }
 
 fn one_alone(option: &[u8], reason: &[u8]) -> Options {
@@ -68,11 +53,11 @@ fn one_alone(option: &[u8], reason: &[u8]) -> Options {
     Options::Wrong
 }
 
-fn read_customer(i: usize) -> Options {
-    if !numbers::is_short(i, b"--customer") {
+fn read_customer(rt: &HostRuntime, i: usize) -> Options {
+    if !numbers::is_short(rt, i, b"--customer") {
         return Options::Wrong;
     }
-    given_by(numbers::short_of(numbers::decimal(i)))
+    given_by(numbers::short_of(numbers::decimal(rt, i)))
 }
 
 fn given_by(customer: Short) -> Options
@@ -85,11 +70,10 @@ fn given_by(customer: Short) -> Options
 }
 
 // Whether each option is known, has its value, and comes once.
-fn are_right() -> bool {
-    let end = os::arg_count();
+fn are_right(rt: &HostRuntime) -> bool {
     let mut i = 1;
-    while i < end {
-        if !is_right(i) {
+    while arguments::is_there(rt, i) {
+        if !is_right(rt, i) {
             return false;
         }
         i += 1;
@@ -97,29 +81,29 @@ fn are_right() -> bool {
     true
 }
 
-fn is_right(i: usize) -> bool
+fn is_right(rt: &HostRuntime, i: usize) -> bool
     requires { i < 18446744073709551615 }
 {
-    if !arguments::is_option(i) {
+    if !arguments::is_option(rt, i) {
         return true;
     }
     let mut argument = io::buffer();
-    let n = arguments::read(i, &mut argument);
-    is_right_option(i, &argument[..n])
+    let n = arguments::read(rt, i, &mut argument);
+    is_right_option(rt, i, &argument[..n])
 }
 
-fn is_right_option(i: usize, option: &[u8]) -> bool
+fn is_right_option(rt: &HostRuntime, i: usize, option: &[u8]) -> bool
     requires { i < 18446744073709551615 }
 {
     if !is_known(option) {
         complaints::complain(option, b"no such option");
         return false;
     }
-    if !arguments::is_value(i + 1) {
+    if !arguments::is_value(rt, i + 1) {
         complaints::complain(option, b"its value is missing");
         return false;
     }
-    if arguments::value_of(option) != i + 1 {
+    if arguments::value_of(rt, option) != i + 1 {
         complaints::complain(option, b"given twice");
         return false;
     }

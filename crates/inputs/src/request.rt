@@ -1,6 +1,6 @@
 // All that the arguments say, with the one place that tests how they go together.
 ghost use Rattle.std.specs.Prelude.{◌≡◌};
-ghost use Rattle.inputs.specs.Commands.{takes_settings, takes_question, takes_type, agree};
+ghost use Rattle.inputs.specs.Commands.{takes_settings, takes_question, agree};
 
 use crate::command::{Command, Question};
 use crate::options::Options;
@@ -41,34 +41,13 @@ fn takes_settings(command: Command) -> bool
         Command::Tape => true,
         Command::ListTable => false,
         Command::Message { question } => takes_question(question),
-        Command::Ledger { id: _ } => true,
         Command::Store { question: _ } => false,
         Command::NewStore { records: _ } => false,
         Command::Wrong => false,
     }
 }
 
-fn takes_type(command: Command) -> bool
-    ensures { result ≡ takes_type command }
-{
-    match command {
-        Command::Help => false,
-        Command::Version => false,
-        Command::Faults => false,
-        Command::Fault { number: _ } => false,
-        Command::CheckTable => false,
-        Command::Check => false,
-        Command::Tape => false,
-        Command::ListTable => false,
-        Command::Message { question: _ } => false,
-        Command::Ledger { id: _ } => true,
-        Command::Store { question: _ } => false,
-        Command::NewStore { records: _ } => false,
-        Command::Wrong => false,
-    }
-}
-
-// Whether the command takes the settings that are given.
+// Whether the command takes the options that are given.
 fn agree(command: Command, options: Options) -> bool
     ensures { result ≡ agree command options }
 {
@@ -91,48 +70,42 @@ fn wrong() -> Request {
     without_options(Command::Wrong)
 }
 
-fn test(command: Command, options: Options) -> Request {
+fn test(rt: &HostRuntime, command: Command, options: Options) -> Request {
     if !agree(command, options) {
         complaints::complain(
             b"--settings",
-            b"only for check with messages, read, show, dump, tape, sheet, rewrite and ledger",
+            b"only for check with messages, read, show, dump, tape, sheet and rewrite",
         );
         return wrong();
     }
-    if options::type_id() != 0 {
-        if !takes_type(command) {
-            complaints::complain(b"--type", b"only for ledger");
-            return wrong();
-        }
-    }
-    if input::is_asked_twice(command) {
+    if input::is_asked_twice(rt, command) {
         complaints::complain(b"-", b"standard input is asked for twice");
         return wrong();
     }
     Request { command, options }
 }
 
-fn read_command(options: Options) -> Request {
-    let command = command::read();
+fn read_command(rt: &HostRuntime, options: Options) -> Request {
+    let command = command::read(rt);
     match command {
         Command::Wrong => wrong(),
-        _ => test(command, options),
+        _ => test(rt, command, options),
     }
 }
 
-fn read_options() -> Request {
-    let options = options::read();
+fn read_options(rt: &HostRuntime) -> Request {
+    let options = options::read(rt);
     match options {
         Options::Wrong => wrong(),
-        _ => read_command(options),
+        _ => read_command(rt, options),
     }
 }
 
 // Help is given whatever follows.
-pub fn read() -> Request {
-    let first = command::word_at(1);
+pub fn read(rt: &HostRuntime) -> Request {
+    let first = command::word_at(rt, 1);
     match first {
         Word::Help => without_options(Command::Help),
-        _ => read_options(),
+        _ => read_options(rt),
     }
 }

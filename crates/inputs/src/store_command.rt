@@ -145,79 +145,85 @@ fn ignored_of(last: usize, absent: u8, pads: u8, unused: u8) -> Ignored
 
 // FROM THE ARGUMENTS
 
-fn is_argument(number: usize, word: &[u8]) -> bool {
-    arguments::is_word(arguments::plain(number), word)
+fn is_argument(rt: &HostRuntime, number: usize, word: &[u8]) -> bool {
+    arguments::is_word(rt, arguments::plain(rt, number), word)
 }
 
 // 1 where one of the arguments is this fault.
-fn flag(fault: &[u8]) -> u8 {
-    (is_argument(6, fault) || is_argument(7, fault) || is_argument(8, fault)) as u8
+fn flag(rt: &HostRuntime, fault: &[u8]) -> u8 {
+    (is_argument(rt, 6, fault) || is_argument(rt, 7, fault) || is_argument(rt, 8, fault)) as u8
 }
 
-pub fn read_ignored(last: usize) -> Ignored {
-    ignored_of(last, flag(b"4"), flag(b"6"), flag(b"8"))
+pub fn read_ignored(rt: &HostRuntime, last: usize) -> Ignored {
+    ignored_of(last, flag(rt, b"4"), flag(rt, b"6"), flag(rt, b"8"))
 }
 
 // WHY THERE IS NO COMMAND
 
-fn has_shorts() -> bool {
-    numbers::is_short(arguments::plain(CUSTOMER), b"CUSTOMER")
-        && numbers::is_short(arguments::plain(VERSION), b"VERSION")
+fn has_shorts(rt: &HostRuntime) -> bool {
+    numbers::is_short(rt, arguments::plain(rt, CUSTOMER), b"CUSTOMER")
+        && numbers::is_short(rt, arguments::plain(rt, VERSION), b"VERSION")
 }
 
-fn is_fault(i: usize) -> bool {
-    arguments::is_word(i, b"4") || arguments::is_word(i, b"6") || arguments::is_word(i, b"8")
+fn is_fault(rt: &HostRuntime, i: usize) -> bool {
+    arguments::is_word(rt, i, b"4")
+        || arguments::is_word(rt, i, b"6")
+        || arguments::is_word(rt, i, b"8")
 }
 
 // Whether one of the arguments before is the same fault.
-fn is_before(number: usize, fault: &[u8]) -> bool {
-    (FAULT < number && is_argument(FAULT, fault))
-        || (FAULT + 1 < number && is_argument(FAULT + 1, fault))
+fn is_before(rt: &HostRuntime, number: usize, fault: &[u8]) -> bool {
+    (FAULT < number && is_argument(rt, FAULT, fault))
+        || (FAULT + 1 < number && is_argument(rt, FAULT + 1, fault))
 }
 
-fn is_repeated(number: usize, fault: &[u8]) -> bool {
-    is_argument(number, fault) && is_before(number, fault)
+fn is_repeated(rt: &HostRuntime, number: usize, fault: &[u8]) -> bool {
+    is_argument(rt, number, fault) && is_before(rt, number, fault)
 }
 
-fn is_right_fault(number: usize) -> bool {
-    let i = arguments::plain(number);
-    if os::arg_count() <= i {
+fn is_right_fault(rt: &HostRuntime, number: usize) -> bool {
+    let i = arguments::plain(rt, number);
+    if !arguments::is_there(rt, i) {
         return true;
     }
-    if is_repeated(number, b"4") || is_repeated(number, b"6") || is_repeated(number, b"8") {
-        numbers::complain(i, b"FAULT", b"is given twice");
+    if is_repeated(rt, number, b"4")
+        || is_repeated(rt, number, b"6")
+        || is_repeated(rt, number, b"8")
+    {
+        numbers::complain(rt, i, b"FAULT", b"is given twice");
         return false;
     }
-    if is_fault(i) {
+    if is_fault(rt, i) {
         return true;
     }
-    numbers::complain(i, b"FAULT", b"is not 4, 6 or 8");
+    numbers::complain(rt, i, b"FAULT", b"is not 4, 6 or 8");
     false
 }
 
 // The first of the faults that is wrong.
-fn explain_faults() {
-    if is_right_fault(6) {
-        if is_right_fault(7) {
-            is_right_fault(8);
+fn explain_faults(rt: &HostRuntime) {
+    if is_right_fault(rt, 6) {
+        if is_right_fault(rt, 7) {
+            is_right_fault(rt, 8);
         }
     }
 }
 
 // The first number that is wrong.
-pub fn explain_get() {
-    has_shorts();
+pub fn explain_get(rt: &HostRuntime) {
+    has_shorts(rt);
 }
 
-pub fn explain_add() {
-    if has_shorts() {
-        explain_faults();
+pub fn explain_add(rt: &HostRuntime) {
+    if has_shorts(rt) {
+        explain_faults(rt);
     }
 }
 
-pub fn explain_new() {
+pub fn explain_new(rt: &HostRuntime) {
     numbers::complain(
-        arguments::plain(RECORDS),
+        rt,
+        arguments::plain(rt, RECORDS),
         b"RECORDS",
         b"is not a number from 1 to 7281",
     );

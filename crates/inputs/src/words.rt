@@ -20,7 +20,6 @@ pub enum Word {
     Sheet,
     Write,
     Rewrite,
-    Ledger,
     Settings,
     Get,
     Add,
@@ -97,9 +96,6 @@ fn file_word(word: &[u8]) -> Word
     }
     if is_word(word, b"rewrite") {
         return Word::Rewrite;
-    }
-    if is_word(word, b"ledger") {
-        return Word::Ledger;
     }
     plain_word(word)
 }

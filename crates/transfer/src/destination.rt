@@ -10,9 +10,9 @@ use files::identity::Identity;
 use files::{identity, report, saving};
 use inputs::command::Question;
 use inputs::{arguments, command, input};
-use libc::STDOUT_FILENO;
 use printing::print;
 use printing::print::Page;
+use std::io::{Error, ErrorKind};
 
 // Whether the question writes a file.
 pub fn writes(question: Question) -> bool
@@ -43,80 +43,95 @@ fn spares_input(question: Question) -> bool
 }
 
 // The file that argument `i` leads to.
-fn identify(i: usize) -> Identity {
+fn identify(rt: &HostRuntime, i: usize) -> Result<Identity, Error> {
     let mut name = io::buffer();
-    let n = os::arg(i, &mut name);
-    if os::errno() != 0 {
-        return identity::unknown();
+    match named::name(rt, i, &mut name) {
+        Ok(n) => identity::of_name(rt, &name[..n]),
+        Err(error) => Err(error),
     }
-    identity::of_name(&name[..n])
+}
+
+// The same, where it does not matter why it cannot be told.
+fn find(rt: &HostRuntime, i: usize) -> Identity {
+    match identify(rt, i) {
+        Ok(of) => of,
+        Err(_) => identity::unknown(),
+    }
 }
 
 // `-` is standard output, and so is every name that leads to it: written beside an answer, the two would be mixed up.
-pub fn is_output() -> bool {
-    let i = arguments::plain(command::OUT);
-    if input::is_standard(i) {
+pub fn is_output(rt: &HostRuntime) -> bool {
+    let i = arguments::plain(rt, command::OUT);
+    if input::is_standard(rt, i) {
         return true;
     }
-    identity::is_same(identify(i), identity::of_open(STDOUT_FILENO))
+    identity::is_same(find(rt, i), identity::of_output(rt))
 }
 
 // What OUT holds, at the start of the room: nothing where it is not there yet, or is no regular file, as standard output is none to read.
-pub fn read_old(room: &mut [u8]) -> Input {
-    if is_output() {
+pub fn read_old(rt: &HostRuntime, room: &mut [u8]) -> Input {
+    if is_output(rt) {
         return loaded::none();
     }
-    let i = arguments::plain(command::OUT);
-    let out = identify(i);
-    if !out.is_known {
-        if os::errno() == libc::ENOENT {
-            return loaded::none();
+    let i = arguments::plain(rt, command::OUT);
+    match identify(rt, i) {
+        Ok(out) => {
+            if !identity::is_regular(out) {
+                return loaded::none();
+            }
         }
-        return loaded::read(i, room);
+        Err(error) => {
+            if error.kind() == ErrorKind::NotFound {
+                return loaded::none();
+            }
+        }
     }
-    if !identity::is_regular(out) {
-        return loaded::none();
-    }
-    loaded::read(i, room)
+    loaded::read(rt, i, room)
 }
 
 // Whether OUT is this file. Standard error then says so.
-fn is_spared(out: Identity, of: Identity, reason: &[u8]) -> bool {
+fn is_spared(rt: &HostRuntime, out: Identity, of: Identity, reason: &[u8]) -> bool {
     if identity::is_same(out, of) {
-        named::complain_of(arguments::plain(command::OUT), reason);
+        named::complain_of(rt, arguments::plain(rt, command::OUT), reason);
         return true;
     }
     false
 }
 
-fn is_table_or_store(out: Identity, table: Identity, store: Identity) -> bool {
-    is_spared(out, table, b"is the table, which stays")
-        || is_spared(out, store, b"is the settings store, which stays")
+fn is_table_or_store(rt: &HostRuntime, out: Identity, table: Identity, store: Identity) -> bool {
+    is_spared(rt, out, table, b"is the table, which stays")
+        || is_spared(rt, out, store, b"is the settings store, which stays")
 }
 
-fn is_read(out: Identity, read: Identity) -> bool {
-    is_spared(out, read, b"is the file that is read, which stays")
+fn is_read(rt: &HostRuntime, out: Identity, read: Identity) -> bool {
+    is_spared(rt, out, read, b"is the file that is read, which stays")
 }
 
 // Whether OUT is one of the files that are read and must stay.
-pub fn is_taken(question: Question, table: Identity, store: Identity, read: Identity) -> bool {
+pub fn is_taken(
+    rt: &HostRuntime,
+    question: Question,
+    table: Identity,
+    store: Identity,
+    read: Identity,
+) -> bool {
     if !writes(question) {
         return false;
     }
-    let out = identify(arguments::plain(command::OUT));
-    if is_table_or_store(out, table, store) {
+    let out = find(rt, arguments::plain(rt, command::OUT));
+    if is_table_or_store(rt, out, table, store) {
         return true;
     }
     if spares_input(question) {
-        return is_read(out, read);
+        return is_read(rt, out, read);
     }
     false
 }
 
 // The same of a ledger, which is none of them.
-pub fn is_input(table: Identity, store: Identity, tape: Identity) -> bool {
-    let out = identify(arguments::plain(command::OUT));
-    is_table_or_store(out, table, store) || is_read(out, tape)
+pub fn is_input(rt: &HostRuntime, table: Identity, store: Identity, tape: Identity) -> bool {
+    let out = find(rt, arguments::plain(rt, command::OUT));
+    is_table_or_store(rt, out, table, store) || is_read(rt, out, tape)
 }
 
 // The line of an answer whose bytes are in OUT.
@@ -135,48 +150,50 @@ fn say_saved(page: &mut Page, is_saved: bool, length: usize) -> Outcome {
     refusal::fail(page)
 }
 
-fn save_at(i: usize, bytes: &[u8]) -> bool {
+fn save_at(rt: &HostRuntime, i: usize, bytes: &[u8]) -> bool {
     let mut name = io::buffer();
-    let n = os::arg(i, &mut name);
-    if os::errno() != 0 {
-        report::fail(b"argument");
-        return false;
+    match named::name(rt, i, &mut name) {
+        Ok(n) => saving::save(rt, &name[..n], bytes),
+        Err(error) => {
+            report::fail(rt, b"argument", error);
+            false
+        }
     }
-    saving::save(&name[..n], bytes)
 }
 
-fn create_at(i: usize, bytes: &[u8]) -> bool {
+fn create_at(rt: &HostRuntime, i: usize, bytes: &[u8]) -> bool {
     let mut name = io::buffer();
-    let n = os::arg(i, &mut name);
-    if os::errno() != 0 {
-        report::fail(b"argument");
-        return false;
+    match named::name(rt, i, &mut name) {
+        Ok(n) => saving::save_new(rt, &name[..n], bytes),
+        Err(error) => {
+            report::fail(rt, b"argument", error);
+            false
+        }
     }
-    saving::save_new(&name[..n], bytes)
 }
 
 // The file that argument `i` names becomes these bytes, or stays as it is.
-pub fn replace(page: &mut Page, i: usize, bytes: &[u8]) -> Outcome {
-    let is_saved = save_at(i, bytes);
+pub fn replace(rt: &HostRuntime, page: &mut Page, i: usize, bytes: &[u8]) -> Outcome {
+    let is_saved = save_at(rt, i, bytes);
     say_saved(page, is_saved, bytes.len())
 }
 
 // The same, where there is no such file yet.
-pub fn create(page: &mut Page, i: usize, bytes: &[u8]) -> Outcome {
-    let is_saved = create_at(i, bytes);
+pub fn create(rt: &HostRuntime, page: &mut Page, i: usize, bytes: &[u8]) -> Outcome {
+    let is_saved = create_at(rt, i, bytes);
     say_saved(page, is_saved, bytes.len())
 }
 
-fn send(page: &mut Page, bytes: &[u8]) -> Outcome {
-    let is_sent = saving::write_output(STDOUT_FILENO, bytes);
+fn send(rt: &HostRuntime, page: &mut Page, bytes: &[u8]) -> Outcome {
+    let is_sent = saving::write_output(rt, bytes);
     say_saved(page, is_sent, bytes.len())
 }
 
 // The first `length` bytes of the room go to OUT.
-pub fn save(page: &mut Page, room: &[u8], length: usize) -> Outcome {
+pub fn save(rt: &HostRuntime, page: &mut Page, room: &[u8], length: usize) -> Outcome {
     let bytes = rows::part(room, 0, length);
-    if is_output() {
-        return send(page, bytes);
+    if is_output(rt) {
+        return send(rt, page, bytes);
     }
-    replace(page, arguments::plain(command::OUT), bytes)
+    replace(rt, page, arguments::plain(rt, command::OUT), bytes)
 }

@@ -1,6 +1,7 @@
 // Files that an argument names, read into their rooms.
+use crate::named;
 use files::identity::Identity;
-use files::loading::Loaded;
+use files::loading::{Loaded, Source};
 use files::{identity, loading, report};
 
 // A file at the start of its room. Where it could not be read, standard error has said why.
@@ -28,48 +29,48 @@ pub fn none() -> Input {
     }
 }
 
-fn read_open(fd: i32, name: &[u8], room: &mut [u8]) -> Input {
-    let of = identity::of_open(fd);
-    let loaded = loading::load(fd, room);
-    loading::close_input(fd);
-    match loaded {
+fn read_open(rt: &HostRuntime, mut source: Source, name: &[u8], room: &mut [u8]) -> Input {
+    let of = identity::of_open(rt, &source);
+    match loading::load(rt, &mut source, room) {
         Loaded::Bytes(length) => Input {
             is_read: true,
             length,
             of,
         },
-        Loaded::Failed => {
-            report::fail(name);
+        Loaded::Failed(error) => {
+            report::fail(rt, name, error);
             unread(of)
         }
     }
 }
 
-fn read_named(name: &[u8], room: &mut [u8]) -> Input {
-    let fd = loading::open_input(name);
-    if fd < 0 {
-        report::fail(name);
-        return unread(identity::unknown());
+fn read_named(rt: &HostRuntime, name: &[u8], room: &mut [u8]) -> Input {
+    match loading::open_input(rt, name) {
+        Ok(source) => read_open(rt, source, name, room),
+        Err(error) => {
+            report::fail(rt, name, error);
+            unread(identity::unknown())
+        }
     }
-    read_open(fd, name, room)
 }
 
 // The file that argument `i` names. One that is longer than the room fills it: the rooms are a byte longer than what is allowed, so
 // that the question refuses it.
-pub fn read(i: usize, room: &mut [u8]) -> Input {
+pub fn read(rt: &HostRuntime, i: usize, room: &mut [u8]) -> Input {
     let mut name = io::buffer();
-    let n = os::arg(i, &mut name);
-    if os::errno() != 0 {
-        report::fail(b"argument");
-        return unread(identity::unknown());
+    match named::name(rt, i, &mut name) {
+        Ok(n) => read_named(rt, &name[..n], room),
+        Err(error) => {
+            report::fail(rt, b"argument", error);
+            unread(identity::unknown())
+        }
     }
-    read_named(&name[..n], room)
 }
 
 // The same, with as much of the room as is asked for.
-pub fn read_most(i: usize, room: &mut [u8], most: usize) -> Input {
+pub fn read_most(rt: &HostRuntime, i: usize, room: &mut [u8], most: usize) -> Input {
     if room.len() < most {
-        return read(i, room);
+        return read(rt, i, room);
     }
-    read(i, &mut room[0..most])
+    read(rt, i, &mut room[0..most])
 }

@@ -1,0 +1,13 @@
+use native.Mathlib.Omega.{arith}
+use borrow.Author.Rules.{rules}
+use Rattle.files.proofs.Laws.{short-is, short_none}
+use Rattle.files.proofs.paths.short_name.Goals as goal
+
+pub returns-then-number-gt20 : goal.returns-then-number-gt20
+returns-then-number-gt20 c = (short_none c.args.number.now c.args.letter c.if-number-gt20.true, search rules)
+
+pub returns : goal.returns
+returns c =
+    let a = c.append-behind in
+    let b = c.append-behind-2 in
+    (short-is c.args.room.now a.new.room b.new.room c.args.number.now c.args.letter a.result b.result _ (omega arith) a.auto.room b.auto.room c.if-number-gt20.false a.ensures.0 b.ensures.0 c.append.ensures.0, c.append.ensures.1)

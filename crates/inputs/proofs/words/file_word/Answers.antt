@@ -1,0 +1,19 @@
+use mathlib.Core.Path.{sym, ◌∙◌}
+use Rattle.inputs.specs.Words.{file_word}
+use Rattle.inputs.proofs.words.file_word.Goals as goal
+
+pub returns-then-is_word : goal.returns-then-is_word
+unfolding file_word
+returns-then-is_word c = rw (sym c.is_word.ensures ∙ c.if-is_word.true)
+
+pub returns-then-is_word-2 : goal.returns-then-is_word-2
+unfolding file_word
+returns-then-is_word-2 c = rw (sym c.is_word.ensures ∙ c.if-is_word.false, sym c.is_word-2.ensures ∙ c.if-is_word-2.true)
+
+pub returns-then-is_word-3 : goal.returns-then-is_word-3
+unfolding file_word
+returns-then-is_word-3 c = rw (sym c.is_word.ensures ∙ c.if-is_word.false, sym c.is_word-2.ensures ∙ c.if-is_word-2.false, sym c.is_word-3.ensures ∙ c.if-is_word-3.true)
+
+pub returns : goal.returns
+unfolding file_word
+returns c = rw (sym c.is_word.ensures ∙ c.if-is_word.false, sym c.is_word-2.ensures ∙ c.if-is_word-2.false, sym c.is_word-3.ensures ∙ c.if-is_word-3.false) c.plain_word.ensures

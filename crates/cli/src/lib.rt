@@ -5,7 +5,7 @@
 mod check;
 mod output;
 mod rooms;
-mod store;
+mod settings_store;
 
 ghost use Rattle.std.specs.Prelude.{◌≡◌};
 ghost use Rattle.cli.specs.Questions.{room_of, customer_of};
@@ -71,7 +71,7 @@ fn read_store(rt: &HostRuntime, room: &mut [u8]) -> Input {
     let read = loaded::read(rt, i, room);
     let of = read.of;
     Input {
-        is_read: read.is_read && store::fits(rt, i, read.length),
+        is_read: read.is_read && settings_store::fits(rt, i, read.length),
         length: read.length,
         of,
     }
@@ -329,8 +329,8 @@ fn run_alone(
     match command {
         Command::CheckTable => check_table(rt, page, tables),
         Command::ListTable => list_table(rt, page, tables),
-        Command::Store { question } => store::ask(rt, page, question, stores),
-        Command::NewStore { records } => store::create(rt, page, records, stores),
+        Command::Store { question } => settings_store::ask(rt, page, question, stores),
+        Command::NewStore { records } => settings_store::create(rt, page, records, stores),
         _ => run_words(rt, page, command),
     }
 }

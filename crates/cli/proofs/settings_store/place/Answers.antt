@@ -1,5 +1,5 @@
 use Rattle.cli.specs.Questions.{store_at}
-use Rattle.cli.proofs.store.place.Goals as goal
+use Rattle.cli.proofs.settings_store.place.Goals as goal
 
 pub returns-in-List : goal.returns-in-List
 unfolding store_at

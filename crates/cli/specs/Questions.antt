@@ -3,7 +3,7 @@ use Rattle.std.specs.Prelude.{ℕ}
 use Rattle.inputs.specs.declared.command.Question.{Question}
 use Rattle.inputs.specs.declared.command.Question.TheVariants.{Read, Show, Dump, Sheet, Write, Rewrite}
 use Rattle.inputs.specs.declared.command.StoreQuestion.{StoreQuestion}
-use Rattle.inputs.specs.declared.command.StoreQuestion.TheVariants.{List as All, Get, Add}
+use Rattle.inputs.specs.declared.command.StoreQuestion.TheVariants.{List as Listed, Get, Add}
 use Rattle.inputs.specs.declared.options.Options.{Options}
 use Rattle.inputs.specs.declared.options.Options.TheVariants.{Missing, Given, Wrong}
 
@@ -24,6 +24,6 @@ customer_of Wrong = 0
 
 -- Which plain argument names the store.
 unfoldable pub store_at : StoreQuestion → ℕ
-store_at All = 2
+store_at Listed = 2
 store_at (Get customer version) = 3
 store_at (Add customer version absent pads unused) = 3

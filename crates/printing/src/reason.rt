@@ -8,12 +8,12 @@ use std::rt::Stderr;
 // Behind the system's words an error has its number, which is left out.
 const NUMBER: [u8; 11] = *b" (os error ";
 
-// How many bytes of an error's text are the system's words.
+// How many bytes of an error's text are the system's words. Behind the text its room is zeros.
 fn words_of(text: &[u8]) -> usize
     ensures { result ≤ length text.now }
 {
     for i in 0..text.len() {
-        if text[i..].starts_with(&NUMBER) {
+        if text[i] == 0 || text[i..].starts_with(&NUMBER) {
             return i;
         }
     }

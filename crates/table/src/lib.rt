@@ -5,7 +5,7 @@
 ghost use Rattle.std.specs.Prelude.{◌≡◌, true, ◌&&◌, ◌||◌, cond, ◌+◌, ◌-◌, ◌*◌, ◌%◌, ◌<◌, ◌≤◌, ◌^◌, max, ℕ, length, drop, get_or, set, replicate, leb, ltb, eqb, List};
 ghost use Rattle.wire.specs.Bytes.{part, all_zero};
 ghost use Rattle.schema.specs.Symbols.{rank};
-ghost use Rattle.schema.specs.Table.{SY, GW, marked, group_marked, id_flag, optional_flag, sequence_flag, is_due, is_enum, is_group, shape_verdict, enum_verdict, symbol_verdict, group_verdict, size_ok, reference_ok, field_verdict, record_verdict, records_verdict, any_id, enums, schema, table_verdict, symbol_value, field_count, field_type, field_at, widths_verdict, begins_with, inherits, supers_verdict, stores_own, stored_verdict};
+ghost use Rattle.schema.specs.Table.{SY as SymbolMark, GW as StoredWidthMark, marked, group_marked, id_flag, optional_flag, sequence_flag, is_due, is_enum, is_group, shape_verdict, enum_verdict, symbol_verdict, group_verdict, size_ok, reference_ok, field_verdict, record_verdict, records_verdict, any_id, enums, schema, table_verdict, symbol_value, field_count, field_type, field_at, widths_verdict, begins_with, inherits, supers_verdict, stores_own, stored_verdict};
 ghost use Rattle.schema.specs.Faults.{also};
 ghost use Rattle.schema.specs.Layout.{group_place, Placed};
 ghost use Rattle.table.specs.Index.{due_of, Whole, Begun, Placing, Shaped, Taken, Checked};
@@ -218,7 +218,7 @@ fn check_symbol(table: &[u8], p: usize, low: usize) -> schema::Verdict
 // "a must-be-zero byte isn't, or a flag is not 0 or 1". In `GW` bytes 14-15 are the width.
 fn group_zeros(table: &[u8], p: usize) -> bool
     requires { p + 16 ≤ length table.now }
-    ensures { result ≡ ltb (id_flag (drop p table.now)) 2 && ((eqb (id_flag (drop p table.now)) 1 || all_zero (part 8 2 (drop p table.now))) && (marked GW (drop p table.now) || all_zero (part 2 14 (drop p table.now)))) }
+    ensures { result ≡ ltb (id_flag (drop p table.now)) 2 && ((eqb (id_flag (drop p table.now)) 1 || all_zero (part 8 2 (drop p table.now))) && (marked StoredWidthMark (drop p table.now) || all_zero (part 2 14 (drop p table.now)))) }
 {
     (table[p + 10] < 2)
         & ((schema::has_id(table, p) | (schema::type_id(table, p) == 0))
@@ -349,7 +349,7 @@ fn check_record(table: &[u8], index: &[u16], p: usize, next: usize, low: usize) 
 // The least rank that rises after the record at p.
 fn rising(table: &[u8], p: usize) -> usize
     requires { p + 16 ≤ length table.now }
-    ensures { result ≡ cond (marked SY (drop p table.now)) (rank (symbol_value (drop p table.now)) + 1) 0 }
+    ensures { result ≡ cond (marked SymbolMark (drop p table.now)) (rank (symbol_value (drop p table.now)) + 1) 0 }
 {
     if wire::has_mark(table, p, SY) {
         return symbol_rank(table, p) + 1;

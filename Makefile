@@ -45,10 +45,17 @@ $(SHARED): $(ARCHIVE) include/blink_native.map
 
 command: target/blink
 
-target/blink: $(SOURCES)
+# The proved program. A few lines of C start it, which ignore a signal that the language has no word for.
+PROGRAM = target/libexec/blink
+LAUNCH = $(CC) -O2 -Wall -Wextra command/launch.c
+
+$(PROGRAM): $(SOURCES)
 	mkdir -p $(@D)
 	cd crates/blink && rt run -- help > /dev/null
 	cp crates/blink/out/blink $@
+
+target/blink: command/launch.c $(PROGRAM)
+	$(LAUNCH) -DPROGRAM='"$(CURDIR)/$(PROGRAM)"' -o $@
 
 # Proves what changed since the last run, runs every program on its stored input, and walks through the samples.
 BLINK = target/blink
@@ -159,8 +166,10 @@ fuzz: $(ARCHIVE)
 ROOT = $(DESTDIR)$(PREFIX)
 
 install: library command
-	install -d $(ROOT)/bin $(ROOT)/include $(ROOT)/lib/pkgconfig $(ROOT)/share/man/man1
-	install -m 755 target/blink $(ROOT)/bin
+	install -d $(ROOT)/bin $(ROOT)/libexec $(ROOT)/include $(ROOT)/lib/pkgconfig $(ROOT)/share/man/man1
+	$(LAUNCH) -DPROGRAM='"$(PREFIX)/libexec/blink"' -o target/blink.installed
+	install -m 755 target/blink.installed $(ROOT)/bin/blink
+	install -m 755 $(PROGRAM) $(ROOT)/libexec/blink
 	install -m 644 include/blink_native.h $(ROOT)/include
 	install -m 644 $(ARCHIVE) $(ROOT)/lib
 	install -m 755 $(SHARED) $(ROOT)/lib
@@ -171,7 +180,7 @@ install: library command
 	install -m 644 docs/blink.1 $(ROOT)/share/man/man1
 
 uninstall:
-	rm -f $(ROOT)/bin/blink $(ROOT)/include/blink_native.h $(ROOT)/lib/libblink_native.a
+	rm -f $(ROOT)/bin/blink $(ROOT)/libexec/blink $(ROOT)/include/blink_native.h $(ROOT)/lib/libblink_native.a
 	rm -f $(ROOT)/lib/libblink_native.so $(ROOT)/lib/$(SONAME) $(ROOT)/lib/$(notdir $(SHARED))
 	rm -f $(ROOT)/lib/pkgconfig/blink_native.pc $(ROOT)/share/man/man1/blink.1
 

@@ -70,7 +70,7 @@ pub const LINE_LENGTH: usize = 64;
 /// The version of the library that is linked: major, minor, patch.
 ///
 /// ```
-/// assert_eq!(blink_native::version(), [0, 4, 0]);
+/// assert_eq!(blink_native::version(), [0, 3, 0]);
 /// ```
 pub fn version() -> [u8; 3] {
     // SAFETY: it takes nothing.

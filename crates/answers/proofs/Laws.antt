@@ -1,4 +1,7 @@
 -- Laws of ranges, and of a field that is asked for as bytes.
+use Rattle.schema.specs.declared.Fault.{Fault}
+use Rattle.schema.specs.Faults.{Verdict}
+use Rattle.std.proofs.Common.{Ok, Err, Result}
 use Prim.Native.Nat.{ℕ, ◌<◌, ◌≤◌}
 use mathlib.Core.Path.{◌≡◌, refl, sym, ap, ◌∙◌}
 use mathlib.Core.Bool.{true, false, and-false}
@@ -9,10 +12,8 @@ use lib.Dec.{leb}
 use types.Run.{OneOf}
 use denote.Enum.Declared.{tag_of}
 use borrow.Author.Tests.{le-leb, lt-leb}
-use Rattle.schema.specs.declared.Verdict.{Verdict}
-use Rattle.schema.specs.declared.Verdict.TheVariants.{Accepted}
 use Rattle.reading.specs.declared.Number.{Number}
-use Rattle.reading.specs.declared.Number.TheVariants.{Signed, Unsigned, Bool as Flag, Decimal, Float, NanBits, Refused}
+use Rattle.reading.specs.declared.Number.TheVariants.{Signed, Unsigned, Bool as Flag, Decimal, Float, NanBits}
 use Rattle.reading.specs.contracts.Number as number
 use Rattle.opening.specs.Opening.{under}
 use Rattle.codec.specs.Answers.{bytes_verdict}
@@ -39,7 +40,7 @@ same-under t b st c k k' f i v e h = e ∙ ap (λ (j : ℕ). bytes_verdict t b (
 -- ALL OTHER VARIANTS
 -- By their numbers, as a `match` knows them.
 
-bytes-other : (n : Number) (v : Verdict) → OneOf (0 ∷ (1 ∷ (2 ∷ (3 ∷ (4 ∷ (5 ∷ [])))))) (tag_of number.the_type n) → or_bytes n v ≡ Accepted
+bytes-other : (n : Result Number Fault) (v : Verdict) → OneOf (0 ∷ (1 ∷ (2 ∷ (3 ∷ (4 ∷ (5 ∷ [])))))) (tag_of number.the_type n) → or_bytes n v ≡ Ok tt
 unfolding or_bytes
 bytes-other (Signed x) v h = refl
 bytes-other (Unsigned x) v h = refl
@@ -47,12 +48,12 @@ bytes-other (Flag x) v h = refl
 bytes-other (Decimal e x) v h = refl
 bytes-other (Float x) v h = refl
 bytes-other (NanBits x) v h = refl
-bytes-other (Refused n p) v (inl e) = absurd (omega arith)
-bytes-other (Refused n p) v (inr (inl e)) = absurd (omega arith)
-bytes-other (Refused n p) v (inr (inr (inl e))) = absurd (omega arith)
-bytes-other (Refused n p) v (inr (inr (inr (inl e)))) = absurd (omega arith)
-bytes-other (Refused n p) v (inr (inr (inr (inr (inl e))))) = absurd (omega arith)
-bytes-other (Refused n p) v (inr (inr (inr (inr (inr e))))) = absurd (omega arith)
+bytes-other (Err f) v (inl e) = absurd (omega arith)
+bytes-other (Err f) v (inr (inl e)) = absurd (omega arith)
+bytes-other (Err f) v (inr (inr (inl e))) = absurd (omega arith)
+bytes-other (Err f) v (inr (inr (inr (inl e)))) = absurd (omega arith)
+bytes-other (Err f) v (inr (inr (inr (inr (inl e))))) = absurd (omega arith)
+bytes-other (Err f) v (inr (inr (inr (inr (inr e))))) = absurd (omega arith)
 
-pub bytes-none : (n a : Number) (v : Verdict) → n ≡ a → OneOf (0 ∷ (1 ∷ (2 ∷ (3 ∷ (4 ∷ (5 ∷ [])))))) (tag_of number.the_type n) → Accepted ≡ or_bytes a v
-bytes-none n a v e h = sym (ap (λ (x : Number). or_bytes x v) (sym e) ∙ bytes-other n v h)
+pub bytes-none : (n a : Result Number Fault) (v : Verdict) → n ≡ a → OneOf (0 ∷ (1 ∷ (2 ∷ (3 ∷ (4 ∷ (5 ∷ [])))))) (tag_of number.the_type n) → Ok tt ≡ or_bytes a v
+bytes-none n a v e h = sym (ap (λ (x : Result Number Fault). or_bytes x v) (sym e) ∙ bytes-other n v h)

@@ -1,7 +1,6 @@
 -- What the exit status says of an answer.
-use Rattle.std.specs.Prelude.{List, ℕ, ℤ, pos}
-use Rattle.schema.specs.declared.Verdict.{Verdict}
-use Rattle.schema.specs.declared.Verdict.TheVariants.{Accepted, Refused as RefusedAt}
+use Rattle.schema.specs.Faults.{Verdict}
+use Rattle.std.specs.Prelude.{Ok, Err, List, ℕ, ℤ, pos}
 use Rattle.answers.specs.declared.outcome.Outcome.{Outcome}
 use Rattle.answers.specs.declared.outcome.Outcome.TheVariants.{Answered, Refused, Failed}
 
@@ -11,8 +10,8 @@ status_of Refused = pos 1
 status_of Failed = pos 2
 
 unfoldable pub outcome_of : Verdict → Outcome
-outcome_of Accepted = Answered
-outcome_of (RefusedAt number place) = Refused
+outcome_of (Ok _) = Answered
+outcome_of (Err f) = Refused
 
 -- Of several answers: an error, or else a refusal, or else none.
 unfoldable pub worse_of : Outcome → Outcome → Outcome

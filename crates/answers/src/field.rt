@@ -18,7 +18,7 @@ pub fn print_field(
     scratch: &mut [u8],
     field: usize,
     item: usize,
-) -> Verdict
+) -> Result<(), Fault>
     ensures { result ≡ field_verdict table.now message.now (under store.now customer (length scratch.old)) field item }
 {
     let n = codec::read_number(table, store, customer, message, scratch, field, item);
@@ -36,7 +36,7 @@ pub fn print_field(
     }
 }
 
-fn print_number(page: &mut Page, number: u8, n: Number) {
+fn print_number(page: &mut Page, number: u8, n: Result<Number, Fault>) {
     value::print_type(page, number);
     print::space(page);
     value::print_number(page, number, n);
@@ -53,7 +53,7 @@ fn print_bytes(
     scratch: &mut [u8],
     field: usize,
     item: usize,
-) -> Verdict
+) -> Result<(), Fault>
     ensures { result ≡ bytes_verdict table.now message.now (under store.now customer (length scratch.old)) field item }
 {
     let v = codec::read_bytes_verdict(table, store, customer, message, scratch, field, item);

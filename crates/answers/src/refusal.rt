@@ -37,7 +37,7 @@ pub fn print_with_words(page: &mut Page, number: u8, place: usize) {
 }
 
 // The line for programs.
-pub fn print_verdict(page: &mut Page, verdict: Verdict) -> Outcome
+pub fn print_verdict(page: &mut Page, verdict: Result<(), Fault>) -> Outcome
     ensures { result ≡ outcome_of verdict }
 {
     match verdict {
@@ -124,7 +124,7 @@ pub fn refuse(
 }
 
 // What is said of a message that was checked.
-pub fn say(page: &mut Page, verdict: Verdict, table: &[u8], store: &[u8], input: &[u8]) -> Outcome
+pub fn say(page: &mut Page, verdict: Result<(), Fault>, table: &[u8], store: &[u8], input: &[u8]) -> Outcome
     ensures { result ≡ outcome_of verdict }
 {
     match verdict {
@@ -134,7 +134,7 @@ pub fn say(page: &mut Page, verdict: Verdict, table: &[u8], store: &[u8], input:
 }
 
 // What is said of a table or a store that was checked.
-pub fn say_alone(page: &mut Page, verdict: Verdict, bytes: &[u8]) -> Outcome
+pub fn say_alone(page: &mut Page, verdict: Result<(), Fault>, bytes: &[u8]) -> Outcome
     ensures { result ≡ outcome_of verdict }
 {
     match verdict {

@@ -1,61 +1,57 @@
 -- The claims of specs/Claims.antt, shown.
+use Rattle.settings.specs.declared.Ignored.{Ignored}
+use Rattle.reading.specs.declared.Part.{Part}
+use Rattle.schema.specs.declared.Fault.{Fault}
+use Rattle.schema.specs.Faults.{Verdict, fault_at}
+use Rattle.std.proofs.Common.{Ok, Err, Result}
 use mathlib.Core.Path.{◌≡◌, refl, ap}
 use mathlib.Core.List.{List, []}
 use Prim.Native.Nat.{ℕ}
 use native.Mathlib.Omega.{arith}
-use Rattle.schema.specs.declared.Verdict.{Verdict}
-use Rattle.schema.specs.declared.Verdict.TheVariants.{Accepted, Refused}
 use Rattle.fields.specs.declared.FieldShape.{FieldShape}
-use Rattle.fields.specs.declared.FieldShape.TheVariants.{Field, Refused as NoField}
-use Rattle.settings.specs.declared.Setting.{Setting}
-use Rattle.settings.specs.declared.Setting.TheVariants.{Ignores, Refused as Unknown}
 use Rattle.reading.specs.declared.Number.{Number}
-use Rattle.reading.specs.declared.Number.TheVariants.{Signed, Unsigned, Bool as Flag, Decimal, Float, NanBits, Refused as NotRead}
+use Rattle.reading.specs.declared.Number.TheVariants.{Signed, Unsigned, Bool as Flag, Decimal, Float, NanBits}
 use Rattle.sheet.specs.Written.{Writing, stopped, wrote}
-use Rattle.codec.specs.declared.Span.{Span}
-use Rattle.codec.specs.declared.Span.TheVariants.{Bytes as Lie, Refused as NoBytes}
 use Rattle.opening.specs.Opening.{Under, under}
 use Rattle.codec.specs.Answers.{written_of}
 use Rattle.codec.specs.Demands.{Numbered}
 use Rattle.codec.proofs.Demands.{demands}
-use Rattle.ledger.specs.declared.Entered.{Entered}
-use Rattle.ledger.specs.declared.Entered.TheVariants.{Fill, Refused as NotEntered}
 use Rattle.ledger.proofs.Claims.{ledger-claims}
 use Rattle.blink_native.specs.Boundary.{exported, exported_written, exported_number, exported_span, exported_settings, exported_shape, exported_entered}
 use Rattle.blink_native.proofs.Steps.{step}
 use Rattle.blink_native.specs.Claims.{VerdictTold, WrittenTold, SettingTold, NumberTold, SpanTold, ShapeTold, EnteredTold, Claims}
 
-verdict : (v : Verdict) → ((p : ℕ) → v ≡ Refused 0 p → ⊥) → VerdictTold v
+verdict : (v : Verdict) → ((p : ℕ) → v ≡ Err (fault_at 0 p) → ⊥) → VerdictTold v
 unfolding exported
-verdict Accepted h = (λ e n p q. let z : ◌≡◌ {A = ℕ} 0 1 = cc in omega (arith, z), λ f. refl)
-verdict (Refused n p) h = (λ e. absurd (h p (ap (λ (k : ℕ). Refused k p) e)), λ f. absurd (f n p refl))
+verdict (Ok _) h = (λ e n p q. let z : ◌≡◌ {A = ℕ} 0 1 = cc in omega (arith, z), λ f. refl)
+verdict (Err f) h = (λ e. absurd (h f.place (ap (λ (k : ℕ). Err (fault_at k f.place)) e)), λ f. absurd (f f.number f.place refl))
 
-span : (x : Span) → ((p : ℕ) → x ≡ NoBytes 0 p → ⊥) → SpanTold x
+span : (x : Result Part Fault) → ((p : ℕ) → x ≡ Err (fault_at 0 p) → ⊥) → SpanTold x
 unfolding exported_span
-span (Lie s k) h = (λ e n p q. let z : ◌≡◌ {A = ℕ} 0 1 = cc in omega (arith, z), λ f. refl)
-span (NoBytes n p) h = (λ e. absurd (h p (ap (λ (k : ℕ). NoBytes k p) e)), λ f. absurd (f n p refl))
+span (Ok x) h = (λ e n p q. let z : ◌≡◌ {A = ℕ} 0 1 = cc in omega (arith, z), λ f. refl)
+span (Err f) h = (λ e. absurd (h f.place (ap (λ (k : ℕ). Err (fault_at k f.place)) e)), λ f. absurd (f f.number f.place refl))
 
-setting : (x : Setting) → ((p : ℕ) → x ≡ Unknown 0 p → ⊥) → SettingTold x
+setting : (x : Result Ignored Fault) → ((p : ℕ) → x ≡ Err (fault_at 0 p) → ⊥) → SettingTold x
 unfolding exported_settings
-setting (Ignores i) h = (λ e n p q. let z : ◌≡◌ {A = ℕ} 0 1 = cc in omega (arith, z), λ f. refl)
-setting (Unknown n p) h = (λ e. absurd (h p (ap (λ (k : ℕ). Unknown k p) e)), λ f. absurd (f n p refl))
+setting (Ok i) h = (λ e n p q. let z : ◌≡◌ {A = ℕ} 0 1 = cc in omega (arith, z), λ f. refl)
+setting (Err f) h = (λ e. absurd (h f.place (ap (λ (k : ℕ). Err (fault_at k f.place)) e)), λ f. absurd (f f.number f.place refl))
 
-shape : (x : FieldShape) → ((p : ℕ) → x ≡ NoField 0 p → ⊥) → ShapeTold x
+shape : (x : Result FieldShape Fault) → ((p : ℕ) → x ≡ Err (fault_at 0 p) → ⊥) → ShapeTold x
 unfolding exported_shape
-shape (Field t o s k) h = (λ e n p q. let z : ◌≡◌ {A = ℕ} 0 1 = cc in omega (arith, z), λ f. refl)
-shape (NoField n p) h = (λ e. absurd (h p (ap (λ (k : ℕ). NoField k p) e)), λ f. absurd (f n p refl))
+shape (Ok x) h = (λ e n p q. let z : ◌≡◌ {A = ℕ} 0 1 = cc in omega (arith, z), λ f. refl)
+shape (Err f) h = (λ e. absurd (h f.place (ap (λ (k : ℕ). Err (fault_at k f.place)) e)), λ f. absurd (f f.number f.place refl))
 
-entered : (x : Entered) → ((p : ℕ) → x ≡ NotEntered 0 p → ⊥) → EnteredTold x
+entered : (x : Result ℕ Fault) → ((p : ℕ) → x ≡ Err (fault_at 0 p) → ⊥) → EnteredTold x
 unfolding exported_entered
-entered (Fill k) h = (λ e n p q. let z : ◌≡◌ {A = ℕ} 0 1 = cc in omega (arith, z), λ f. refl)
-entered (NotEntered n p) h = (λ e. absurd (h p (ap (λ (k : ℕ). NotEntered k p) e)), λ f. absurd (f n p refl))
+entered (Ok k) h = (λ e n p q. let z : ◌≡◌ {A = ℕ} 0 1 = cc in omega (arith, z), λ f. refl)
+entered (Err f) h = (λ e. absurd (h f.place (ap (λ (k : ℕ). Err (fault_at k f.place)) e)), λ f. absurd (f f.number f.place refl))
 
 written : (x : Writing) → ((p : ℕ) → x ≡ stopped 0 p → ⊥) → WrittenTold (written_of x)
 unfolding exported_written written_of
 written (wrote X D r) h = (λ e n p q. let z : ◌≡◌ {A = ℕ} 0 1 = cc in omega (arith, z), λ f. refl)
 written (stopped n p) h = (λ e. absurd (h p (ap (λ (k : ℕ). stopped k p) e)), λ f. absurd (f n p refl))
 
-number : (x : Number) → ((p : ℕ) → x ≡ NotRead 0 p → ⊥) → NumberTold x
+number : (x : Result Number Fault) → ((p : ℕ) → x ≡ Err (fault_at 0 p) → ⊥) → NumberTold x
 unfolding exported_number
 number (Signed x) h = (λ e n p q. let z : ◌≡◌ {A = ℕ} 0 1 = cc in omega (arith, z), λ f. refl)
 number (Unsigned x) h = (λ e n p q. let z : ◌≡◌ {A = ℕ} 0 1 = cc in omega (arith, z), λ f. refl)
@@ -63,7 +59,7 @@ number (Flag x) h = (λ e n p q. let z : ◌≡◌ {A = ℕ} 0 1 = cc in omega (
 number (Decimal y x) h = (λ e n p q. let z : ◌≡◌ {A = ℕ} 0 1 = cc in omega (arith, z), λ f. refl)
 number (Float x) h = (λ e n p q. let z : ◌≡◌ {A = ℕ} 0 1 = cc in omega (arith, z), λ f. refl)
 number (NanBits x) h = (λ e n p q. let z : ◌≡◌ {A = ℕ} 0 1 = cc in omega (arith, z), λ f. refl)
-number (NotRead n p) h = (λ e. absurd (h p (ap (λ (k : ℕ). NotRead k p) e)), λ f. absurd (f n p refl))
+number (Err f) h = (λ e. absurd (h f.place (ap (λ (k : ℕ). Err (fault_at k f.place)) e)), λ f. absurd (f f.number f.place refl))
 
 numbered : (t b s : List ℕ) (u : Under) → Numbered t b s u
 numbered t b s u = (demands.first t b s u).numbered

@@ -1,4 +1,7 @@
 -- A number that is read is no NaN's float.
+use Rattle.schema.specs.declared.Fault.{Fault}
+use Rattle.schema.specs.Faults.{Verdict}
+use Rattle.std.proofs.Common.{Ok, Err, Result}
 use mathlib.Core.Path.{◌≡◌, refl, sym, subst, ◌∙◌}
 use mathlib.Core.Bool.{Bool, true, false, not, cond}
 use mathlib.Core.List.{List}
@@ -7,8 +10,6 @@ use lib.Dec.{T, eqb}
 use lib.Ieee.{binary64, nan_bits, of_bits}
 use lib.Ieee.Bits.{nan_bits_is}
 use Rattle.wire.specs.Bytes.{le}
-use Rattle.schema.specs.declared.Verdict.{Verdict}
-use Rattle.schema.specs.declared.Verdict.TheVariants.{Accepted, Refused}
 use Rattle.schema.specs.Schema.{member}
 use Rattle.reading.specs.declared.Number.{Number}
 use Rattle.reading.specs.declared.Number.TheVariants.{Float, NanBits}
@@ -18,7 +19,7 @@ use Rattle.opening.specs.Opening.{Under, message_verdict}
 use Rattle.codec.specs.Answers.{number_under, number_answer}
 use Rattle.blink_native.specs.Boundary.{NoNan}
 
-either : (c : Bool) (x y : Number) → NoNan x → NoNan y → NoNan (cond c x y)
+either : (c : Bool) (x y : Result Number Fault) → NoNan x → NoNan y → NoNan (cond c x y)
 either true x y a b = a
 either false x y a b = b
 
@@ -42,10 +43,10 @@ unfolding number_at NoNan
 at-no-nan b (missing n) = tt
 at-no-nan b (item f p) = of-no-nan _ _
 
-under-no-nan : (v : Verdict) (x : Number) → NoNan x → NoNan (number_under v x)
+under-no-nan : (v : Verdict) (x : Result Number Fault) → NoNan x → NoNan (number_under v x)
 unfolding number_under NoNan
-under-no-nan Accepted x h = h
-under-no-nan (Refused n p) x h = tt
+under-no-nan (Ok _) x h = h
+under-no-nan (Err f) x h = tt
 
 pub no_nan : (t b : List ℕ) (u : Under) (f i : ℕ) → NoNan (number_answer t b u f i)
 unfolding number_answer

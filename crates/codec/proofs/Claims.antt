@@ -1,10 +1,10 @@
 -- The claims of specs/Claims.antt, shown.
+use Rattle.std.proofs.Common.{Ok}
 use Prim.Native.Nat.{ℕ, ◌+◌, ◌<◌, ◌≤◌}
 use mathlib.Core.Path.{◌≡◌, refl, sym, ap, ◌∙◌, subst}
 use mathlib.Core.List.{List, []}
 use native.Mathlib.Omega.{arith}
 use lib.ListN.{length}
-use Rattle.schema.specs.declared.Verdict.TheVariants.{Accepted}
 use Rattle.schema.specs.Schema.{fields_of, width, find}
 use Rattle.schema.specs.Table.{schema, table_verdict}
 use Rattle.schema.proofs.Forms.{alike-schema}
@@ -16,7 +16,6 @@ use Rattle.store.proofs.Claims.{sound-of}
 use Rattle.message.specs.Walk.{Reading, refused, done, walk}
 use Rattle.meaning.specs.Conforms.{type_id}
 use Rattle.meaning.proofs.Ignorable.{walk_same}
-use Rattle.reading.specs.declared.Part.TheVariants.{Lies}
 use Rattle.reading.specs.Item.{item_from, item_of}
 use Rattle.reading.proofs.Items.{item-front}
 use Rattle.reading.proofs.Alike.{walk-laxer, laxest}
@@ -33,7 +32,7 @@ use Rattle.codec.specs.Claims.{Below, SameAnswers, Reads, Claims}
 use Rattle.codec.proofs.Demands.{opened}
 use Rattle.codec.proofs.Laws.{number_read, part-read, part-refused, type-read}
 
-same_item : (t b : List ℕ) → table_verdict t ≡ Accepted → (a : ℕ) → Below t b a → (n i : ℕ) → n < length (fields_of (schema t) a)
+same_item : (t b : List ℕ) → table_verdict t ≡ Ok tt → (a : ℕ) → Below t b a → (n i : ℕ) → n < length (fields_of (schema t) a)
     → item_of (schema t) b n i ≡ item_from (width (schema t) 4) (fields_of (schema t) a) b 16 n i
 unfolding item_of
 same_item t b e a u n i l =
@@ -41,13 +40,13 @@ same_item t b e a u n i l =
     rw begins.1 (item-front (width (schema t) 4) (fields_of (schema t) a) begins.0 b 16 n i l)
 
 -- what is accepted reads alike where all three faults are ignored
-means-laxly : (t st b s : List ℕ) (c : ℕ) → table_verdict t ≡ Accepted → store_verdict st ≡ Accepted → Means t st c b s → walk lax (schema t) b ≡ done s []
+means-laxly : (t st b s : List ℕ) (c : ℕ) → table_verdict t ≡ Ok tt → store_verdict st ≡ Ok tt → Means t st c b s → walk lax (schema t) b ≡ done s []
 means-laxly t st b s c e p M =
     let x = governing st c in
     walk-laxer x lax (laxest x) (schema t) b s [] (means-walk x (schema t) b s (λ scratch h. sym (reading-under t e (under st c scratch) (sound-of st p) b) ∙ M scratch h)).1
 
 -- the questions know a table by its verdict and its schema alone
-module _ (t u : List ℕ) (a : table_verdict t ≡ Accepted) (b : table_verdict u ≡ Accepted) (s : schema t ≡ schema u) where
+module _ (t u : List ℕ) (a : table_verdict t ≡ Ok tt) (b : table_verdict u ≡ Ok tt) (s : schema t ≡ schema u) where
   same-reading : (m : List ℕ) (x : Under) → message_reading t m x ≡ message_reading u m x
   unfolding message_reading
   same-reading m x = rw (a, b, s)
@@ -104,7 +103,7 @@ reads t b u s e =
     }
 
 -- a refused message has no part
-part-inside : (t b : List ℕ) (u : Under) (f i p n : ℕ) → part_answer t b u f i ≡ Lies p n → p + n ≤ length b
+part-inside : (t b : List ℕ) (u : Under) (f i p n : ℕ) → part_answer t b u f i ≡ Ok (record { start = p; length = n }) → p + n ≤ length b
 part-inside t b u f i p n e = go (message_reading t b u) refl
   where
     go : (r : Reading) → message_reading t b u ≡ r → p + n ≤ length b

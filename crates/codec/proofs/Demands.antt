@@ -1,4 +1,6 @@
 -- The demands of specs/Demands.antt, shown.
+use Rattle.schema.specs.declared.Fault.{Fault}
+use Rattle.std.proofs.Common.{Ok, Err, Result}
 use Prim.Native.Nat.{ℕ, ◌+◌, ◌≤◌}
 use mathlib.Core.Path.{◌≡◌, refl, sym, ap, ◌∙◌, subst}
 use mathlib.Core.Logic.{◌↔◌}
@@ -10,9 +12,7 @@ use lib.Dec.{leb}
 use borrow.Author.Tests.{le-leb, eqb-true}
 use Rattle.wire.specs.Bytes.{le}
 use Rattle.wire.proofs.Laws.{part-splice}
-use Rattle.schema.specs.declared.Verdict.{Verdict}
-use Rattle.schema.specs.declared.Verdict.TheVariants.{Accepted, Refused}
-use Rattle.schema.specs.Faults.{need, also}
+use Rattle.schema.specs.Faults.{Verdict, fault_at, need, also}
 use Rattle.schema.specs.Schema.{Group}
 use Rattle.schema.specs.Table.{schema, table_verdict}
 use Rattle.table.proofs.Accepted as table
@@ -29,7 +29,6 @@ use Rattle.meaning.proofs.Lists.{walk-lists}
 use Rattle.meaning.proofs.Packed.{no-pad}
 use Rattle.meaning.proofs.Eleven.{eleven}
 use Rattle.reading.specs.declared.Part.{Part}
-use Rattle.reading.specs.declared.Part.TheVariants.{Refusal, Lies}
 use Rattle.reading.specs.Item.{item_of}
 use Rattle.reading.specs.Number.{number_at}
 use Rattle.reading.specs.Part.{part_at, bytes_in}
@@ -54,23 +53,23 @@ refused-room : (x : Writing) (n p : ℕ) (room : List ℕ) → x ≡ stopped n p
 unfolding room_after
 refused-room x n p room e = rw e
 
-no_part : (v : Verdict) (x : Part) (b : List ℕ) (n p : ℕ) → also v (part.verdict_of x) ≡ Refused n p → bytes_in b (part_under v x) ≡ []
+no_part : (v : Verdict) (x : Result Part Fault) (b : List ℕ) (n p : ℕ) → also v (part.verdict_of x) ≡ Err (fault_at n p) → bytes_in b (part_under v x) ≡ []
 unfolding also part.verdict_of bytes_in part_under
-no_part Accepted (Refusal k) b n p e = refl
-no_part Accepted (Lies q k) b n p e = let z : ◌≡◌ {A = ℕ} 0 1 = cc in absurd (omega arith)
-no_part (Refused k q) x b n p e = refl
+no_part (Ok _) (Err f) b n p e = refl
+no_part (Ok _) (Ok x) b n p e = let z : ◌≡◌ {A = ℕ} 0 1 = cc in absurd (omega arith)
+no_part (Err f) x b n p e = refl
 
 -- a message that was read: its table passes, and so does the store
-pub opened : (t b : List ℕ) (u : Under) (s m : List ℕ) → message_reading t b u ≡ done s m → (table_verdict t ≡ Accepted) × (sound u.store ≡ true)
+pub opened : (t b : List ℕ) (u : Under) (s m : List ℕ) → message_reading t b u ≡ done s m → (table_verdict t ≡ Ok tt) × (sound u.store ≡ true)
 unfolding message_reading
 opened t b u s m e =
     let q = need-done _ _ _ _ e in
     let r = need-done _ _ _ _ (need-done _ _ _ _ (need-done _ _ _ _ q.1).1).1 in
     (is-accepted _ q.0, r.0)
   where
-    is-accepted : (v : Verdict) → accepted v ≡ true → v ≡ Accepted
-    is-accepted Accepted e = refl
-    is-accepted (Refused n p) e = unfold accepted in let z : ◌≡◌ {A = ℕ} 0 1 = cc in absurd (omega arith)
+    is-accepted : (v : Verdict) → accepted v ≡ true → v ≡ Ok tt
+    is-accepted (Ok _) e = refl
+    is-accepted (Err f) e = unfold accepted in let z : ◌≡◌ {A = ℕ} 0 1 = cc in absurd (omega arith)
 
 sheet-done : (room : ℕ) (x : Reading) (s D r : List ℕ) → sheet_in room x ≡ wrote s D r → (m : List ℕ) × (x ≡ done s m)
 unfolding sheet_in
@@ -117,17 +116,17 @@ demand1 t b s u = record {
 
 -- WHAT AN ACCEPTED TABLE GIVES
 
-proper : (t : List ℕ) → table_verdict t ≡ Accepted → Proper (schema t)
+proper : (t : List ℕ) → table_verdict t ≡ Ok tt → Proper (schema t)
 proper t e =
     let a = table.accepted t e in
     record { falls = a.supers; fresh = λ g x rest at has. a.fresh g x.id (record { it = x; rest = rest; at = at; has = has; is = refl }) }
 
-done-is : (x : Reading) → verdict_of x ≡ Accepted → (s : List ℕ) × (m : List ℕ) × (x ≡ done s m)
+done-is : (x : Reading) → verdict_of x ≡ Ok tt → (s : List ℕ) × (m : List ℕ) × (x ≡ done s m)
 unfolding verdict_of
 done-is (refused n p) e = let z : ◌≡◌ {A = ℕ} 0 1 = cc in absurd (omega arith)
 done-is (done s m) e = (s, m, refl)
 
-is-done : (x : Reading) → (s : List ℕ) × (m : List ℕ) × (x ≡ done s m) → verdict_of x ≡ Accepted
+is-done : (x : Reading) → (s : List ℕ) × (m : List ℕ) × (x ≡ done s m) → verdict_of x ≡ Ok tt
 unfolding verdict_of
 is-done x (s, m, e) = rw e
 
@@ -136,7 +135,7 @@ sat-size : (x : Ignored) (gs : List Group) (b : List ℕ) → Sat (λ s m. lengt
 unfolding walk
 sat-size x gs b = sat-need _ 22 0 (λ t. sat-all (λ s m. eqb-true _ _ ((and-eq-true_iff (leb 4 (length b)) _).0 t).1) _)
 
-module _ (t st : List ℕ) (c : ℕ) (e : table_verdict t ≡ Accepted) (pass : store_verdict st ≡ Accepted) where
+module _ (t st : List ℕ) (c : ℕ) (e : table_verdict t ≡ Ok tt) (pass : store_verdict st ≡ Ok tt) where
   abbrev x : Ignored
   x = governing st c
 
@@ -158,13 +157,13 @@ module _ (t st : List ℕ) (c : ℕ) (e : table_verdict t ≡ Accepted) (pass : 
 
   -- DEMAND 2
 
-  accepted-exactly : (b : List ℕ) (scratch : ℕ) → length b ≤ scratch → (message_verdict t b (under st c scratch) ≡ Accepted) ↔ Conforms x gs b
+  accepted-exactly : (b : List ℕ) (scratch : ℕ) → length b ≤ scratch → (message_verdict t b (under st c scratch) ≡ Ok tt) ↔ Conforms x gs b
   unfolding message_verdict
   accepted-exactly b scratch room =
       let iff = accepted-conforms x gs (proper t e) scratch b room in
       (λ v. iff.0 (done-is _ (ap verdict_of (sym (reading b scratch)) ∙ v)), λ c. ap verdict_of (reading b scratch) ∙ is-done _ (iff.1 c))
 
-  sheet : (b : List ℕ) (scratch : ℕ) → message_verdict t b (under st c scratch) ≡ Accepted → (s : List ℕ) × Means t st c b s
+  sheet : (b : List ℕ) (scratch : ℕ) → message_verdict t b (under st c scratch) ≡ Ok tt → (s : List ℕ) × Means t st c b s
   unfolding message_verdict
   sheet b scratch v = let (s, m, d) = done-is _ v in (s, back b s (trip.message-means x gs scratch b s m (sym (reading b scratch) ∙ d)))
 
@@ -214,7 +213,7 @@ module _ (t st : List ℕ) (c : ℕ) (e : table_verdict t ≡ Accepted) (pass : 
   -- DEMAND 3
 
   -- what is accepted with nothing ignored is accepted under every setting
-  anywhere : (b s : List ℕ) → canonical.Means strict gs b s → (st' : List ℕ) (c' : ℕ) → store_verdict st' ≡ Accepted → Means t st' c' b s
+  anywhere : (b s : List ℕ) → canonical.Means strict gs b s → (st' : List ℕ) (c' : ℕ) → store_verdict st' ≡ Ok tt → Means t st' c' b s
   anywhere b s M st' c' p scratch h =
       let y = governing st' c' in
       let w = trip.means-walk strict gs b s M in

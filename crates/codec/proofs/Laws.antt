@@ -1,4 +1,6 @@
 -- The public answers, by what the crates below found.
+use Rattle.schema.specs.declared.Fault.{Fault}
+use Rattle.std.proofs.Common.{Ok, Err, Some, None, Result}
 use Prim.Native.Nat.{ℕ, ◌+◌, ◌<◌, ◌≤◌}
 use mathlib.Core.Path.{◌≡◌, refl, sym, ap, ◌∙◌}
 use mathlib.Core.Bool.{Bool, true, false, ◌&&◌, and-false}
@@ -9,8 +11,7 @@ use lib.Dec.{leb}
 use borrow.Author.Tests.{le-leb, lt-leb, leb-true, eq-eqb, ne_eqb}
 use Rattle.wire.specs.Bytes.{part, splice}
 use Rattle.wire.proofs.Laws.{length-splice, part-splice}
-use Rattle.schema.specs.declared.Verdict.TheVariants.{Accepted, Refused}
-use Rattle.schema.specs.Faults.{need, also}
+use Rattle.schema.specs.Faults.{fault_at, need, also}
 use Rattle.schema.specs.Schema.{Group}
 use Rattle.schema.specs.Table.{schema, table_verdict}
 use Rattle.fields.specs.Fields.{has_under}
@@ -24,32 +25,24 @@ use Rattle.sheet.specs.Rewritten.{sheet_in, onward}
 use Rattle.sheet.proofs.RoundTrip as trip
 use Rattle.parsing.specs.Count.{capped}
 use Rattle.parsing.specs.Parse.{parsed_of}
-use Rattle.parsing.specs.declared.Parsed.TheVariants.{Counted as Parsed, Refused as Unparsed}
-use Rattle.reading.specs.declared.Number.TheVariants.{Refused as NotRead}
-use Rattle.reading.specs.declared.Part.TheVariants.{Refusal}
 use Rattle.reading.specs.Item.{item_of}
 use Rattle.reading.specs.Number.{number_at}
 use Rattle.reading.specs.Part.{part_at}
 use Rattle.reading.specs.Part as parts
 use Rattle.opening.specs.Opening.{accepted, Under, message_reading, Known}
 use Rattle.opening.proofs.Laws.{sized, reading-under, verdict-accepted, verdict-refused}
-use Rattle.codec.specs.declared.Front.TheVariants.{Read, Other, Refused as NoFront}
-use Rattle.codec.specs.declared.Span.TheVariants.{Refused as NoBytes}
-use Rattle.codec.specs.declared.TypeAnswer.TheVariants.{Id, Refused as NoType}
-use Rattle.codec.specs.declared.Written.{Written}
-use Rattle.codec.specs.declared.Written.TheVariants.{Bytes, Refused as Unwritten}
 use Rattle.codec.specs.Answers.{written_of, room_after, Writes, to_sheet, to_message, Allowed, Within, number_under, number_answer, part_under, part_answer, bytes_verdict, span_of, span_under, span_answer, type_under, message_type, front_under, front_answer, front_in}
 
 -- MESSAGE TO SHEET
 
 -- what a question that writes answers, and what it leaves in its room
-pub writes_nothing : (x : Writing) (n p : ℕ) (room : List ℕ) → x ≡ stopped n p → Writes x (Unwritten n p) room room
+pub writes_nothing : (x : Writing) (n p : ℕ) (room : List ℕ) → x ≡ stopped n p → Writes x (Err (fault_at n p)) room room
 unfolding written_of room_after
 writes_nothing x n p room e = (rw e, rw e)
 
-pub writes-it : (x : Writing) (X : List ℕ) (n : ℕ) (before left : List ℕ) → x ≡ wrote X [] [] → n ≡ length X → left ≡ splice (length X) 0 X before → Writes x (Bytes n) before left
+pub writes-it : (x : Writing) (X : List ℕ) (n : ℕ) (before left : List ℕ) → x ≡ wrote X [] [] → n ≡ length X → left ≡ splice (length X) 0 X before → Writes x (Ok n) before left
 unfolding written_of room_after
-writes-it x X n before left e l f = (rw e (ap Bytes l), rw e f)
+writes-it x X n before left e l f = (rw e (ap Ok l), rw e f)
 
 module _ (t b : List ℕ) (u : Under) (room : ℕ) where
   pub sheet-refused : (n p : ℕ) → message_reading t b u ≡ refused n p → to_sheet t b u room ≡ stopped n p
@@ -68,28 +61,28 @@ module _ (t b : List ℕ) (u : Under) (room : ℕ) where
 -- SHEET TO MESSAGE
 
 module _ (gs : List Group) (ok : Sized gs) (s : List ℕ) where
-  pub parsed-refuses : (n p : ℕ) → Unparsed n p ≡ parsed_of (sheet_w gs s) → sheet_w gs s ≡ stopped n p
+  pub parsed-refuses : (n p : ℕ) → Err (fault_at n p) ≡ parsed_of (sheet_w gs s) → sheet_w gs s ≡ stopped n p
   parsed-refuses n p = go (sheet_w gs s)
     where
-      go : (x : Writing) → Unparsed n p ≡ parsed_of x → x ≡ stopped n p
+      go : (x : Writing) → Err (fault_at n p) ≡ parsed_of x → x ≡ stopped n p
       go (stopped n' p') e = unfold parsed_of in cc
       go (wrote X D r) e = unfold parsed_of in let z : ◌≡◌ {A = ℕ} 0 1 = cc in absurd (omega arith)
 
-  pub parsed-allows : (n : ℕ) → Parsed n ≡ parsed_of (sheet_w gs s) → Allowed gs s n
+  pub parsed-allows : (n : ℕ) → Ok n ≡ parsed_of (sheet_w gs s) → Allowed gs s n
   parsed-allows n e = go (sheet_w gs s) refl e
     where
-      go : (x : Writing) → sheet_w gs s ≡ x → Parsed n ≡ parsed_of x → Allowed gs s n
+      go : (x : Writing) → sheet_w gs s ≡ x → Ok n ≡ parsed_of x → Allowed gs s n
       go (stopped n' p) w e = unfold parsed_of in let z : ◌≡◌ {A = ℕ} 0 1 = cc in absurd (omega arith)
       go (wrote X D r) w e = unfold parsed_of in
           let g = trip.write_read gs ok strict s X D r w in
           let l : capped (length X) ≡ n = cc in
           record { message = X; makes = w ∙ let a = g.alone in let b = g.whole in cc; long = l }
 
-pub message-20 : (t : List ℕ) (n p : ℕ) → Refused n p ≡ table_verdict t → (s : List ℕ) (room : ℕ) → to_message t s room ≡ stopped 20 0
+pub message-20 : (t : List ℕ) (n p : ℕ) → Err (fault_at n p) ≡ table_verdict t → (s : List ℕ) (room : ℕ) → to_message t s room ≡ stopped 20 0
 unfolding to_message accepted need
 message-20 t n p e s room = rw (← e)
 
-pub message-under : (t : List ℕ) → table_verdict t ≡ Accepted → (s : List ℕ) (room : ℕ) → to_message t s room ≡ written (schema t) room s
+pub message-under : (t : List ℕ) → table_verdict t ≡ Ok tt → (s : List ℕ) (room : ℕ) → to_message t s room ≡ written (schema t) room s
 unfolding to_message accepted need
 message-under t e s room = rw e
 
@@ -123,7 +116,7 @@ module _ (gs : List Group) (s : List ℕ) (room : ℕ) where
 
   -- the message of a sheet, written where it fits
   pub writes-within : (n : ℕ) (a : Within gs s n) → n ≤ room → (before left : List ℕ) → length before ≡ room → (r : ℕ)
-      → ((X : List ℕ) → sheet_w gs s ≡ wrote X [] [] → (left ≡ splice (length X) 0 X before) × (r ≡ length X)) → Writes (written gs room s) (Bytes r) before left
+      → ((X : List ℕ) → sheet_w gs s ≡ wrote X [] [] → (left ≡ splice (length X) 0 X before) × (r ≡ length X)) → Writes (written gs room s) (Ok r) before left
   writes-within n a l before left e r w =
       let x = w a.message a.makes in
       writes-it _ a.message r before left (written-fits a.message a.makes (omega (arith, a.most, l)) (omega (arith, a.most, a.small))) x.1 x.0
@@ -137,7 +130,7 @@ known-within t b u k n K =
     let x = trip.read-write (schema t) (sized t K.table) _ b K.sheet M in
     record { message = x.0; makes = x.1; most = x.2; small = K.small }
 
-pub unwritten : (x : Writing) (n p : ℕ) → Unwritten n p ≡ written_of x → x ≡ stopped n p
+pub unwritten : (x : Writing) (n p : ℕ) → Err (fault_at n p) ≡ written_of x → x ≡ stopped n p
 unfolding written_of
 unwritten (stopped n' p') n p e = cc
 unwritten (wrote X D r) n p e = let z : ◌≡◌ {A = ℕ} 0 1 = cc in absurd (omega arith)
@@ -149,11 +142,11 @@ pub record Shown (t b : List ℕ) (u : Under) (s before left : List ℕ) (n : �
   pub here : part n 0 left ≡ s
 
 pub shown : (t b : List ℕ) (u : Under) (s : List ℕ) → message_reading t b u ≡ done s [] → (n : ℕ) (before left : List ℕ)
-    → (r : Written) → r ≡ Bytes n → Writes (to_sheet t b u (length before)) r before left → Shown t b u s before left n
+    → (r : Result ℕ Fault) → r ≡ Ok n → Writes (to_sheet t b u (length before)) r before left → Shown t b u s before left n
 unfolding to_sheet sheet_in
 shown t b u s e n before left r is (w, l) = go (leb (length s) (length before)) refl (sym is ∙ rw e at w) (rw e at l)
   where
-    go : (c : Bool) → leb (length s) (length before) ≡ c → Bytes n ≡ written_of (need c (stopped 46 0) (wrote s [] [])) → left ≡ room_after (need c (stopped 46 0) (wrote s [] [])) before
+    go : (c : Bool) → leb (length s) (length before) ≡ c → Ok n ≡ written_of (need c (stopped 46 0) (wrote s [] [])) → left ≡ room_after (need c (stopped 46 0) (wrote s [] [])) before
         → Shown t b u s before left n
     go true q w l = unfold need written_of room_after in
         let fits : length s ≤ length before = leb-true _ _ q in
@@ -196,51 +189,51 @@ module _ (t b : List ℕ) (u : Under) (f i : ℕ) where
     span-read = rw (verdict-accepted t b u s m e)
 
   module _ (n p : ℕ) (e : message_reading t b u ≡ refused n p) where
-    pub number-refused : number_answer t b u f i ≡ NotRead n p
+    pub number-refused : number_answer t b u f i ≡ Err (fault_at n p)
     unfolding number_answer number_under
     number-refused = rw (verdict-refused t b u n p e)
 
-    pub part-refused : part_answer t b u f i ≡ Refusal n
+    pub part-refused : part_answer t b u f i ≡ Err (fault_at n 0)
     unfolding part_answer part_under
     part-refused = rw (verdict-refused t b u n p e)
 
-    pub bytes-refused : bytes_verdict t b u f i ≡ Refused n p
+    pub bytes-refused : bytes_verdict t b u f i ≡ Err (fault_at n p)
     unfolding bytes_verdict also
     bytes-refused = rw (verdict-refused t b u n p e)
 
-    pub span-refused : span_answer t b u f i ≡ NoBytes n p
+    pub span-refused : span_answer t b u f i ≡ Err (fault_at n p)
     unfolding span_answer span_under
     span-refused = rw (verdict-refused t b u n p e)
 
 -- THE TYPE OF A MESSAGE, AND ITS FIRST FIELDS
 
 module _ (t b : List ℕ) (u : Under) where
-  pub type-read : (s m : List ℕ) → message_reading t b u ≡ done s m → message_type t b u ≡ Id (type_id b)
+  pub type-read : (s m : List ℕ) → message_reading t b u ≡ done s m → message_type t b u ≡ Ok (type_id b)
   unfolding message_type type_under
   type-read s m e = rw (verdict-accepted t b u s m e)
 
-  pub type-refused : (n p : ℕ) → message_reading t b u ≡ refused n p → message_type t b u ≡ NoType n p
+  pub type-refused : (n p : ℕ) → message_reading t b u ≡ refused n p → message_type t b u ≡ Err (fault_at n p)
   unfolding message_type type_under
   type-refused n p e = rw (verdict-refused t b u n p e)
 
-  pub front_read : (id : ℕ) (x s m : List ℕ) → table_verdict t ≡ Accepted → message_reading t b u ≡ done s m → front_answer t b u id x ≡ front_in (schema t) b id x
+  pub front_read : (id : ℕ) (x s m : List ℕ) → table_verdict t ≡ Ok tt → message_reading t b u ≡ done s m → front_answer t b u id x ≡ front_in (schema t) b id x
   unfolding front_answer front_in front_under
   front_read id x s m a e =
       rw (type-read s m e, has-accepted t a id x, part-read t b u 0 0 s m e, number_read t b u 1 0 s m e, number_read t b u 2 0 s m e, number_read t b u 3 0 s m e)
 
-  pub front-refused : (id : ℕ) (x : List ℕ) (n p : ℕ) → message_reading t b u ≡ refused n p → front_answer t b u id x ≡ NoFront n p
+  pub front-refused : (id : ℕ) (x : List ℕ) (n p : ℕ) → message_reading t b u ≡ refused n p → front_answer t b u id x ≡ Err (fault_at n p)
   unfolding front_answer front_under
   front-refused id x n p e = rw (type-refused n p e)
 
 module _ (gs : List Group) (b : List ℕ) (id k : ℕ) (x : List ℕ) (own : k ≡ type_id b) where
-  pub other-type : (k ≡ id → ⊥) → Other ≡ front_in gs b id x
+  pub other-type : (k ≡ id → ⊥) → Ok None ≡ front_in gs b id x
   unfolding front_in need
   other-type n = rw (← own, ne_eqb k id n)
 
-  pub other-fields : has_under gs id x ≡ false → Other ≡ front_in gs b id x
+  pub other-fields : has_under gs id x ≡ false → Ok None ≡ front_in gs b id x
   unfolding front_in need
   other-fields n = rw (n, and-false)
 
-  pub front-is : k ≡ id → has_under gs id x ≡ true → Read (part_at b (item_of gs b 0 0)) (number_at b (item_of gs b 1 0)) (number_at b (item_of gs b 2 0)) (number_at b (item_of gs b 3 0)) ≡ front_in gs b id x
+  pub front-is : k ≡ id → has_under gs id x ≡ true → Ok (Some (record { first = (part_at b (item_of gs b 0 0)); second = (number_at b (item_of gs b 1 0)); third = (number_at b (item_of gs b 2 0)); fourth = (number_at b (item_of gs b 3 0)) })) ≡ front_in gs b id x
   unfolding front_in need
   front-is e h = rw (← own, eq-eqb k id e, h)

@@ -1,39 +1,32 @@
 -- No refusal of a public question has the number 0.
+use Rattle.settings.specs.declared.Ignored.{Ignored}
+use Rattle.schema.specs.declared.Fault.{Fault}
+use Rattle.schema.specs.Faults.{Verdict}
+use Rattle.std.proofs.Common.{Ok, Err, Some, None, Result, Option}
 use Prim.Native.Nat.{ℕ, zero, suc, ◌≤◌}
 use mathlib.Core.Path.{◌≡◌, subst}
 use mathlib.Core.Bool.{Bool, ◌&&◌}
 use mathlib.Core.List.{List, [], ◌∷◌}
 use native.Mathlib.Omega.{arith}
 use lib.Dec.{eqb}
-use Rattle.schema.specs.declared.Verdict.{Verdict}
-use Rattle.schema.specs.declared.Verdict.TheVariants.{Accepted, Refused}
 use lib.Ieee.{nan_bits, binary64}
 use Rattle.schema.specs.Schema.{member, Kind, plain, inline, indirect, static, dynamic, Field, Group}
 use Rattle.schema.specs.Table.{schema}
 use Rattle.fields.specs.declared.FieldShape.{FieldShape}
-use Rattle.fields.specs.declared.FieldShape.TheVariants.{Field as Shape, Refused as NoField}
 use Rattle.fields.specs.Fields.{shape_in, shape_under, shape_after, field_shape}
-use Rattle.settings.specs.declared.Setting.{Setting}
-use Rattle.settings.specs.declared.Setting.TheVariants.{Ignores, Refused as Unknown}
 use Rattle.settings.specs.Store.{store_verdict, setting_at, version_by, add_verdict}
 use Rattle.message.specs.Walk.{Reading}
 use Rattle.sheet.specs.Written.{Writing, stopped}
 use Rattle.sheet.specs.Rewritten.{sheet_in}
 use Rattle.sheet.specs.Rewritten as rewritten
 use Rattle.reading.specs.declared.Number.{Number}
-use Rattle.reading.specs.declared.Number.TheVariants.{Signed, Unsigned, Bool as Flag, Decimal, Float, NanBits, Refused as NotRead}
+use Rattle.reading.specs.declared.Number.TheVariants.{Signed, Unsigned, Bool as Flag, Decimal, Float, NanBits}
 use Rattle.reading.specs.declared.Part.{Part}
-use Rattle.reading.specs.declared.Part.TheVariants.{Refusal, Lies}
 use Rattle.reading.specs.Item.{Item, missing, item, sequence_item, value_item, field_item, item_from, item_of}
 use Rattle.reading.specs.Number.{unsigned_types, signed_types, float_of, decimal_of, number_of, number_at}
 use Rattle.reading.specs.Part.{part_of, part_at}
 use Rattle.reading.specs.Part as parts
 use Rattle.codec.specs.declared.Front.{Front}
-use Rattle.codec.specs.declared.Front.TheVariants.{Read, Other, Refused as NoFront}
-use Rattle.codec.specs.declared.TypeAnswer.{TypeAnswer}
-use Rattle.codec.specs.declared.TypeAnswer.TheVariants.{Id, Refused as NoType}
-use Rattle.codec.specs.declared.Span.{Span}
-use Rattle.codec.specs.declared.Span.TheVariants.{Bytes as Lie, Refused as NoBytes}
 use Rattle.opening.specs.Opening.{Under, message_reading, verdict_of, message_verdict}
 use Rattle.codec.specs.Answers.{to_sheet, to_message, rewriting, number_under, number_answer, bytes_verdict, span_of, span_under, span_answer, type_under, message_type, front_under, front_answer}
 use Rattle.codec.specs.Demands.{Numbered as AllNumbered}
@@ -53,14 +46,14 @@ item-from sw [] b at n i = omega arith
 item-from sw (f ∷ fs) b at zero i = in-need NumberedI _ (omega arith) (in-cond NumberedI f.sequence (in-need NumberedI _ (omega arith) tt) (in-need NumberedI _ (omega arith) tt))
 item-from sw (f ∷ fs) b at (suc n) i = item-from sw fs b _ n i
 
-abbrev NumberedN : Number → Type 0
+abbrev NumberedN : Result Number Fault → Type 0
 NumberedN (Signed x) = Unit
 NumberedN (Unsigned x) = Unit
 NumberedN (Flag x) = Unit
 NumberedN (Decimal e x) = Unit
 NumberedN (Float x) = Unit
 NumberedN (NanBits x) = Unit
-NumberedN (NotRead n p) = 1 ≤ n
+NumberedN (Err f) = 1 ≤ f.number
 
 float : (n : ℕ) → NumberedN (float_of n)
 unfolding float_of
@@ -73,14 +66,14 @@ number-at b (item f p) l =
     in-cond NumberedN (member f.type unsigned_types) tt (in-cond NumberedN (member f.type signed_types) tt (in-cond NumberedN (eqb f.type 9) (float _)
     (in-cond NumberedN (eqb f.type 10) tt (in-cond NumberedN (eqb f.type 11) tt (omega arith)))))
 
-number-under : (v : Verdict) (x : Number) → Numbered v → NumberedN x → NumberedN (number_under v x)
+number-under : (v : Verdict) (x : Result Number Fault) → Numbered v → NumberedN x → NumberedN (number_under v x)
 unfolding number_under
-number-under Accepted x a l = l
-number-under (Refused n p) x (refuses a) l = a
+number-under (Ok _) x a l = l
+number-under (Err f) x (refuses a) l = a
 
-abbrev NumberedP : Part → Type 0
-NumberedP (Refusal n) = 1 ≤ n
-NumberedP (Lies p n) = Unit
+abbrev NumberedP : Result Part Fault → Type 0
+NumberedP (Err f) = 1 ≤ f.number
+NumberedP (Ok x) = Unit
 
 part-at : (b : List ℕ) (x : Item) → NumberedI x → NumberedP (part_at b x)
 unfolding part_at
@@ -94,26 +87,26 @@ part-at b (item f p) l = go f.kind
     go (static g) = unfold part_of in omega arith
     go (dynamic g) = unfold part_of in tt
 
-part-verdict : (x : Part) → NumberedP x → Numbered (parts.verdict_of x)
+part-verdict : (x : Result Part Fault) → NumberedP x → Numbered (parts.verdict_of x)
 unfolding parts.verdict_of
-part-verdict (Refusal n) l = refuses l
-part-verdict (Lies p n) l = accepts
+part-verdict (Err f) l = refuses l
+part-verdict (Ok x) l = accepts
 
-abbrev NumberedS : Span → Type 0
-NumberedS (Lie p n) = Unit
-NumberedS (NoBytes n p) = 1 ≤ n
+abbrev NumberedS : Result Part Fault → Type 0
+NumberedS (Ok x) = Unit
+NumberedS (Err f) = 1 ≤ f.number
 
-span-under : (v : Verdict) (x : Part) → Numbered v → NumberedP x → NumberedS (span_under v x)
+span-under : (v : Verdict) (x : Result Part Fault) → Numbered v → NumberedP x → NumberedS (span_under v x)
 unfolding span_under span_of
-span-under Accepted (Refusal n) a l = l
-span-under Accepted (Lies p n) a l = tt
-span-under (Refused n p) x (refuses a) l = a
+span-under (Ok _) (Err f) a l = l
+span-under (Ok _) (Ok x) a l = tt
+span-under (Err f) x (refuses a) l = a
 
 -- A GROUP'S FIELDS, AND A MESSAGE'S FIRST
 
-abbrev NumberedF : FieldShape → Type 0
-NumberedF (Shape k o q z) = Unit
-NumberedF (NoField n p) = 1 ≤ n
+abbrev NumberedF : Result FieldShape Fault → Type 0
+NumberedF (Ok x) = Unit
+NumberedF (Err f) = 1 ≤ f.number
 
 shape-in : (fs : List Field) (n : ℕ) → NumberedF (shape_in fs n)
 unfolding shape_in
@@ -121,29 +114,29 @@ shape-in [] n = omega arith
 shape-in (f ∷ fs) zero = tt
 shape-in (f ∷ fs) (suc n) = shape-in fs n
 
-shape-after : (v : Verdict) (x : FieldShape) → NumberedF x → NumberedF (shape_after v x)
+shape-after : (v : Verdict) (x : Result FieldShape Fault) → NumberedF x → NumberedF (shape_after v x)
 unfolding shape_after
-shape-after Accepted x l = l
-shape-after (Refused n p) x l = omega arith
+shape-after (Ok _) x l = l
+shape-after (Err f) x l = omega arith
 
-abbrev NumberedT : TypeAnswer → Type 0
-NumberedT (Id k) = Unit
-NumberedT (NoType n p) = 1 ≤ n
+abbrev NumberedT : Result ℕ Fault → Type 0
+NumberedT (Ok k) = Unit
+NumberedT (Err f) = 1 ≤ f.number
 
 type-under : (v : Verdict) (b : List ℕ) → Numbered v → NumberedT (type_under v b)
 unfolding type_under
-type-under Accepted b a = tt
-type-under (Refused n p) b (refuses a) = a
+type-under (Ok _) b a = tt
+type-under (Err f) b (refuses a) = a
 
-abbrev NumberedO : Front → Type 0
-NumberedO (Read x y z w) = Unit
-NumberedO Other = Unit
-NumberedO (NoFront n p) = 1 ≤ n
+abbrev NumberedO : Result (Option Front) Fault → Type 0
+NumberedO (Ok (Some x)) = Unit
+NumberedO (Ok None) = Unit
+NumberedO (Err f) = 1 ≤ f.number
 
-front-under : (a : TypeAnswer) (id : ℕ) (has : Bool) (x : Part) (y z w : Number) → NumberedT a → NumberedO (front_under a id has x y z w)
+front-under : (a : Result ℕ Fault) (id : ℕ) (has : Bool) (x : Result Part Fault) (y z w : Result Number Fault) → NumberedT a → NumberedO (front_under a id has x y z w)
 unfolding front_under
-front-under (Id k) id has x y z w l = in-need NumberedO (eqb k id && has) tt tt
-front-under (NoType n p) id has x y z w l = l
+front-under (Ok k) id has x y z w l = in-need NumberedO (eqb k id && has) tt tt
+front-under (Err f) id has x y z w l = l
 
 -- THE QUESTIONS
 
@@ -162,9 +155,9 @@ unfolding rewritten.onward
 onto gs room (writes {F = s}) = sheet gs room s
 onto gs room (stops l) = stops l
 
-abbrev NumberedC : Setting → Type 0
-NumberedC (Ignores x) = Unit
-NumberedC (Unknown n p) = 1 ≤ n
+abbrev NumberedC : Result Ignored Fault → Type 0
+NumberedC (Ok x) = Unit
+NumberedC (Err f) = 1 ≤ f.number
 
 version-by : (st : List ℕ) (n : ℕ) → NumberedC (version_by st n)
 unfolding version_by

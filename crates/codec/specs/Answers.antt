@@ -1,17 +1,14 @@
 -- What the public questions answer, for every list of bytes, and what they leave in lent bytes.
-use Rattle.std.specs.Prelude.{◌≡◌, Bool, ◌&&◌, List, [], ℕ, ◌≤◌, length, eqb}
+use Rattle.schema.specs.declared.Fault.{Fault}
+use Rattle.std.specs.Prelude.{Ok, Err, Some, None, Result, Option, ◌≡◌, Bool, ◌&&◌, List, [], ℕ, ◌≤◌, length, eqb}
 use Rattle.wire.specs.Bytes.{splice}
-use Rattle.schema.specs.declared.Verdict.{Verdict}
-use Rattle.schema.specs.declared.Verdict.TheVariants.{Accepted, Refused}
-use Rattle.schema.specs.Faults.{need, also}
+use Rattle.schema.specs.Faults.{Verdict, fault_at, need, also}
 use Rattle.schema.specs.Schema.{Group}
 use Rattle.schema.specs.Table.{schema, table_verdict}
 use Rattle.fields.specs.Fields.{has_under, has_fields}
 use Rattle.meaning.specs.Conforms.{type_id}
 use Rattle.reading.specs.declared.Number.{Number}
-use Rattle.reading.specs.declared.Number.TheVariants.{Refused as NotRead}
 use Rattle.reading.specs.declared.Part.{Part}
-use Rattle.reading.specs.declared.Part.TheVariants.{Refusal, Lies}
 use Rattle.reading.specs.Item.{item_of}
 use Rattle.reading.specs.Number.{number_at}
 use Rattle.reading.specs.Part.{part_at}
@@ -21,20 +18,13 @@ use Rattle.sheet.specs.Written.{Writing, stopped, wrote, sheet_w, written}
 use Rattle.sheet.specs.Rewritten.{Rooms, sheet_in, onward}
 use Rattle.opening.specs.Opening.{accepted, Under, under, message_reading, message_verdict}
 use Rattle.codec.specs.declared.Front.{Front}
-use Rattle.codec.specs.declared.Front.TheVariants.{Read, Other, Refused as NoFront}
-use Rattle.codec.specs.declared.Span.{Span}
-use Rattle.codec.specs.declared.Span.TheVariants.{Bytes as Lie, Refused as NoBytes}
-use Rattle.codec.specs.declared.TypeAnswer.{TypeAnswer}
-use Rattle.codec.specs.declared.TypeAnswer.TheVariants.{Id, Refused as NoType}
-use Rattle.codec.specs.declared.Written.{Written}
-use Rattle.codec.specs.declared.Written.TheVariants.{Bytes, Refused as Unwritten}
 
 -- MESSAGE TO SHEET
 
 -- What a question that writes answers.
-unfoldable pub written_of : Writing → Written
-written_of (stopped n p) = Unwritten n p
-written_of (wrote X D r) = Bytes (length X)
+unfoldable pub written_of : Writing → Result ℕ Fault
+written_of (stopped n p) = Err (fault_at n p)
+written_of (wrote X D r) = Ok (length X)
 
 -- A room that is written to, afterwards: untouched on a refusal; else "its first bytes", and behind them what stood there.
 unfoldable pub room_after : Writing → List ℕ → List ℕ
@@ -42,7 +32,7 @@ room_after (stopped n p) room = room
 room_after (wrote X D r) room = splice (length X) 0 X room
 
 -- Both: the answer r, and what was in the room before and is left there.
-abbrev pub Writes : Writing → Written → List ℕ → List ℕ → Type 0
+abbrev pub Writes : Writing → Result ℕ Fault → List ℕ → List ℕ → Type 0
 Writes x r before left = (r ≡ written_of x) × (left ≡ room_after x before)
 
 -- The sheet of the message b, for a room of this length.
@@ -78,60 +68,47 @@ rewriting t b st c r = onward (schema t) r.output (to_sheet t b (under st c r.sc
 -- READING ONE FIELD
 -- "After the message's own faults: 28 no such field, 29 absent, 28 no such item, 48 other kind (each at place 0)."
 
-unfoldable pub number_under : Verdict → Number → Number
-number_under Accepted x = x
-number_under (Refused n p) x = NotRead n p
+unfoldable pub number_under : Verdict → Result Number Fault → Result Number Fault
+number_under (Ok _) x = x
+number_under (Err f) x = Err f
 
 -- Item i of field f, as a number.
-unfoldable pub number_answer : List ℕ → List ℕ → Under → ℕ → ℕ → Number
+unfoldable pub number_answer : List ℕ → List ℕ → Under → ℕ → ℕ → Result Number Fault
 number_answer t b u f i = number_under (message_verdict t b u) (number_at b (item_of (schema t) b f i))
 
--- A refused message has no part; the number does not matter there, since the twin question gives the message's own.
-unfoldable pub part_under : Verdict → Part → Part
-part_under Accepted x = x
-part_under (Refused n p) x = Refusal n
+unfoldable pub part_under : Verdict → Result Part Fault → Result Part Fault
+part_under (Ok _) x = x
+part_under (Err f) x = Err f
 
 -- "On any refusal it is the empty part, and a twin question gives the number."
-unfoldable pub part_answer : List ℕ → List ℕ → Under → ℕ → ℕ → Part
+unfoldable pub part_answer : List ℕ → List ℕ → Under → ℕ → ℕ → Result Part Fault
 part_answer t b u f i = part_under (message_verdict t b u) (part_at b (item_of (schema t) b f i))
 
 unfoldable pub bytes_verdict : List ℕ → List ℕ → Under → ℕ → ℕ → Verdict
 bytes_verdict t b u f i = also (message_verdict t b u) (part.verdict_of (part_at b (item_of (schema t) b f i)))
 
--- Where those bytes lie in the message, for callers to whom a part cannot be lent.
-unfoldable pub span_of : Part → Span
-span_of (Refusal n) = NoBytes n 0
-span_of (Lies p n) = Lie p n
-
-unfoldable pub span_under : Verdict → Part → Span
-span_under Accepted x = span_of x
-span_under (Refused n p) x = NoBytes n p
-
-unfoldable pub span_answer : List ℕ → List ℕ → Under → ℕ → ℕ → Span
-span_answer t b u f i = span_under (message_verdict t b u) (part_at b (item_of (schema t) b f i))
-
 -- THE TYPE OF A MESSAGE, AND ITS FIRST FIELDS
 -- For crates above: document 02, request 10, "The crate sees only what the lower one states."
 
-unfoldable pub type_under : Verdict → List ℕ → TypeAnswer
-type_under Accepted b = Id (type_id b)
-type_under (Refused n p) b = NoType n p
+unfoldable pub type_under : Verdict → List ℕ → Result ℕ Fault
+type_under (Ok _) b = Ok (type_id b)
+type_under (Err f) b = Err f
 
 -- The type id of the message b, or its first fault.
-unfoldable pub message_type : List ℕ → List ℕ → Under → TypeAnswer
+unfoldable pub message_type : List ℕ → List ℕ → Under → Result ℕ Fault
 message_type t b u = type_under (message_verdict t b u) b
 
 -- What the separate questions answer of a message of this type whose group has these fields (`has`): its first field as bytes, the next three as numbers.
-unfoldable pub front_under : TypeAnswer → ℕ → Bool → Part → Number → Number → Number → Front
-front_under (NoType n p) id has x y z w = NoFront n p
-front_under (Id k) id has x y z w = need (eqb k id && has) Other (Read x y z w)
+unfoldable pub front_under : Result ℕ Fault → ℕ → Bool → Result Part Fault → Result Number Fault → Result Number Fault → Result Number Fault → Result (Option Front) Fault
+front_under (Err f) id has x y z w = Err f
+front_under (Ok k) id has x y z w = need (eqb k id && has) (Ok None) (Ok (Some (record { first = x; second = y; third = z; fourth = w })))
 
-unfoldable pub front_answer : List ℕ → List ℕ → Under → ℕ → List ℕ → Front
+unfoldable pub front_answer : List ℕ → List ℕ → Under → ℕ → List ℕ → Result (Option Front) Fault
 front_answer t b u id signature =
     front_under (message_type t b u) id (has_fields t id signature) (part_answer t b u 0 0) (number_answer t b u 1 0) (number_answer t b u 2 0) (number_answer t b u 3 0)
 
 -- The same of an accepted message.
-unfoldable pub front_in : List Group → List ℕ → ℕ → List ℕ → Front
+unfoldable pub front_in : List Group → List ℕ → ℕ → List ℕ → Result (Option Front) Fault
 front_in gs b id signature =
-    need (eqb (type_id b) id && has_under gs id signature) Other
-    (Read (part_at b (item_of gs b 0 0)) (number_at b (item_of gs b 1 0)) (number_at b (item_of gs b 2 0)) (number_at b (item_of gs b 3 0)))
+    need (eqb (type_id b) id && has_under gs id signature) (Ok None)
+    (Ok (Some (record { first = (part_at b (item_of gs b 0 0)); second = (number_at b (item_of gs b 1 0)); third = (number_at b (item_of gs b 2 0)); fourth = (number_at b (item_of gs b 3 0)) })))

@@ -1,6 +1,5 @@
 -- What document 02's requests say of the questions, beyond the demands.
-use Rattle.std.specs.Prelude.{ℕ, ◌+◌, ◌<◌, ◌≤◌, ◌≡◌, true, List, [], length}
-use Rattle.schema.specs.declared.Verdict.TheVariants.{Accepted}
+use Rattle.std.specs.Prelude.{Ok, ℕ, ◌+◌, ◌<◌, ◌≤◌, ◌≡◌, true, List, [], length}
 use Rattle.schema.specs.Schema.{Field, kind_width, fields_of, width, find, under}
 use Rattle.schema.specs.Table.{schema, table_verdict}
 use Rattle.schema.specs.Forms.{Alike}
@@ -9,7 +8,6 @@ use Rattle.settings.specs.Store.{store_verdict, governing}
 use Rattle.message.specs.Walk.{done}
 use Rattle.meaning.specs.Conforms.{type_id}
 use Rattle.meaning.specs.Ignorable.{SameValues}
-use Rattle.reading.specs.declared.Part.TheVariants.{Lies}
 use Rattle.reading.specs.Item.{item, item_from, item_of}
 use Rattle.reading.specs.Listed.{Listed}
 use Rattle.reading.specs.Number.{number_at}
@@ -17,8 +15,7 @@ use Rattle.reading.specs.Part.{part_at}
 use Rattle.sheet.specs.Rewritten.{Rooms}
 use Rattle.codec.specs.Demands.{Means}
 use Rattle.opening.specs.Opening.{Under, message_reading, message_verdict, scratch_after}
-use Rattle.codec.specs.declared.TypeAnswer.TheVariants.{Id}
-use Rattle.codec.specs.Answers.{to_sheet, to_message, rewriting, number_answer, part_answer, bytes_verdict, span_answer, message_type, front_answer}
+use Rattle.codec.specs.Answers.{to_sheet, to_message, rewriting, number_answer, part_answer, bytes_verdict, message_type, front_answer}
 
 -- The group of the message b is a, or has a above it.
 abbrev pub Below : List ℕ → List ℕ → ℕ → Type 0
@@ -40,7 +37,7 @@ pub record SameAnswers (t u : List ℕ) : Type 0 where
   pub number : (b : List ℕ) (x : Under) (f i : ℕ) → number_answer t b x f i ≡ number_answer u b x f i
   pub bytes : (b : List ℕ) (x : Under) (f i : ℕ) → part_answer t b x f i ≡ part_answer u b x f i
   pub bytes-verdict : (b : List ℕ) (x : Under) (f i : ℕ) → bytes_verdict t b x f i ≡ bytes_verdict u b x f i
-  pub span : (b : List ℕ) (x : Under) (f i : ℕ) → span_answer t b x f i ≡ span_answer u b x f i
+  pub span : (b : List ℕ) (x : Under) (f i : ℕ) → part_answer t b x f i ≡ part_answer u b x f i
   pub shape : (id n : ℕ) → field_shape t id n ≡ field_shape u id n
   pub fields : (id : ℕ) (signature : List ℕ) → has_fields t id signature ≡ has_fields u id signature
   pub type : (b : List ℕ) (x : Under) → message_type t b x ≡ message_type u b x
@@ -48,8 +45,8 @@ pub record SameAnswers (t u : List ℕ) : Type 0 where
 
 -- Request 10, "The crate sees only what the lower one states": what it may take of a message b that has the sheet s.
 pub record Reads (t b : List ℕ) (u : Under) (s : List ℕ) : Type 0 where
-  pub table : table_verdict t ≡ Accepted
-  pub type : message_type t b u ≡ Id (type_id b)
+  pub table : table_verdict t ≡ Ok tt
+  pub type : message_type t b u ≡ Ok (type_id b)
   pub number : (n i : ℕ) → number_answer t b u n i ≡ number_at b (item_of (schema t) b n i)
   pub bytes : (n i : ℕ) → part_answer t b u n i ≡ part_at b (item_of (schema t) b n i)
   -- what is read lies in the message, and is what the sheet lists at its place
@@ -57,13 +54,13 @@ pub record Reads (t b : List ℕ) (u : Under) (s : List ℕ) : Type 0 where
   pub listed : (n i : ℕ) (f : Field) (p : ℕ) → item_of (schema t) b n i ≡ item f p → Listed (governing u.store u.customer) (schema t) b s n i f p
 
 pub record Claims : Type 0 where
-  pub supers : (t b : List ℕ) → table_verdict t ≡ Accepted → Supers t b
+  pub supers : (t b : List ℕ) → table_verdict t ≡ Ok tt → Supers t b
   -- request 7, "An ignored byte doesn't reach the sheet": two accepted messages that differ only in bytes of absent fields, pads and unused inline bytes
   -- have the same sheet, whatever settings each is accepted under
-  pub ignored : (t st st' b d s s' : List ℕ) (c c' : ℕ) → table_verdict t ≡ Accepted → store_verdict st ≡ Accepted → store_verdict st' ≡ Accepted
+  pub ignored : (t st st' b d s s' : List ℕ) (c c' : ℕ) → table_verdict t ≡ Ok tt → store_verdict st ≡ Ok tt → store_verdict st' ≡ Ok tt
       → Means t st c b s → Means t st' c' d s' → SameValues (schema t) b d → s ≡ s'
   -- "for two accepted tables, `GR` and `GW`, alike but for marks and widths"
-  pub forms : (t u : List ℕ) → table_verdict t ≡ Accepted → table_verdict u ≡ Accepted → Alike t u → SameAnswers t u
+  pub forms : (t u : List ℕ) → table_verdict t ≡ Ok tt → table_verdict u ≡ Ok tt → Alike t u → SameAnswers t u
   pub reads : (t b : List ℕ) (u : Under) (s : List ℕ) → message_reading t b u ≡ done s [] → Reads t b u s
   -- a part that is handed out is a part of the message
-  pub part-inside : (t b : List ℕ) (u : Under) (f i p n : ℕ) → part_answer t b u f i ≡ Lies p n → p + n ≤ length b
+  pub part-inside : (t b : List ℕ) (u : Under) (f i p n : ℕ) → part_answer t b u f i ≡ Ok (record { start = p; length = n }) → p + n ≤ length b

@@ -1,13 +1,11 @@
 -- The request's demands, sentence by sentence, over the definitions that the public questions' contracts cite (Answers.antt).
 -- proofs/Demands.antt shows each of them of every accepted table.
-use Rattle.std.specs.Prelude.{◌≡◌, ◌↔◌, List, [], ℕ, ◌+◌, ◌*◌, ◌≤◌, length, take}
+use Rattle.schema.specs.Faults.{fault_at}
+use Rattle.std.specs.Prelude.{Ok, Err, ◌≡◌, ◌↔◌, List, [], ℕ, ◌+◌, ◌*◌, ◌≤◌, length, take}
 use Rattle.wire.specs.Bytes.{le}
-use Rattle.schema.specs.declared.Verdict.TheVariants.{Accepted, Refused}
 use Rattle.schema.specs.Schema.{Field}
 use Rattle.schema.specs.Table.{schema, table_verdict}
-use Rattle.fields.specs.declared.FieldShape.TheVariants.{Refused as NoField}
 use Rattle.fields.specs.Fields.{field_shape}
-use Rattle.settings.specs.declared.Setting.TheVariants.{Refused as Unknown}
 use Rattle.settings.specs.Store.{store_verdict, governing, setting_at, add_verdict}
 use Rattle.message.specs.Walk.{done}
 use Rattle.meaning.specs.Conforms.{Conforms}
@@ -17,14 +15,10 @@ use Rattle.reading.specs.Item.{item, item_of}
 use Rattle.reading.specs.Listed.{Listed, OwnCases}
 use Rattle.reading.specs.Number.{number_at}
 use Rattle.reading.specs.Part.{part_at, bytes_in}
-use Rattle.reading.specs.declared.Number.TheVariants.{Refused as NotRead}
 use Rattle.sheet.specs.Written.{stopped, wrote, sheet_w}
 use Rattle.sheet.specs.Rewritten.{Rooms, Enough}
-use Rattle.codec.specs.declared.Front.TheVariants.{Refused as NoFront}
-use Rattle.codec.specs.declared.Span.TheVariants.{Refused as NoBytes}
-use Rattle.codec.specs.declared.TypeAnswer.TheVariants.{Refused as NoType}
 use Rattle.opening.specs.Opening.{Under, under, message_reading, message_verdict}
-use Rattle.codec.specs.Answers.{room_after, to_sheet, to_message, rewriting, number_answer, part_answer, bytes_verdict, span_answer, message_type, front_answer}
+use Rattle.codec.specs.Answers.{room_after, to_sheet, to_message, rewriting, number_answer, part_answer, bytes_verdict, message_type, front_answer}
 
 -- DEMAND 1
 -- "Any bytes may arrive as message, schema table or value sheet. Every public question answers or refuses with the first number and place that
@@ -32,25 +26,25 @@ use Rattle.codec.specs.Answers.{room_after, to_sheet, to_message, rewriting, num
 
 -- No refusal has the number 0, which for C is acceptance: of every public question.
 pub record Numbered (t b s : List ℕ) (u : Under) : Type 0 where
-  pub table : (p : ℕ) → table_verdict t ≡ Refused 0 p → ⊥
-  pub store : (p : ℕ) → store_verdict u.store ≡ Refused 0 p → ⊥
-  pub settings : (c v p : ℕ) → setting_at u.store c v ≡ Unknown 0 p → ⊥
-  pub addition : (c v absent pads unused p : ℕ) → add_verdict u.store c v absent pads unused ≡ Refused 0 p → ⊥
-  pub message : (p : ℕ) → message_verdict t b u ≡ Refused 0 p → ⊥
-  pub number : (field item p : ℕ) → number_answer t b u field item ≡ NotRead 0 p → ⊥
-  pub bytes : (field item p : ℕ) → bytes_verdict t b u field item ≡ Refused 0 p → ⊥
-  pub span : (field item p : ℕ) → span_answer t b u field item ≡ NoBytes 0 p → ⊥
-  pub shape : (id n p : ℕ) → field_shape t id n ≡ NoField 0 p → ⊥
-  pub type : (p : ℕ) → message_type t b u ≡ NoType 0 p → ⊥
-  pub front : (id : ℕ) (signature : List ℕ) (p : ℕ) → front_answer t b u id signature ≡ NoFront 0 p → ⊥
+  pub table : (p : ℕ) → table_verdict t ≡ Err (fault_at 0 p) → ⊥
+  pub store : (p : ℕ) → store_verdict u.store ≡ Err (fault_at 0 p) → ⊥
+  pub settings : (c v p : ℕ) → setting_at u.store c v ≡ Err (fault_at 0 p) → ⊥
+  pub addition : (c v absent pads unused p : ℕ) → add_verdict u.store c v absent pads unused ≡ Err (fault_at 0 p) → ⊥
+  pub message : (p : ℕ) → message_verdict t b u ≡ Err (fault_at 0 p) → ⊥
+  pub number : (field item p : ℕ) → number_answer t b u field item ≡ Err (fault_at 0 p) → ⊥
+  pub bytes : (field item p : ℕ) → bytes_verdict t b u field item ≡ Err (fault_at 0 p) → ⊥
+  pub span : (field item p : ℕ) → part_answer t b u field item ≡ Err (fault_at 0 p) → ⊥
+  pub shape : (id n p : ℕ) → field_shape t id n ≡ Err (fault_at 0 p) → ⊥
+  pub type : (p : ℕ) → message_type t b u ≡ Err (fault_at 0 p) → ⊥
+  pub front : (id : ℕ) (signature : List ℕ) (p : ℕ) → front_answer t b u id signature ≡ Err (fault_at 0 p) → ⊥
   pub to-sheet : (room p : ℕ) → to_sheet t b u room ≡ stopped 0 p → ⊥
   pub to-message : (room p : ℕ) → to_message t s room ≡ stopped 0 p → ⊥
   pub rewrite : (rooms : Rooms) (p : ℕ) → rewriting t b u.store u.customer rooms ≡ stopped 0 p → ⊥
 
 -- "A refusal hands out no field, and writes nothing but the working room that document 01 names": of any table t, message b, sheet s.
 pub record Demand1 (t b s : List ℕ) (u : Under) : Type 0 where
-  pub no_number : (n p : ℕ) → message_verdict t b u ≡ Refused n p → (field item : ℕ) → number_answer t b u field item ≡ NotRead n p
-  pub no_bytes : (field item n p : ℕ) → bytes_verdict t b u field item ≡ Refused n p → bytes_in b (part_answer t b u field item) ≡ []
+  pub no_number : (n p : ℕ) → message_verdict t b u ≡ Err (fault_at n p) → (field item : ℕ) → number_answer t b u field item ≡ Err (fault_at n p)
+  pub no_bytes : (field item n p : ℕ) → bytes_verdict t b u field item ≡ Err (fault_at n p) → bytes_in b (part_answer t b u field item) ≡ []
   pub no-sheet : (n p : ℕ) (room : List ℕ) → to_sheet t b u (length room) ≡ stopped n p → room_after (to_sheet t b u (length room)) room ≡ room
   pub no-message : (n p : ℕ) (output : List ℕ) → to_message t s (length output) ≡ stopped n p → room_after (to_message t s (length output)) output ≡ output
   pub no-rewriting : (st : List ℕ) (c n p : ℕ) (rooms : Rooms) (output : List ℕ) → rewriting t b st c rooms ≡ stopped n p → room_after (rewriting t b st c rooms) output ≡ output
@@ -77,10 +71,10 @@ Makes t s X = sheet_w (schema t) s ≡ wrote X [] []
 pub record Demand2 (t st : List ℕ) (c : ℕ) : Type 0 where
   -- "Under an accepted table, and with scratch as long as the message, a message is accepted exactly when it meets all strong and weak constraints of
   -- Blink Native beta4 as document 01 reads them, and its house rules"
-  pub accepted-exactly : (b : List ℕ) (scratch : ℕ) → length b ≤ scratch → (message_verdict t b (under st c scratch) ≡ Accepted) ↔ Conforms (governing st c) (schema t) b
+  pub accepted-exactly : (b : List ℕ) (scratch : ℕ) → length b ≤ scratch → (message_verdict t b (under st c scratch) ≡ Ok tt) ↔ Conforms (governing st c) (schema t) b
   -- "and its sheet then lists its values exactly": there is one, it is a record for each value that Conforms judges, in their order, and nothing else,
   -- and it is written wherever there is room for it
-  pub sheet : (b : List ℕ) (scratch : ℕ) → length b ≤ scratch → message_verdict t b (under st c scratch) ≡ Accepted → (s : List ℕ) × Means t st c b s
+  pub sheet : (b : List ℕ) (scratch : ℕ) → length b ≤ scratch → message_verdict t b (under st c scratch) ≡ Ok tt → (s : List ℕ) × Means t st c b s
   pub lists : (b s : List ℕ) → Means t st c b s → s ≡ sheet_of (schema t) b
   pub sheet-written : (b s : List ℕ) → Means t st c b s → (scratch room : ℕ) → length b ≤ scratch → length s ≤ room → to_sheet t b (under st c scratch) room ≡ wrote s [] []
   pub sheet-short : (b s : List ℕ) → Means t st c b s → length s ≤ 11 * length b
@@ -116,7 +110,7 @@ pub record OneForm (t st : List ℕ) (c : ℕ) (a s : List ℕ) : Type 0 where
   pub keeps : Means t st c form s
   -- request 7: "the rewritten message is accepted with nothing ignored", and under every other setting
   pub keeps-strictly : Means t [] 0 form s
-  pub keeps-anywhere : (st' : List ℕ) (c' : ℕ) → store_verdict st' ≡ Accepted → Means t st' c' form s
+  pub keeps-anywhere : (st' : List ℕ) (c' : ℕ) → store_verdict st' ≡ Ok tt → Means t st' c' form s
   -- "Rewriting it succeeds too and gives the same bytes again."
   pub again : (rooms : Rooms) → Enough rooms form → rewriting t form st c rooms ≡ wrote form [] []
   -- "Every message accepted under this table whose sheet equals A's, A among them, has at least as many bytes as the rewritten A."
@@ -133,5 +127,5 @@ pub record Demand3 (t st : List ℕ) (c : ℕ) : Type 0 where
 -- Demand 1 of all bytes; the others of every accepted table, and every customer of a store that passes.
 pub record Demands : Type 0 where
   pub first : (t b s : List ℕ) (u : Under) → Demand1 t b s u
-  pub second : (t st : List ℕ) (c : ℕ) → table_verdict t ≡ Accepted → store_verdict st ≡ Accepted → Demand2 t st c
-  pub third : (t st : List ℕ) (c : ℕ) → table_verdict t ≡ Accepted → store_verdict st ≡ Accepted → Demand3 t st c
+  pub second : (t st : List ℕ) (c : ℕ) → table_verdict t ≡ Ok tt → store_verdict st ≡ Ok tt → Demand2 t st c
+  pub third : (t st : List ℕ) (c : ℕ) → table_verdict t ≡ Ok tt → store_verdict st ≡ Ok tt → Demand3 t st c

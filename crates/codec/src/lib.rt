@@ -1,7 +1,8 @@
 // The public questions. Any bytes may arrive, so none has a `requires`.
 #![tactic(auto)]
 
-ghost use Rattle.std.specs.Prelude.{◌≡◌, ◌+◌, length};
+ghost use Rattle.std.specs.Prelude.{Ok, Err, ◌≡◌, ◌+◌, length};
+ghost use Rattle.schema.specs.Faults.{fault_at};
 ghost use Rattle.schema.specs.Table.{schema, table_verdict};
 ghost use Rattle.schema.specs.Layout.{Layout};
 ghost use Rattle.fields.specs.Fields.{field_shape, has_fields};
@@ -11,62 +12,31 @@ ghost use Rattle.sheet.specs.Rewritten.{onward};
 ghost use Rattle.reading.specs.Item.{Accepted};
 ghost use Rattle.reading.specs.Part.{bytes_in, start_of};
 ghost use Rattle.opening.specs.Opening.{Under, under, message_verdict, scratch_after, Known};
-ghost use Rattle.codec.specs.Answers.{written_of, room_after, Writes, to_sheet, to_message, Allowed, Within, rooms, rewriting, number_answer, part_answer, bytes_verdict, span_of, span_answer, message_type, front_answer, front_in};
+ghost use Rattle.codec.specs.Answers.{written_of, room_after, Writes, to_sheet, to_message, Allowed, Within, rooms, rewriting, number_answer, part_answer, bytes_verdict, message_type, front_answer, front_in};
 
 pub use fields::FieldShape;
-use message::Walked;
-use parsing::Parsed;
 pub use reading::{Number, Part};
-pub use schema::Verdict;
-pub use settings::{Ignored, Setting};
+pub use schema::Fault;
+pub use settings::Ignored;
 
-// How many bytes were written, or why none.
-#[derive(Clone, Copy)]
-pub enum Written {
-    Bytes(usize),
-    Refused { number: u8, place: usize },
-}
-
-// Where bytes lie in the message, or why there are none.
-#[derive(Clone, Copy)]
-pub enum Span {
-    Bytes { start: usize, length: usize },
-    Refused { number: u8, place: usize },
-}
-
-// The type id of an accepted message, or why there is none.
-#[derive(Clone, Copy)]
-pub enum TypeAnswer {
-    Id(u64),
-    Refused { number: u8, place: usize },
-}
-
-// A message's first field as bytes and the next three as numbers; that its type or its fields are not those that the
-// caller named; or why there are none.
-#[derive(Clone, Copy)]
-pub enum Front {
-    Read {
-        first: Part,
-        second: Number,
-        third: Number,
-        fourth: Number,
-    },
-    Other,
-    Refused {
-        number: u8,
-        place: usize,
-    },
+// A message's first field as bytes and the next three as numbers, each with why there is none.
+#[derive(Clone, Copy, Debug)]
+pub struct Front {
+    pub first: Result<Part, Fault>,
+    pub second: Result<Number, Fault>,
+    pub third: Result<Number, Fault>,
+    pub fourth: Result<Number, Fault>,
 }
 
 // Whether a schema table is accepted: faults 30 to 37, in their order.
-pub fn check_table(table: &[u8]) -> Verdict
+pub fn check_table(table: &[u8]) -> Result<(), Fault>
     ensures { result ≡ table_verdict table.now }
 {
     table::check_table(table)
 }
 
 // Field `field` of the group with this type id: 20, 2, 28.
-pub fn field_shape(table: &[u8], id: u64, field: usize) -> FieldShape
+pub fn field_shape(table: &[u8], id: u64, field: usize) -> Result<FieldShape, Fault>
     ensures { result ≡ field_shape table.now id field }
 {
     fields::field_shape(table, id, field)
@@ -80,14 +50,14 @@ pub fn has_fields(table: &[u8], id: u64, signature: &[u8]) -> bool
 }
 
 // Whether a settings store passes: 50.
-pub fn check_store(store: &[u8]) -> Verdict
+pub fn check_store(store: &[u8]) -> Result<(), Fault>
     ensures { result ≡ store_verdict store.now }
 {
     store::check_store(store)
 }
 
 // One version of a customer's settings: 50, 59.
-pub fn read_settings(store: &[u8], customer: u16, version: u16) -> Setting
+pub fn read_settings(store: &[u8], customer: u16, version: u16) -> Result<Ignored, Fault>
     ensures { result ≡ setting_at store.now customer version }
 {
     store::read_settings(store, customer, version)
@@ -101,7 +71,7 @@ pub fn add_settings(
     absent: u8,
     pads: u8,
     unused: u8,
-) -> Verdict
+) -> Result<(), Fault>
     ensures value { result ≡ add_verdict store.old customer version absent pads unused }
     ensures store_after { store.new ≡ store_after store.old customer version absent pads unused }
 {
@@ -115,7 +85,7 @@ pub fn check_message(
     customer: u16,
     message: &[u8],
     scratch: &mut [u8],
-) -> Verdict
+) -> Result<(), Fault>
     ensures value { result ≡ message_verdict table.now message.now (under store.now customer (length scratch.old)) }
     ensures scratch_after { scratch.new ≡ scratch_after table.now store.now message.now scratch.old }
 {
@@ -135,7 +105,7 @@ pub fn message_to_sheet(
     message: &[u8],
     scratch: &mut [u8],
     sheet: &mut [u8],
-) -> Written
+) -> Result<usize, Fault>
     ensures value { result ≡ written_of (to_sheet table.now message.now (under store.now customer (length scratch.old)) (length sheet.old)) }
     ensures scratch_after { scratch.new ≡ scratch_after table.now store.now message.now scratch.old }
     ensures sheet_after { sheet.new ≡ room_after (to_sheet table.now message.now (under store.now customer (length scratch.old)) (length sheet.old)) sheet.old }
@@ -149,7 +119,7 @@ pub fn message_to_sheet(
 }
 
 // The message of a sheet, at the start of `output`.
-pub fn sheet_to_message(table: &[u8], sheet: &[u8], output: &mut [u8]) -> Written
+pub fn sheet_to_message(table: &[u8], sheet: &[u8], output: &mut [u8]) -> Result<usize, Fault>
     ensures value { result ≡ written_of (to_message table.now sheet.now (length output.old)) }
     ensures output_after { output.new ≡ room_after (to_message table.now sheet.now (length output.old)) output.old }
 {
@@ -173,7 +143,7 @@ pub fn rewrite(
     scratch: &mut [u8],
     sheet: &mut [u8],
     output: &mut [u8],
-) -> Written
+) -> Result<usize, Fault>
     ensures value { result ≡ written_of (rewriting table.now message.now store.now customer (rooms scratch.old sheet.old output.old)) }
     ensures scratch_after { scratch.new ≡ scratch_after table.now store.now message.now scratch.old }
     ensures sheet_after { sheet.new ≡ room_after (to_sheet table.now message.now (under store.now customer (length scratch.old)) (length sheet.old)) sheet.old }
@@ -198,7 +168,7 @@ pub fn read_number(
     scratch: &mut [u8],
     field: usize,
     item: usize,
-) -> Number
+) -> Result<Number, Fault>
     ensures value { result ≡ number_answer table.now message.now (under store.now customer (length scratch.old)) field item }
     ensures scratch_after { scratch.new ≡ scratch_after table.now store.now message.now scratch.old }
 {
@@ -242,7 +212,7 @@ pub fn read_bytes_verdict(
     scratch: &mut [u8],
     field: usize,
     item: usize,
-) -> Verdict
+) -> Result<(), Fault>
     ensures value { result ≡ bytes_verdict table.now message.now (under store.now customer (length scratch.old)) field item }
     ensures scratch_after { scratch.new ≡ scratch_after table.now store.now message.now scratch.old }
 {
@@ -265,8 +235,8 @@ pub fn find_bytes(
     scratch: &mut [u8],
     field: usize,
     item: usize,
-) -> Span
-    ensures value { result ≡ span_answer table.now message.now (under store.now customer (length scratch.old)) field item }
+) -> Result<Part, Fault>
+    ensures value { result ≡ part_answer table.now message.now (under store.now customer (length scratch.old)) field item }
     ensures scratch_after { scratch.new ≡ scratch_after table.now store.now message.now scratch.old }
 {
     let mut index = [0u16; 322];
@@ -286,7 +256,7 @@ pub fn message_type(
     customer: u16,
     message: &[u8],
     scratch: &mut [u8],
-) -> TypeAnswer
+) -> Result<u64, Fault>
     ensures value { result ≡ message_type table.now message.now (under store.now customer (length scratch.old)) }
     ensures scratch_after { scratch.new ≡ scratch_after table.now store.now message.now scratch.old }
 {
@@ -307,7 +277,7 @@ pub fn read_front(
     scratch: &mut [u8],
     id: u64,
     signature: &[u8],
-) -> Front
+) -> Result<Option<Front>, Fault>
     ensures value { result ≡ front_answer table.now message.now (under store.now customer (length scratch.old)) id signature.now }
     ensures scratch_after { scratch.new ≡ scratch_after table.now store.now message.now scratch.old }
 {
@@ -320,7 +290,7 @@ pub fn read_front(
 }
 
 // The first four fields of an accepted message.
-fn front_of(table: &[u8], index: &[u16], message: &[u8], id: u64, signature: &[u8]) -> Front
+fn front_of(table: &[u8], index: &[u16], message: &[u8], id: u64, signature: &[u8]) -> Result<Option<Front>, Fault>
     requires { (Layout table.now index.now) × (Accepted lax table.now message.now) }
     ensures { result ≡ front_in (schema table.now) message.now id signature.now }
 {
@@ -338,17 +308,8 @@ fn front_of(table: &[u8], index: &[u16], message: &[u8], id: u64, signature: &[u
     }
 }
 
-fn span_of(part: Part) -> Span
-    ensures { result ≡ span_of part }
-{
-    match part {
-        Part::Refusal { number } => Span::Refused { number, place: 0 },
-        Part::Lies { start, length } => Span::Bytes { start, length },
-    }
-}
-
 // The sheet, of `size` bytes, of an accepted message: 46 where it does not fit the room.
-fn sheet_of(table: &[u8], index: &[u16], message: &[u8], size: usize, sheet: &mut [u8]) -> Written
+fn sheet_of(table: &[u8], index: &[u16], message: &[u8], size: usize, sheet: &mut [u8]) -> Result<usize, Fault>
     requires { (u : Under) × Known table.now message.now u index.now size }
     ensures { (u : Under) → Known table.now message.now u index.now size → Writes (to_sheet table.now message.now u (length sheet.old)) result sheet.old sheet.new }
 {
@@ -362,8 +323,8 @@ fn sheet_of(table: &[u8], index: &[u16], message: &[u8], size: usize, sheet: &mu
 }
 
 // The message of a sheet, under an accepted table.
-fn message_of(table: &[u8], index: &[u16], sheet: &[u8], output: &mut [u8]) -> Written
-    requires { (table_verdict table.now ≡ Verdict.Accepted) × (Layout table.now index.now) }
+fn message_of(table: &[u8], index: &[u16], sheet: &[u8], output: &mut [u8]) -> Result<usize, Fault>
+    requires { (table_verdict table.now ≡ Ok tt) × (Layout table.now index.now) }
     ensures { Writes (written (schema table.now) (length output.old) sheet.now) result output.old output.new }
 {
     let parsed = parsing::check_sheet(table, index, sheet);
@@ -374,7 +335,7 @@ fn message_of(table: &[u8], index: &[u16], sheet: &[u8], output: &mut [u8]) -> W
 }
 
 // The message of an allowed sheet, of `size` bytes: 47 where it does not fit the output, or is too long.
-fn fit_message(table: &[u8], index: &[u16], sheet: &[u8], size: usize, output: &mut [u8]) -> Written
+fn fit_message(table: &[u8], index: &[u16], sheet: &[u8], size: usize, output: &mut [u8]) -> Result<usize, Fault>
     requires { (Layout table.now index.now) × (Allowed (schema table.now) sheet.now size) }
     ensures { Writes (written (schema table.now) (length output.old) sheet.now) result output.old output.new }
 {
@@ -387,8 +348,8 @@ fn fit_message(table: &[u8], index: &[u16], sheet: &[u8], size: usize, output: &
     Written::Bytes(writing::write_message(table, index, sheet, output))
 }
 
-fn too_long() -> Written
-    ensures { result ≡ Written.Refused 47 0 }
+fn too_long() -> Result<usize, Fault>
+    ensures { result ≡ Err (fault_at 47 0) }
 {
     Written::Refused {
         number: 47,
@@ -404,7 +365,7 @@ fn rewrite_under(
     size: usize,
     sheet: &mut [u8],
     output: &mut [u8],
-) -> Written
+) -> Result<usize, Fault>
     requires { (u : Under) × Known table.now message.now u index.now size }
     ensures { (u : Under) → Known table.now message.now u index.now size → (Writes (onward (schema table.now) (length output.old) (to_sheet table.now message.now u (length sheet.old))) result output.old output.new) × (sheet.new ≡ room_after (to_sheet table.now message.now u (length sheet.old)) sheet.old) }
 {
@@ -417,8 +378,8 @@ fn rewrite_under(
 
 // The message of an accepted message's sheet. Of all messages with that sheet it is a shortest one, so that an output as
 // long as the message that there was, of `most` bytes, needs no count.
-fn shorten(table: &[u8], index: &[u16], most: usize, sheet: &[u8], output: &mut [u8]) -> Written
-    requires { (table_verdict table.now ≡ Verdict.Accepted) × (Layout table.now index.now) × (Within (schema table.now) sheet.now most) }
+fn shorten(table: &[u8], index: &[u16], most: usize, sheet: &[u8], output: &mut [u8]) -> Result<usize, Fault>
+    requires { (table_verdict table.now ≡ Ok tt) × (Layout table.now index.now) × (Within (schema table.now) sheet.now most) }
     ensures { Writes (written (schema table.now) (length output.old) sheet.now) result output.old output.new }
 {
     if output.len() < most {

@@ -19,7 +19,7 @@ pub fn end_line() {
 }
 
 // A fault's number and place, both 0 where nothing is refused.
-pub fn verdict(v: Verdict) {
+pub fn verdict(v: Result<(), Fault>) {
     match v {
         Verdict::Accepted => fault(0, 0),
         Verdict::Refused { number, place } => fault(number as usize, place),
@@ -27,7 +27,7 @@ pub fn verdict(v: Verdict) {
 }
 
 // Also how many bytes were written.
-pub fn written(w: Written) {
+pub fn written(w: Result<usize, Fault>) {
     match w {
         Written::Bytes(n) => three(0, 0, n),
         Written::Refused { number, place } => three(number as usize, place, 0),
@@ -41,7 +41,7 @@ fn three(number: usize, place: usize, length: usize) {
 }
 
 // The flags of a setting, all 0 on a refusal.
-pub fn setting(s: Setting) {
+pub fn setting(s: Result<Ignored, Fault>) {
     match s {
         Setting::Ignores { ignored } => {
             fault(0, 0);
@@ -66,7 +66,7 @@ fn flag(set: bool) {
 }
 
 // Where bytes lie in the message, and how many they are: after a space, and both 0 on a refusal.
-pub fn span(s: Span) {
+pub fn span(s: Result<Part, Fault>) {
     match s {
         Span::Bytes { start, length } => two(start, length),
         Span::Refused { number, place } => two(0, 0),
@@ -81,7 +81,7 @@ fn two(start: usize, length: usize) {
 }
 
 // What kind of number it is and its value; or the fault, and that it is refused.
-pub fn answer(n: Number) {
+pub fn answer(n: Result<Number, Fault>) {
     match n {
         Number::Signed(x) => signed(b"signed ", x),
         Number::Unsigned(x) => unsigned(b"unsigned ", x),

@@ -1,4 +1,6 @@
 -- The claims of specs/Claims.antt, shown.
+use Rattle.schema.specs.declared.Fault.{Fault}
+use Rattle.std.proofs.Common.{Ok, Err, Result}
 use Prim.Native.Nat.{ℕ, zero, suc, ◌+◌, ◌*◌, ◌<◌, ◌≤◌}
 use mathlib.Core.Path.{◌≡◌, refl, ap, ◌∙◌}
 use mathlib.Core.Bool.{Bool, true, false, cond}
@@ -8,14 +10,11 @@ use lib.ListN.{length, drop, get_or}
 use lib.Dec.{eqb}
 use Rattle.wire.specs.Bytes.{same}
 use Rattle.wire.proofs.Laws.{same-eq, same_refl}
-use Rattle.schema.specs.declared.Verdict.{Verdict}
-use Rattle.schema.specs.declared.Verdict.TheVariants.{Accepted, Refused}
-use Rattle.schema.specs.Faults.{need}
+use Rattle.schema.specs.Faults.{Verdict, fault_at, need}
 use Rattle.schema.specs.Schema.{Field, fields_of, find, known}
 use Rattle.schema.specs.Table.{group_marked, field_at, fields_at, field_size, reference, group_at, groups_from, enums, record_count, schema, table_verdict}
 use Rattle.schema.proofs.Depth.{and_both}
 use Rattle.fields.specs.declared.FieldShape.{FieldShape}
-use Rattle.fields.specs.declared.FieldShape.TheVariants.{Refused as NoField}
 use Rattle.fields.specs.Fields.{size_of, shape_in, shape_under, shape_after, field_shape, signature_of, has_under, has_after, has_fields}
 use Rattle.fields.specs.Claims.{Typed, Named, AllNamed, FieldsClaims}
 
@@ -53,7 +52,7 @@ bit false = refl
 whole : (n : ℕ) → 3 * suc n ≡ suc (suc (suc (3 * n)))
 whole n = omega arith
 
-module _ (a b c : ℕ) (x : List ℕ) (n : ℕ) (y : FieldShape) where
+module _ (a b c : ℕ) (x : List ℕ) (n : ℕ) (y : Result FieldShape Fault) where
   later : Named x n y → Named (a ∷ (b ∷ (c ∷ x))) (suc n) y
   later e = rw (third n 1, third n 2, whole n) e
 
@@ -67,7 +66,7 @@ each-named [] n h = absurd (omega arith)
 each-named (f ∷ fs) zero h = (size_of f.type f.kind, rw (bit f.optional, bit f.sequence))
 each-named (f ∷ fs) (suc n) h = later f.type (cond f.optional 1 0) (cond f.sequence 1 0) (signature_of fs) n (shape_in fs n) (each-named fs n (omega arith))
 
-none-behind : (fs : List Field) (n : ℕ) → length fs ≤ n → shape_in fs n ≡ NoField 28 0
+none-behind : (fs : List Field) (n : ℕ) → length fs ≤ n → shape_in fs n ≡ Err (fault_at 28 0)
 unfolding shape_in
 none-behind [] n h = refl
 none-behind (f ∷ fs) zero h = absurd (omega arith)
@@ -87,7 +86,7 @@ flagged c (suc (suc k)) h e = absurd (omega arith)
 abbrev Flags : List ℕ → ℕ → Type 0
 Flags x m = (n : ℕ) → n < m → (get_or x (3 * n + 1) 0 ≤ 1) × (get_or x (3 * n + 2) 0 ≤ 1)
 
-signed : (m : ℕ) (fs : List Field) (x : List ℕ) → length x ≡ 3 * m → Flags x m → ((n : ℕ) → n < m → Named x n (shape_in fs n)) → shape_in fs m ≡ NoField 28 0 → signature_of fs ≡ x
+signed : (m : ℕ) (fs : List Field) (x : List ℕ) → length x ≡ 3 * m → Flags x m → ((n : ℕ) → n < m → Named x n (shape_in fs n)) → shape_in fs m ≡ Err (fault_at 28 0) → signature_of fs ≡ x
 unfolding signature_of shape_in
 signed zero [] [] l flags each last = refl
 signed zero (f ∷ fs) [] l flags each last = let z : ◌≡◌ {A = ℕ} 0 1 = cc in absurd (omega arith)
@@ -107,22 +106,22 @@ signed (suc m) (f ∷ fs) (a ∷ (b ∷ (c ∷ x))) l flags each last =
 
 -- THE QUESTIONS
 
-has-true : (v : Verdict) (c : Bool) → has_after v c ≡ true → (v ≡ Accepted) × (c ≡ true)
+has-true : (v : Verdict) (c : Bool) → has_after v c ≡ true → (v ≡ Ok tt) × (c ≡ true)
 unfolding has_after
-has-true Accepted c e = (refl, e)
-has-true (Refused n p) c e = let z : ◌≡◌ {A = ℕ} 0 1 = cc in absurd (omega arith)
+has-true (Ok _) c e = (refl, e)
+has-true (Err f) c e = let z : ◌≡◌ {A = ℕ} 0 1 = cc in absurd (omega arith)
 
-only-28 : (v : Verdict) (k : Bool) (y : FieldShape) → shape_after v (need k (NoField 2 0) y) ≡ NoField 28 0 → (v ≡ Accepted) × (k ≡ true) × (y ≡ NoField 28 0)
+only-28 : (v : Verdict) (k : Bool) (y : Result FieldShape Fault) → shape_after v (need k (Err (fault_at 2 0)) y) ≡ Err (fault_at 28 0) → (v ≡ Ok tt) × (k ≡ true) × (y ≡ Err (fault_at 28 0))
 unfolding shape_after need
-only-28 Accepted true y e = (refl, refl, e)
-only-28 Accepted false y e = let z : ◌≡◌ {A = ℕ} 2 28 = cc in absurd (omega (arith, z))
-only-28 (Refused n p) k y e = let z : ◌≡◌ {A = ℕ} 20 28 = cc in absurd (omega (arith, z))
+only-28 (Ok _) true y e = (refl, refl, e)
+only-28 (Ok _) false y e = let z : ◌≡◌ {A = ℕ} 2 28 = cc in absurd (omega (arith, z))
+only-28 (Err f) k y e = let z : ◌≡◌ {A = ℕ} 20 28 = cc in absurd (omega (arith, z))
 
 module _ (t : List ℕ) (id m : ℕ) (x : List ℕ) (l : length x ≡ 3 * m) where
   abbrev fs : List Field
   fs = fields_of (schema t) (find (schema t) id)
 
-  module _ (a : table_verdict t ≡ Accepted) (k : known (schema t) id ≡ true) where
+  module _ (a : table_verdict t ≡ Ok tt) (k : known (schema t) id ≡ true) where
     shape_is : (n : ℕ) → field_shape t id n ≡ shape_in fs n
     unfolding field_shape shape_after shape_under need
     shape_is n = rw (a, k)

@@ -1,4 +1,5 @@
 -- A group's fields, by their records in the table.
+use Rattle.std.proofs.Common.{Ok, Err}
 use Prim.Native.Nat.{ℕ, zero, suc, ◌+◌, ◌-◌, ◌*◌, ◌<◌, ◌≤◌}
 use mathlib.Core.Path.{◌≡◌, refl, sym, ap, ◌∙◌}
 use mathlib.Core.Bool.{Bool, true, false, cond, ◌&&◌}
@@ -11,19 +12,17 @@ use lib.Dec.{eqb, leb}
 use borrow.Author.Tests.{le-ltb, lt-ltb, ne_eqb, eqb-true}
 use Rattle.wire.specs.Bytes.{same}
 use Rattle.wire.proofs.Laws.{drop_more, same-eq}
-use Rattle.schema.specs.declared.Verdict.TheVariants.{Accepted, Refused}
-use Rattle.schema.specs.Faults.{need}
+use Rattle.schema.specs.Faults.{fault_at, need}
 use Rattle.schema.specs.Schema.{Test, any, flag, below, symbol, Kind, plain, inline, indirect, Field, fields_of, find, known}
 use Rattle.schema.specs.Table.{scalar_width, field_count, kind_of, field_at, fields_at, enums, schema, table_verdict}
 use Rattle.schema.specs.Layout.{group_place, group_total, Placed, Layout}
 use Rattle.schema.proofs.Groups.{placed-fields, find-whole, known_is}
-use Rattle.fields.specs.declared.FieldShape.TheVariants.{Refused as NoField}
 use Rattle.fields.specs.Fields.{size_of, shape_of, shape_in, shape_under, shape_after, field_shape, signature_of, has_under, has_after, has_fields}
 
 -- THE TABLE'S OWN FAULTS
 
-module _ (t : List ℕ) (n p : ℕ) (e : Refused n p ≡ table_verdict t) where
-  pub shape-20 : (id f : ℕ) → field_shape t id f ≡ NoField 20 0
+module _ (t : List ℕ) (n p : ℕ) (e : Err (fault_at n p) ≡ table_verdict t) where
+  pub shape-20 : (id f : ℕ) → field_shape t id f ≡ Err (fault_at 20 0)
   unfolding field_shape shape_after
   shape-20 id f = rw (← e)
 
@@ -31,7 +30,7 @@ module _ (t : List ℕ) (n p : ℕ) (e : Refused n p ≡ table_verdict t) where
   unfolding has_fields has_after
   has-none id x = rw (← e)
 
-module _ (t : List ℕ) (e : table_verdict t ≡ Accepted) where
+module _ (t : List ℕ) (e : table_verdict t ≡ Ok tt) where
   pub shape-accepted : (id f : ℕ) → field_shape t id f ≡ shape_under (schema t) id f
   unfolding field_shape shape_after
   shape-accepted id f = rw e
@@ -43,7 +42,7 @@ module _ (t : List ℕ) (e : table_verdict t ≡ Accepted) where
 -- FIELDS IN A ROW
 
 module _ (es : List (List ℕ)) (t : List ℕ) where
-  shape-past : (n f p : ℕ) → n ≤ f → shape_in (fields_at es n (drop p t)) f ≡ NoField 28 0
+  shape-past : (n f p : ℕ) → n ≤ f → shape_in (fields_at es n (drop p t)) f ≡ Err (fault_at 28 0)
   unfolding shape_in fields_at
   shape-past zero f p h = refl
   shape-past (suc n) zero p h = absurd (omega arith)
@@ -71,7 +70,7 @@ module _ (t k : List ℕ) (P : Layout t k) (n g id : ℕ) (all : n ≡ group_tot
     unknown : known (schema t) id ≡ false
     unknown = known_is (schema t) id g group-is ∙ le-ltb g (length (schema t)) (omega (arith, h, all, P.total))
 
-    pub shape-2 : (f : ℕ) → NoField 2 0 ≡ shape_under (schema t) id f
+    pub shape-2 : (f : ℕ) → Err (fault_at 2 0) ≡ shape_under (schema t) id f
     unfolding shape_under need
     shape-2 f = rw unknown
 
@@ -101,7 +100,7 @@ module _ (t k : List ℕ) (P : Layout t k) (n g id : ℕ) (all : n ≡ group_tot
       unfolding shape_under need
       shape-known f = rw (there, fields-are)
 
-      pub shape-28 : (f : ℕ) → c ≤ f → NoField 28 0 ≡ shape_under (schema t) id f
+      pub shape-28 : (f : ℕ) → c ≤ f → Err (fault_at 28 0) ≡ shape_under (schema t) id f
       shape-28 f l = sym (shape-known f ∙ shape-past (enums t) t c f (r + 16) l)
 
       pub shape-found : (f : ℕ) → f < c → shape_of (field_at (enums t) (drop (r + 16 + 16 * f) t)) ≡ shape_under (schema t) id f

@@ -1,14 +1,12 @@
 -- What a group's fields are, as the records of an accepted table say.
 -- Document 02, request 10: "The crate sees only what the lower one states", so a crate above asks for it.
-use Rattle.std.specs.Prelude.{Bool, false, cond, ◌&&◌, List, [], ◌∷◌, ℕ, zero, suc, eqb}
+use Rattle.schema.specs.declared.Fault.{Fault}
+use Rattle.std.specs.Prelude.{Ok, Err, Result, Bool, false, cond, ◌&&◌, List, [], ◌∷◌, ℕ, zero, suc, eqb}
 use Rattle.wire.specs.Bytes.{same}
-use Rattle.schema.specs.declared.Verdict.{Verdict}
-use Rattle.schema.specs.declared.Verdict.TheVariants.{Accepted, Refused}
-use Rattle.schema.specs.Faults.{need}
+use Rattle.schema.specs.Faults.{Verdict, fault_at, need}
 use Rattle.schema.specs.Schema.{Kind, plain, inline, indirect, static, dynamic, Field, Group, fields_of, find, known}
 use Rattle.schema.specs.Table.{schema, table_verdict}
 use Rattle.fields.specs.declared.FieldShape.{FieldShape}
-use Rattle.fields.specs.declared.FieldShape.TheVariants.{Field as Shape, Refused as NoField}
 
 -- ONE FIELD
 
@@ -20,25 +18,25 @@ size_of type (indirect u) = 0
 size_of type (static g) = 0
 size_of type (dynamic g) = 0
 
-abbrev pub shape_of : Field → FieldShape
-shape_of f = Shape f.type f.optional f.sequence (size_of f.type f.kind)
+abbrev pub shape_of : Field → Result FieldShape Fault
+shape_of f = Ok (record { number = f.type; optional = f.optional; sequence = f.sequence; size = size_of f.type f.kind })
 
 -- Field n of these: 28 where there is none.
-unfoldable pub shape_in : List Field → ℕ → FieldShape
-shape_in [] n = NoField 28 0
+unfoldable pub shape_in : List Field → ℕ → Result FieldShape Fault
+shape_in [] n = Err (fault_at 28 0)
 shape_in (f ∷ fs) zero = shape_of f
 shape_in (f ∷ fs) (suc n) = shape_in fs n
 
 -- Field n of the group with this id: 2 where the table has none.
-unfoldable pub shape_under : List Group → ℕ → ℕ → FieldShape
-shape_under gs id n = need (known gs id) (NoField 2 0) (shape_in (fields_of gs (find gs id)) n)
+unfoldable pub shape_under : List Group → ℕ → ℕ → Result FieldShape Fault
+shape_under gs id n = need (known gs id) (Err (fault_at 2 0)) (shape_in (fields_of gs (find gs id)) n)
 
 -- "20 first", each at place 0.
-unfoldable pub shape_after : Verdict → FieldShape → FieldShape
-shape_after Accepted x = x
-shape_after (Refused n p) x = NoField 20 0
+unfoldable pub shape_after : Verdict → Result FieldShape Fault → Result FieldShape Fault
+shape_after (Ok _) x = x
+shape_after (Err f) x = Err (fault_at 20 0)
 
-unfoldable pub field_shape : List ℕ → ℕ → ℕ → FieldShape
+unfoldable pub field_shape : List ℕ → ℕ → ℕ → Result FieldShape Fault
 field_shape t id n = shape_after (table_verdict t) (shape_under (schema t) id n)
 
 -- ALL FIELDS
@@ -53,8 +51,8 @@ unfoldable pub has_under : List Group → ℕ → List ℕ → Bool
 has_under gs id signature = known gs id && same (signature_of (fields_of gs (find gs id))) signature
 
 unfoldable pub has_after : Verdict → Bool → Bool
-has_after Accepted x = x
-has_after (Refused n p) x = false
+has_after (Ok _) x = x
+has_after (Err f) x = false
 
 unfoldable pub has_fields : List ℕ → ℕ → List ℕ → Bool
 has_fields t id signature = has_after (table_verdict t) (has_under (schema t) id signature)

@@ -1,34 +1,28 @@
 // What a group's fields are, for callers that must know it before they read them.
 #![tactic(auto)]
 
-ghost use Rattle.std.specs.Prelude.{◌≡◌, cond, ◌&&◌, List, ℕ, ◌+◌, ◌*◌, ◌≤◌, length, drop, get_or, eqb};
+ghost use Rattle.std.specs.Prelude.{Ok, Err, ◌≡◌, cond, ◌&&◌, List, ℕ, ◌+◌, ◌*◌, ◌≤◌, length, drop, get_or, eqb};
 ghost use Rattle.wire.specs.Bytes.{same};
+ghost use Rattle.schema.specs.Faults.{fault_at};
 ghost use Rattle.schema.specs.Table.{schema, field_at, fields_at};
 ghost use Rattle.schema.specs.Layout.{Layout};
 ghost use Rattle.fields.specs.Fields.{size_of, shape_of, shape_under, field_shape, signature_of, has_under, has_fields};
 
-use schema::Verdict;
+use schema::Fault;
 
-// A field: the number of its type, whether it is optional, whether it is a sequence, and its record's size; or why
-// there is none.
-#[derive(Clone, Copy)]
-pub enum FieldShape {
-    Field {
-        number: u8,
-        optional: bool,
-        sequence: bool,
-        size: u8,
-    },
-    Refused {
-        number: u8,
-        place: usize,
-    },
+// A field: the number of its type, whether it is optional, whether it is a sequence, and its record's size.
+#[derive(Clone, Copy, Debug, PartialEq, Eq)]
+pub struct FieldShape {
+    pub number: u8,
+    pub optional: bool,
+    pub sequence: bool,
+    pub size: u8,
 }
 
 // ONE FIELD
 
 // Field `field` of the group with this type id: 20, 2, 28.
-pub fn field_shape(table: &[u8], id: u64, field: usize) -> FieldShape
+pub fn field_shape(table: &[u8], id: u64, field: usize) -> Result<FieldShape, Fault>
     ensures { result ≡ field_shape table.now id field }
 {
     let mut index = [0u16; 322];
@@ -39,14 +33,14 @@ pub fn field_shape(table: &[u8], id: u64, field: usize) -> FieldShape
     }
 }
 
-fn refused(number: u8) -> FieldShape
-    ensures { result ≡ FieldShape.Refused number 0 }
+fn refused(number: u8) -> Result<FieldShape, Fault>
+    ensures { result ≡ Err (fault_at number 0) }
 {
     FieldShape::Refused { number, place: 0 }
 }
 
 // The same under an accepted table.
-fn shape_under(table: &[u8], index: &[u16], id: u64, field: usize) -> FieldShape
+fn shape_under(table: &[u8], index: &[u16], id: u64, field: usize) -> Result<FieldShape, Fault>
     requires { Layout table.now index.now }
     ensures { result ≡ shape_under (schema table.now) id field }
 {
@@ -63,7 +57,7 @@ fn shape_under(table: &[u8], index: &[u16], id: u64, field: usize) -> FieldShape
 }
 
 // The field whose record stands at `row`.
-fn shape_at(table: &[u8], row: usize) -> FieldShape
+fn shape_at(table: &[u8], row: usize) -> Result<FieldShape, Fault>
     requires { row + 16 ≤ length table.now }
     ensures { (es : List (List ℕ)) → result ≡ shape_of (field_at es (drop row table.now)) }
 {

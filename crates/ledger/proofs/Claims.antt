@@ -1,4 +1,6 @@
 -- The claims of specs/Claims.antt, shown.
+use Rattle.schema.specs.declared.Fault.{Fault}
+use Rattle.std.proofs.Common.{Ok, Err, Result}
 use Prim.Native.Nat.{ℕ, zero, suc, ◌+◌, ◌-◌, ◌≤◌}
 use mathlib.Core.Path.{◌≡◌, refl, sym, ap, ◌∙◌, subst}
 use mathlib.Core.Bool.{Bool, true, false, ◌&&◌}
@@ -10,9 +12,7 @@ use lib.Dec.{leb, eqb}
 use borrow.Author.Tests.{leb-true, leb-false, le-leb, lt-leb, eqb-true, eq-eqb}
 use Rattle.wire.specs.Bytes.{part, le, splice}
 use Rattle.wire.proofs.Laws.{length-bytes, length_part, same-eq}
-use Rattle.schema.specs.declared.Verdict.{Verdict}
-use Rattle.schema.specs.declared.Verdict.TheVariants.{Accepted, Refused as Faulty}
-use Rattle.schema.specs.Faults.{need}
+use Rattle.schema.specs.Faults.{Verdict, fault_at, need}
 use Rattle.schema.specs.Schema.{fields_of, find, known}
 use Rattle.schema.specs.Table.{enums, schema, table_verdict}
 use Rattle.schema.specs.Forms.{Alike}
@@ -24,14 +24,10 @@ use Rattle.message.specs.Walk.{done}
 use Rattle.message.specs.Sheet.{VA, ST, GB, mark_bytes}
 use Rattle.meaning.specs.Conforms.{type_id}
 use Rattle.opening.specs.Opening.{Under, message_reading, message_verdict}
-use Rattle.codec.specs.declared.TypeAnswer.{TypeAnswer}
-use Rattle.codec.specs.declared.TypeAnswer.TheVariants.{Id, Refused as NoType}
 use Rattle.codec.specs.Answers.{type_under, message_type}
 use Rattle.codec.specs.Claims.{SameAnswers}
 use Rattle.codec.proofs.Claims.{claims}
 use Rattle.codec.proofs.Demands.{demands}
-use Rattle.ledger.specs.declared.Entered.{Entered}
-use Rattle.ledger.specs.declared.Entered.TheVariants.{Fill, Refused}
 use Rattle.ledger.specs.Ledger.{Blank, line_with, Call, call, barcode_of, field_of, Line, unfit, line, line_from, line_under, line_of, Ledger, lines, enters, entered, run, with_line, lines_of, kept}
 use Rattle.ledger.specs.Claims.{Bytes, Fit, OwnBytes, sheet_line, LedgerClaims}
 use Rattle.ledger.proofs.Own.{blank-fields, own-values}
@@ -46,19 +42,19 @@ unfolding need
 need-line true n p r x e = (refl, e)
 need-line false n p r x e = unfit-line e
 
-record Made (c : Call) (a : TypeAnswer) (x : List ℕ) : Type 0 where
+record Made (c : Call) (a : Result ℕ Fault) (x : List ℕ) : Type 0 where
   pub id : ℕ
-  pub answers : a ≡ Id id
+  pub answers : a ≡ Ok id
   pub type : id ≡ c.blank
   pub fields : has_fields c.table c.blank Blank ≡ true
   pub some : 1 ≤ length (barcode_of c)
   pub short : length (barcode_of c) ≤ 40
   pub is : x ≡ line_with (barcode_of c) (field_of c 1) (field_of c 2) (field_of c 3)
 
-made-under : (c : Call) (a : TypeAnswer) (x : List ℕ) → line_under c a ≡ line x → Made c a x
+made-under : (c : Call) (a : Result ℕ Fault) (x : List ℕ) → line_under c a ≡ line x → Made c a x
 unfolding line_under line_from
-made-under c (NoType n p) x e = unfit-line e
-made-under c (Id id) x e =
+made-under c (Err f) x e = unfit-line e
+made-under c (Ok id) x e =
     let (h, f) = need-line _ 54 0 _ x e in
     let (l, g) = need-line _ 55 0 _ x f in
     let (y, s) = and_both (eqb id c.blank) _ h in
@@ -77,10 +73,10 @@ line-64 : (c : Call) (x : List ℕ) → line_of c ≡ line x → length x ≡ 64
 line-64 c x e = let m = made c x e in ap length m.is ∙ long-line (barcode_of c) (field_of c 1) (field_of c 2) (field_of c 3) m.short (length-bytes 4 _) (length-bytes 4 _) (length-bytes 4 _)
 
 -- an accepted message has its type, and a refused one its number
-type-by : (v : Verdict) (b : List ℕ) (id : ℕ) → type_under v b ≡ Id id → (v ≡ Accepted) × (id ≡ type_id b)
+type-by : (v : Verdict) (b : List ℕ) (id : ℕ) → type_under v b ≡ Ok id → (v ≡ Ok tt) × (id ≡ type_id b)
 unfolding type_under
-type-by Accepted b id e = let q : type_id b ≡ id = cc in (refl, sym q)
-type-by (Faulty n p) b id e = let z : ◌≡◌ {A = ℕ} 0 1 = cc in absurd (omega arith)
+type-by (Ok _) b id e = let q : type_id b ≡ id = cc in (refl, sym q)
+type-by (Err f) b id e = let z : ◌≡◌ {A = ℕ} 0 1 = cc in absurd (omega arith)
 
 fit : (c : Call) (x : List ℕ) → line_of c ≡ line x → Fit c
 unfolding message_type
@@ -93,7 +89,7 @@ fits : (c : Call) → Fit c → (x : List ℕ) × (line_of c ≡ line x)
 unfolding line_of line_under line_from message_type type_under need
 fits c F = (line_with (barcode_of c) (field_of c 1) (field_of c 2) (field_of c 3), rw (F.accepted, eq-eqb (type_id c.message) c.blank F.type, F.fields, le-leb 1 (length (barcode_of c)) F.some, le-leb (length (barcode_of c)) 40 F.short))
 
-own-number : (c : Call) (n p : ℕ) → message_verdict c.table c.message c.reads ≡ Faulty n p → line_of c ≡ unfit n p
+own-number : (c : Call) (n p : ℕ) → message_verdict c.table c.message c.reads ≡ Err (fault_at n p) → line_of c ≡ unfit n p
 unfolding line_of line_under message_type type_under
 own-number c n p e = rw e
 
@@ -107,7 +103,7 @@ drop-front : (A R : List ℕ) → drop (length A) (A ++ R) ≡ R
 drop-front [] R = refl
 drop-front (a ∷ A) R = drop-front A R
 
-same-fields : (t : List ℕ) (id : ℕ) (x : List ℕ) → table_verdict t ≡ Accepted → has_fields t id x ≡ true → signature_of (fields_of (schema t) (find (schema t) id)) ≡ x
+same-fields : (t : List ℕ) (id : ℕ) (x : List ℕ) → table_verdict t ≡ Ok tt → has_fields t id x ≡ true → signature_of (fields_of (schema t) (find (schema t) id)) ≡ x
 unfolding has_fields has_after has_under
 same-fields t id x a h = same-eq _ x (and_both (known (schema t) id) _ (rw a at h)).1
 
@@ -151,44 +147,44 @@ by-sheet b s x O =
 
 -- ONE CALL
 
-abbrev NumberedE : Entered → Type 0
-NumberedE (Fill n) = Unit
-NumberedE (Refused n p) = 1 ≤ n
+abbrev NumberedE : Result ℕ Fault → Type 0
+NumberedE (Ok n) = Unit
+NumberedE (Err f) = 1 ≤ f.number
 
 abbrev NumberedL : Line → Type 0
 NumberedL (unfit n p) = 1 ≤ n
 NumberedL (line x) = Unit
 
-line-numbered : (c : Call) (a : TypeAnswer) → ((p : ℕ) → a ≡ NoType 0 p → ⊥) → NumberedL (line_under c a)
+line-numbered : (c : Call) (a : Result ℕ Fault) → ((p : ℕ) → a ≡ Err (fault_at 0 p) → ⊥) → NumberedL (line_under c a)
 unfolding line_under line_from
-line-numbered c (NoType zero p) h = absurd (h p refl)
-line-numbered c (NoType (suc n) p) h = omega arith
-line-numbered c (Id id) h = in-need NumberedL (eqb id c.blank && has_fields c.table c.blank Blank) (omega arith) (in-need NumberedL (leb 1 (length (barcode_of c)) && leb (length (barcode_of c)) 40) (omega arith) tt)
+line-numbered c (Err f) h = absurd (h f.place refl)
+line-numbered c (Err f) h = omega arith
+line-numbered c (Ok id) h = in-need NumberedL (eqb id c.blank && has_fields c.table c.blank Blank) (omega arith) (in-need NumberedL (leb 1 (length (barcode_of c)) && leb (length (barcode_of c)) 40) (omega arith) tt)
 
 enters-numbered : (s : Ledger) (l : Line) → NumberedL l → NumberedE (enters s l)
 unfolding enters
 enters-numbered s (unfit n p) h = h
 enters-numbered s (line x) h = in-need NumberedE (leb (s.fill + 64) (length s.bytes)) (omega arith) tt
 
-numbered : (c : Call) (s : Ledger) (p : ℕ) → enters s (line_of c) ≡ Refused 0 p → ⊥
+numbered : (c : Call) (s : Ledger) (p : ℕ) → enters s (line_of c) ≡ Err (fault_at 0 p) → ⊥
 unfolding line_of
 numbered c s p e = omega (arith, subst NumberedE e (enters-numbered s _ (line-numbered c (message_type c.table c.message c.reads) (demands.first c.table c.message [] c.reads).numbered.type)))
 
-unchanged : (s : Ledger) (l : Line) (n p : ℕ) → enters s l ≡ Refused n p → entered s l ≡ s
+unchanged : (s : Ledger) (l : Line) (n p : ℕ) → enters s l ≡ Err (fault_at n p) → entered s l ≡ s
 unfolding enters entered
 unchanged s (unfit k q) n p e = refl
 unchanged s (line x) n p e = go (leb (s.fill + 64) (length s.bytes)) e
   where
-    go : (v : Bool) → need v (Refused 56 0) (Fill (s.fill + 64)) ≡ Refused n p → need v s (lines (splice 64 s.fill x s.bytes) (s.fill + 64)) ≡ s
+    go : (v : Bool) → need v (Err (fault_at 56 0)) (Ok (s.fill + 64)) ≡ Err (fault_at n p) → need v s (lines (splice 64 s.fill x s.bytes) (s.fill + 64)) ≡ s
     go true e = unfold need in let z : ◌≡◌ {A = ℕ} 0 1 = cc in absurd (omega arith)
     go false e = unfold need in refl
 
-stands : (s : Ledger) (l : Line) (n : ℕ) → enters s l ≡ Fill n → (x : List ℕ) × (l ≡ line x) × (n ≡ s.fill + 64) × (n ≤ length s.bytes) × (entered s l ≡ lines (take s.fill s.bytes ++ (x ++ drop n s.bytes)) n)
+stands : (s : Ledger) (l : Line) (n : ℕ) → enters s l ≡ Ok n → (x : List ℕ) × (l ≡ line x) × (n ≡ s.fill + 64) × (n ≤ length s.bytes) × (entered s l ≡ lines (take s.fill s.bytes ++ (x ++ drop n s.bytes)) n)
 unfolding enters entered
 stands s (unfit k q) n e = let z : ◌≡◌ {A = ℕ} 0 1 = cc in absurd (omega arith)
 stands s (line x) n e = go (leb (s.fill + 64) (length s.bytes)) refl e
   where
-    go : (v : Bool) → leb (s.fill + 64) (length s.bytes) ≡ v → need v (Refused 56 0) (Fill (s.fill + 64)) ≡ Fill n
+    go : (v : Bool) → leb (s.fill + 64) (length s.bytes) ≡ v → need v (Err (fault_at 56 0)) (Ok (s.fill + 64)) ≡ Ok n
         → (y : List ℕ) × (line x ≡ line y) × (n ≡ s.fill + 64) × (n ≤ length s.bytes) × (need v s (lines (splice 64 s.fill x s.bytes) (s.fill + 64)) ≡ lines (take s.fill s.bytes ++ (y ++ drop n s.bytes)) n)
     go true f e = unfold need in
         let q : s.fill + 64 ≡ n = cc in
@@ -197,12 +193,12 @@ stands s (line x) n e = go (leb (s.fill + 64) (length s.bytes)) refl e
     go false f e = unfold need in let z : ◌≡◌ {A = ℕ} 0 1 = cc in absurd (omega arith)
 
 -- two tables of which every answer is the same
-same_lines : (t u b : List ℕ) (x : Under) (k : ℕ) → SameAnswers t u → (a : TypeAnswer) → line_under (call t b x k) a ≡ line_under (call u b x k) a
+same_lines : (t u b : List ℕ) (x : Under) (k : ℕ) → SameAnswers t u → (a : Result ℕ Fault) → line_under (call t b x k) a ≡ line_under (call u b x k) a
 unfolding line_under
-same_lines t u b x k S (NoType n p) = refl
-same_lines t u b x k S (Id id) = rw (S.fields k Blank, S.bytes b x 0 0, S.number b x 1 0, S.number b x 2 0, S.number b x 3 0)
+same_lines t u b x k S (Err f) = refl
+same_lines t u b x k S (Ok id) = rw (S.fields k Blank, S.bytes b x 0 0, S.number b x 1 0, S.number b x 2 0, S.number b x 3 0)
 
-forms : (t u b : List ℕ) (x : Under) (k : ℕ) → table_verdict t ≡ Accepted → table_verdict u ≡ Accepted → Alike t u → line_of (call t b x k) ≡ line_of (call u b x k)
+forms : (t u b : List ℕ) (x : Under) (k : ℕ) → table_verdict t ≡ Ok tt → table_verdict u ≡ Ok tt → Alike t u → line_of (call t b x k) ≡ line_of (call u b x k)
 unfolding line_of
 forms t u b x k p q e =
     let S = claims.forms t u p q e in

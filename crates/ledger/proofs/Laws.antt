@@ -1,4 +1,6 @@
 -- What `add_line` answers and leaves, case by case.
+use Rattle.schema.specs.declared.Fault.{Fault}
+use Rattle.std.proofs.Common.{Ok, Err, Some, None, Result, Option}
 use Prim.Native.Nat.{ℕ, ◌+◌, ◌-◌, ◌≤◌, ◌<◌}
 use mathlib.Core.Path.{◌≡◌, refl, sym, ap, ◌∙◌}
 use mathlib.Core.Bool.{Bool, true, false, ◌&&◌, and-false}
@@ -9,80 +11,74 @@ use lib.Dec.{eqb}
 use borrow.Author.Tests.{le-leb, lt-leb}
 use Rattle.wire.specs.Bytes.{part, splice, bytes_of}
 use Rattle.wire.proofs.Laws.{length_part, splice-append, length-bytes}
-use Rattle.schema.specs.Faults.{need}
+use Rattle.schema.specs.Faults.{fault_at, need}
 use Rattle.fields.specs.Fields.{has_fields}
 use Rattle.reading.specs.declared.Number.{Number}
 use Rattle.reading.specs.declared.Part.{Part}
-use Rattle.reading.specs.declared.Part.TheVariants.{Refusal}
 use Rattle.reading.specs.Part.{bytes_in}
 use Rattle.codec.specs.declared.Front.{Front}
-use Rattle.codec.specs.declared.Front.TheVariants.{Read, Other, Refused as NoFront}
-use Rattle.codec.specs.declared.TypeAnswer.{TypeAnswer}
-use Rattle.codec.specs.declared.TypeAnswer.TheVariants.{Id, Refused as NoType}
 use Rattle.codec.proofs.Claims.{claims}
 use Rattle.codec.specs.Answers.{number_answer, part_answer, message_type, front_under, front_answer}
-use Rattle.ledger.specs.declared.Entered.{Entered}
-use Rattle.ledger.specs.declared.Entered.TheVariants.{Fill, Refused}
 use Rattle.ledger.specs.Ledger.{Blank, word_of, LB, barcode_with, line_with, Call, barcode_of, field_of, Inside, Line, unfit, line, line_from, line_under, line_of, lines, enters, entered, Enters}
 
 -- THE LINE, BY THE MESSAGE'S FRONT
 
 module _ (c : Call) where
-  abbrev text : Part
+  abbrev text : Result Part Fault
   text = part_answer c.table c.message c.reads 0 0
 
-  abbrev number : ℕ → Number
+  abbrev number : ℕ → Result Number Fault
   number n = number_answer c.table c.message c.reads n 0
 
   abbrev has : Bool
   has = has_fields c.table c.blank Blank
 
   -- the line where the front is this
-  line_by : Front → Line
-  line_by (Read x d v g) = line_from (bytes_in c.message x) (bytes_of 4 (word_of d)) (bytes_of 4 (word_of v)) (bytes_of 4 (word_of g))
-  line_by Other = unfit 54 0
-  line_by (NoFront n p) = unfit n p
+  line_by : Result (Option Front) Fault → Line
+  line_by (Ok (Some x)) = line_from (bytes_in c.message x.first) (bytes_of 4 (word_of x.second)) (bytes_of 4 (word_of x.third)) (bytes_of 4 (word_of x.fourth))
+  line_by (Ok None) = unfit 54 0
+  line_by (Err f) = unfit f.number f.place
 
-  by_front : (a : TypeAnswer) → line_under c a ≡ line_by (front_under a c.blank has text (number 1) (number 2) (number 3))
+  by_front : (a : Result ℕ Fault) → line_under c a ≡ line_by (front_under a c.blank has text (number 1) (number 2) (number 3))
   unfolding line_under front_under line_by
-  by_front (NoType n p) = refl
-  by_front (Id k) = go (eqb k c.blank && has)
+  by_front (Err f) = refl
+  by_front (Ok k) = go (eqb k c.blank && has)
     where
-      go : (v : Bool) → need v (unfit 54 0) (line_from (barcode_of c) (field_of c 1) (field_of c 2) (field_of c 3)) ≡ line_by (need v Other (Read text (number 1) (number 2) (number 3)))
+      go : (v : Bool) → need v (unfit 54 0) (line_from (barcode_of c) (field_of c 1) (field_of c 2) (field_of c 3)) ≡ line_by (need v (Ok None) (Ok (Some (record { first = text; second = number 1; third = number 2; fourth = number 3 }))))
       go true = unfold need in refl
       go false = unfold need in refl
 
-  front-text : (a : TypeAnswer) (x : Part) (d v g : Number) → front_under a c.blank has text (number 1) (number 2) (number 3) ≡ Read x d v g → text ≡ x
+  front-text : (a : Result ℕ Fault) (x : Result Part Fault) (d v g : Result Number Fault) → front_under a c.blank has text (number 1) (number 2) (number 3) ≡ Ok (Some (record { first = x; second = d; third = v; fourth = g })) → text ≡ x
   unfolding front_under
-  front-text (NoType n p) x d v g e = let z : ◌≡◌ {A = ℕ} 0 1 = cc in absurd (omega arith)
-  front-text (Id k) x d v g e = go (eqb k c.blank && has) e
+  front-text (Err f) x d v g e = let z : ◌≡◌ {A = ℕ} 0 1 = cc in absurd (omega arith)
+  front-text (Ok k) x d v g e = go (eqb k c.blank && has) e
     where
-      go : (w : Bool) → need w Other (Read text (number 1) (number 2) (number 3)) ≡ Read x d v g → text ≡ x
+      go : (w : Bool) → need w (Ok None) (Ok (Some (record { first = text; second = number 1; third = number 2; fourth = number 3 }))) ≡ Ok (Some (record { first = x; second = d; third = v; fourth = g })) → text ≡ x
       go true e = unfold need in cc
       go false e = unfold need in let z : ◌≡◌ {A = ℕ} 0 1 = cc in absurd (omega arith)
 
-  module _ (r : Front) (e : r ≡ front_answer c.table c.message c.reads c.blank Blank) where
+  module _ (r : Result (Option Front) Fault) (e : r ≡ front_answer c.table c.message c.reads c.blank Blank) where
     line-by : line_of c ≡ line_by r
     unfolding line_of front_answer
     line-by = by_front (message_type c.table c.message c.reads) ∙ ap line_by (sym e)
 
-    module _ (x : Part) (d v g : Number) (f : r ≡ Read x d v g) where
+    module _ (x : Result Part Fault) (d v g : Result Number Fault) (f : r ≡ Ok (Some (record { first = x; second = d; third = v; fourth = g }))) where
       -- the barcode lies in the message
       pub read-inside : Inside c.message x
       unfolding front_answer
       read-inside p n l = claims.part-inside c.table c.message c.reads 0 0 p n (front-text (message_type c.table c.message c.reads) x d v g (sym e ∙ f) ∙ l)
 
       -- and the line is that of the values read
-      pub enters-read : (k l m : ℕ) → k ≡ word_of d → l ≡ word_of v → m ≡ word_of g → (s : List ℕ) (fill : ℕ) (y : Entered) (left : List ℕ)
+      pub enters-read : (k l m : ℕ) → k ≡ word_of d → l ≡ word_of v → m ≡ word_of g → (s : List ℕ) (fill : ℕ) (y : Result ℕ Fault) (left : List ℕ)
           → Enters (lines s fill) (line_from (bytes_in c.message x) (bytes_of 4 k) (bytes_of 4 l) (bytes_of 4 m)) y left → Enters (lines s fill) (line_of c) y left
       unfolding line_by
       enters-read k l m i j h s fill y left E = rw (line-by, f, ← i, ← j, ← h) E
 
-    pub line_other : r ≡ Other → line_of c ≡ unfit 54 0
+    pub line_other : r ≡ Ok None → line_of c ≡ unfit 54 0
     unfolding line_by
     line_other f = line-by ∙ ap line_by f
 
-    pub line_refused : (n p : ℕ) → r ≡ NoFront n p → line_of c ≡ unfit n p
+    pub line_refused : (n p : ℕ) → r ≡ Err (fault_at n p) → line_of c ≡ unfit n p
     unfolding line_by
     line_refused n p f = line-by ∙ ap line_by f
 
@@ -104,15 +100,15 @@ module _ (x d v g : List ℕ) where
 -- THE LEDGER
 
 module _ (s : List ℕ) (fill : ℕ) (x : Line) where
-  pub enters-nothing : (n p : ℕ) (r : Entered) → r ≡ Refused n p → x ≡ unfit n p → Enters (lines s fill) x r s
+  pub enters-nothing : (n p : ℕ) (r : Result ℕ Fault) → r ≡ Err (fault_at n p) → x ≡ unfit n p → Enters (lines s fill) x r s
   unfolding enters entered
   enters-nothing n p r f e = (rw (e, f), rw e)
 
-  enters-full : (y : List ℕ) (r : Entered) → r ≡ Refused 56 0 → x ≡ line y → length s < fill + 64 → Enters (lines s fill) x r s
+  enters-full : (y : List ℕ) (r : Result ℕ Fault) → r ≡ Err (fault_at 56 0) → x ≡ line y → length s < fill + 64 → Enters (lines s fill) x r s
   unfolding enters entered need
   enters-full y r f e h = (rw (e, f, lt-leb _ _ h), rw (e, lt-leb _ _ h))
 
-  enters-line : (y left : List ℕ) → x ≡ line y → fill + 64 ≤ length s → left ≡ splice 64 fill y s → Enters (lines s fill) x (Fill (fill + 64)) left
+  enters-line : (y left : List ℕ) → x ≡ line y → fill + 64 ≤ length s → left ≡ splice 64 fill y s → Enters (lines s fill) x (Ok (fill + 64)) left
   unfolding enters entered need
   enters-line y left e h f = (rw (e, le-leb _ _ h), rw (e, le-leb _ _ h, f))
 
@@ -124,24 +120,24 @@ module _ (b : List ℕ) (p n : ℕ) (inside : p + n ≤ length b) (d v g s : Lis
   counts : length (part n p b) ≡ n
   counts = length_part n p b inside
 
-  pub enters-55-none : (r : Entered) → r ≡ Refused 55 0 → n < 1 → Enters (lines s fill) this r s
+  pub enters-55-none : (r : Result ℕ Fault) → r ≡ Err (fault_at 55 0) → n < 1 → Enters (lines s fill) this r s
   enters-55-none r e h = enters-nothing s fill this 55 0 r e (no-barcode (part n p b) d v g (omega (arith, counts, h)))
 
-  pub enters-55-long : (r : Entered) → r ≡ Refused 55 0 → 40 < n → Enters (lines s fill) this r s
+  pub enters-55-long : (r : Result ℕ Fault) → r ≡ Err (fault_at 55 0) → 40 < n → Enters (lines s fill) this r s
   enters-55-long r e h = enters-nothing s fill this 55 0 r e (long-barcode (part n p b) d v g (omega (arith, counts, h)))
 
   module _ (some : 1 ≤ n) (short : n ≤ 40) where
     made : this ≡ line (line_with (part n p b) d v g)
     made = line_made (part n p b) d v g (omega (arith, counts, some)) (omega (arith, counts, short))
 
-    pub enters-56 : (r : Entered) → r ≡ Refused 56 0 → length s < fill + 64 → Enters (lines s fill) this r s
+    pub enters-56 : (r : Result ℕ Fault) → r ≡ Err (fault_at 56 0) → length s < fill + 64 → Enters (lines s fill) this r s
     enters-56 r e h = enters-full s fill this (line_with (part n p b) d v g) r e made h
 
-    pub enters-it : (left : List ℕ) → fill + 64 ≤ length s → left ≡ splice 64 fill (line_with (part n p b) d v g) s → Enters (lines s fill) this (Fill (fill + 64)) left
+    pub enters-it : (left : List ℕ) → fill + 64 ≤ length s → left ≡ splice 64 fill (line_with (part n p b) d v g) s → Enters (lines s fill) this (Ok (fill + 64)) left
     enters-it left h e = enters-line s fill this (line_with (part n p b) d v g) left made h e
 
 -- no part, no barcode
-pub enters-no-part : (b : List ℕ) (k : ℕ) (d v g s : List ℕ) (fill : ℕ) (r : Entered) → r ≡ Refused 55 0 → Enters (lines s fill) (line_from (bytes_in b (Refusal k)) d v g) r s
+pub enters-no-part : (b : List ℕ) (k : ℕ) (d v g s : List ℕ) (fill : ℕ) (r : Result ℕ Fault) → r ≡ Err (fault_at 55 0) → Enters (lines s fill) (line_from (bytes_in b (Err (fault_at k 0))) d v g) r s
 unfolding bytes_in
 enters-no-part b k d v g s fill r e = enters-nothing s fill (line_from [] d v g) 55 0 r e (no-barcode [] d v g (omega arith))
 

@@ -1,4 +1,5 @@
 -- The line's values are those that the message's sheet lists.
+use Rattle.std.proofs.Common.{Ok}
 use Prim.Native.Nat.{ℕ, zero, suc, ◌+◌, ◌-◌, ◌*◌, ◌/◌, ◌%◌, ◌^◌, ◌≤◌, ◌<◌}
 use mathlib.Core.Path.{◌≡◌, refl, sym, ap, ◌∙◌}
 use mathlib.Core.Bool.{Bool, true, false, cond}
@@ -24,7 +25,6 @@ use Rattle.meaning.specs.Lists.{record_of, records}
 use Rattle.reading.specs.Item.{item, absent, value_place, value_item, field_item, item_from, item_of}
 use Rattle.reading.specs.Listed.{value_before, field_before, fields_before, values_before, item_value, record_in, records_in}
 use Rattle.reading.specs.Number.{number_width, number_of, number_at}
-use Rattle.reading.specs.declared.Part.TheVariants.{Lies}
 use Rattle.reading.specs.Part.{part_of, part_at, bytes_in}
 use Rattle.opening.specs.Opening.{Under}
 use Rattle.codec.specs.Answers.{number_answer, part_answer}
@@ -176,7 +176,7 @@ module _ (t b : List ℕ) (u : Under) (s : List ℕ) (R : Reads t b u s) (below 
   unfolding part_at
   read-0 = R.bytes 0 0 ∙ ap (part_at b) item-0
 
-  pub text-inside : (p n : ℕ) → part_of 17 k b 16 ≡ Lies p n → p + n ≤ length b
+  pub text-inside : (p n : ℕ) → part_of 17 k b 16 ≡ Ok (record { start = p; length = n }) → p + n ≤ length b
   text-inside p n e = claims.part-inside t b u 0 0 p n (read-0 ∙ e)
 
   -- a text's count x and bytes y, as they are read and as the sheet has them, make the line

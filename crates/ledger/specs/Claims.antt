@@ -1,7 +1,7 @@
 -- What request 10 says of a line and of a run of calls, sentence by sentence.
-use Rattle.std.specs.Prelude.{◌≡◌, ◌↔◌, true, List, [], ◌++◌, ℕ, ◌+◌, ◌≤◌, ◌<◌, length, take, drop, get_or}
+use Rattle.schema.specs.Faults.{fault_at}
+use Rattle.std.specs.Prelude.{Ok, Err, ◌≡◌, ◌↔◌, true, List, [], ◌++◌, ℕ, ◌+◌, ◌≤◌, ◌<◌, length, take, drop, get_or}
 use Rattle.wire.specs.Bytes.{part, le}
-use Rattle.schema.specs.declared.Verdict.TheVariants.{Accepted, Refused as Faulty}
 use Rattle.schema.specs.Table.{table_verdict}
 use Rattle.schema.specs.Forms.{Alike}
 use Rattle.fields.specs.Fields.{has_fields}
@@ -9,7 +9,6 @@ use Rattle.message.specs.Walk.{done}
 use Rattle.message.specs.Sheet.{VA, ST, GB, mark_bytes}
 use Rattle.meaning.specs.Conforms.{type_id}
 use Rattle.opening.specs.Opening.{Under, message_reading, message_verdict}
-use Rattle.ledger.specs.declared.Entered.TheVariants.{Fill, Refused}
 use Rattle.ledger.specs.Ledger.{Blank, line_with, Call, call, barcode_of, unfit, line, line_of, Ledger, lines, enters, entered, run, lines_of, kept}
 
 -- Bytes are below 256.
@@ -19,7 +18,7 @@ Bytes b = (i : ℕ) → get_or b i 0 < 256
 -- A message that makes a line: accepted, "of our Blank group", whose type id "the caller names" and whose fields are "these five in this order, none a
 -- sequence and only the last optional", and with a barcode of 1 to 40 bytes.
 pub record Fit (c : Call) : Type 0 where
-  pub accepted : message_verdict c.table c.message c.reads ≡ Accepted
+  pub accepted : message_verdict c.table c.message c.reads ≡ Ok tt
   pub type : type_id c.message ≡ c.blank
   pub fields : has_fields c.table c.blank Blank ≡ true
   pub some : 1 ≤ length (barcode_of c)
@@ -56,12 +55,12 @@ pub record LedgerClaims : Type 0 where
   -- "From one message of our Blank group .. it makes one .. line", and from no other
   pub made-exactly : (c : Call) → ((x : List ℕ) × (line_of c ≡ line x)) ↔ Fit c
   -- "A refused message (its own number)", before all else
-  pub own-number : (c : Call) (n p : ℕ) → message_verdict c.table c.message c.reads ≡ Faulty n p → line_of c ≡ unfit n p
-  pub numbered : (c : Call) (s : Ledger) (p : ℕ) → enters s (line_of c) ≡ Refused 0 p → ⊥
+  pub own-number : (c : Call) (n p : ℕ) → message_verdict c.table c.message c.reads ≡ Err (fault_at n p) → line_of c ≡ unfit n p
+  pub numbered : (c : Call) (s : Ledger) (p : ℕ) → enters s (line_of c) ≡ Err (fault_at 0 p) → ⊥
   -- "makes no line and leaves the ledger as it was": bytes and fill, at every refusal
-  pub unchanged : (c : Call) (s : Ledger) (n p : ℕ) → enters s (line_of c) ≡ Refused n p → entered s (line_of c) ≡ s
+  pub unchanged : (c : Call) (s : Ledger) (n p : ℕ) → enters s (line_of c) ≡ Err (fault_at n p) → entered s (line_of c) ≡ s
   -- else the line stands behind the fill, and every other byte is as it was
-  pub stands : (c : Call) (s : Ledger) (n : ℕ) → enters s (line_of c) ≡ Fill n → (x : List ℕ) × (line_of c ≡ line x) × (n ≡ s.fill + 64) × (n ≤ length s.bytes)
+  pub stands : (c : Call) (s : Ledger) (n : ℕ) → enters s (line_of c) ≡ Ok n → (x : List ℕ) × (line_of c ≡ line x) × (n ≡ s.fill + 64) × (n ≤ length s.bytes)
       × (entered s (line_of c) ≡ lines (take s.fill s.bytes ++ (x ++ drop n s.bytes)) n)
   -- "barcode up to 40 bytes .., density, speed and grade as wire bytes": the message's own, as its sheet lists them
   pub own : (c : Call) (x s : List ℕ) → Bytes c.message → line_of c ≡ line x → message_reading c.table c.message c.reads ≡ done s [] → OwnBytes c.message s x
@@ -75,4 +74,4 @@ pub record LedgerClaims : Type 0 where
   pub behind : (A R : List ℕ) (cs : List Call)
       → run (lines (A ++ R) (length A)) cs ≡ lines (A ++ (kept (length R) (lines_of cs) ++ drop (length (kept (length R) (lines_of cs))) R)) (length A + length (kept (length R) (lines_of cs)))
   -- request 8: the same for two accepted tables, `GR` and `GW`, alike but for marks and widths
-  pub forms : (t u b : List ℕ) (x : Under) (blank : ℕ) → table_verdict t ≡ Accepted → table_verdict u ≡ Accepted → Alike t u → line_of (call t b x blank) ≡ line_of (call u b x blank)
+  pub forms : (t u b : List ℕ) (x : Under) (blank : ℕ) → table_verdict t ≡ Ok tt → table_verdict u ≡ Ok tt → Alike t u → line_of (call t b x blank) ≡ line_of (call u b x blank)

@@ -1,19 +1,15 @@
 -- Document 02, request 10: one ledger line of 64 bytes for each message of the Blank group that nothing refuses.
-use Rattle.std.specs.Prelude.{◌≡◌, ◌&&◌, List, [], ◌∷◌, ◌++◌, ℕ, ◌+◌, ◌-◌, ◌≤◌, length, replicate, leb, eqb}
+use Rattle.schema.specs.declared.Fault.{Fault}
+use Rattle.std.specs.Prelude.{Ok, Err, Result, ◌≡◌, ◌&&◌, List, [], ◌∷◌, ◌++◌, ℕ, ◌+◌, ◌-◌, ◌≤◌, length, replicate, leb, eqb}
 use Rattle.wire.specs.Bytes.{bytes_of, pattern, splice}
-use Rattle.schema.specs.Faults.{need}
+use Rattle.schema.specs.Faults.{fault_at, need}
 use Rattle.fields.specs.Fields.{has_fields}
 use Rattle.reading.specs.declared.Number.{Number}
-use Rattle.reading.specs.declared.Number.TheVariants.{Signed, Unsigned, Bool as Flag, Decimal, Float, NanBits, Refused as NotRead}
+use Rattle.reading.specs.declared.Number.TheVariants.{Signed, Unsigned, Bool as Flag, Decimal, Float, NanBits}
 use Rattle.reading.specs.declared.Part.{Part}
-use Rattle.reading.specs.declared.Part.TheVariants.{Lies}
 use Rattle.reading.specs.Part.{bytes_in}
 use Rattle.opening.specs.Opening.{Under}
-use Rattle.codec.specs.declared.TypeAnswer.{TypeAnswer}
-use Rattle.codec.specs.declared.TypeAnswer.TheVariants.{Id, Refused as NoType}
 use Rattle.codec.specs.Answers.{number_answer, part_answer, message_type}
-use Rattle.ledger.specs.declared.Entered.{Entered}
-use Rattle.ledger.specs.declared.Entered.TheVariants.{Fill, Refused}
 
 -- ONE LINE
 
@@ -28,14 +24,14 @@ Blank =
     (17 ∷ (1 ∷ (0 ∷ []))))))))))))))
 
 -- A number whose low four bytes are the wire bytes of a u32 or an enumeration; 0 for what is neither.
-unfoldable pub word_of : Number → ℕ
+unfoldable pub word_of : Result Number Fault → ℕ
 word_of (Signed z) = pattern 63 z
 word_of (Unsigned n) = n
 word_of (Flag x) = 0
 word_of (Decimal e m) = 0
 word_of (Float x) = 0
 word_of (NanBits n) = 0
-word_of (NotRead n p) = 0
+word_of (Err f) = 0
 
 abbrev pub LB : List ℕ
 LB = 76 ∷ (66 ∷ [])
@@ -65,8 +61,8 @@ abbrev pub field_of : Call → ℕ → List ℕ
 field_of c n = bytes_of 4 (word_of (number_answer c.table c.message c.reads n 0))
 
 -- A part that lies in these bytes, if it is one.
-abbrev pub Inside : List ℕ → Part → Type 0
-Inside b x = (p n : ℕ) → x ≡ Lies p n → p + n ≤ length b
+abbrev pub Inside : List ℕ → Result Part Fault → Type 0
+Inside b x = (p n : ℕ) → x ≡ Ok (record { start = p; length = n }) → p + n ≤ length b
 
 -- A refusal, or the line.
 pub data Line : Type 0 where
@@ -78,9 +74,9 @@ unfoldable pub line_from : List ℕ → List ℕ → List ℕ → List ℕ → L
 line_from barcode density speed grade = need (leb 1 (length barcode) && leb (length barcode) 40) (unfit 55 0) (line (line_with barcode density speed grade))
 
 -- "A refused message (its own number), another type or one whose fields aren't these five .. (54)"
-unfoldable pub line_under : Call → TypeAnswer → Line
-line_under c (NoType n p) = unfit n p
-line_under c (Id id) = need (eqb id c.blank && has_fields c.table c.blank Blank) (unfit 54 0) (line_from (barcode_of c) (field_of c 1) (field_of c 2) (field_of c 3))
+unfoldable pub line_under : Call → Result ℕ Fault → Line
+line_under c (Err f) = unfit f.number f.place
+line_under c (Ok id) = need (eqb id c.blank && has_fields c.table c.blank Blank) (unfit 54 0) (line_from (barcode_of c) (field_of c 1) (field_of c 2) (field_of c 3))
 
 unfoldable pub line_of : Call → Line
 line_of c = line_under c (message_type c.table c.message c.reads)
@@ -96,9 +92,9 @@ abbrev pub lines : List ℕ → ℕ → Ledger
 lines b f = record { bytes = b; fill = f }
 
 -- "Under 64 bytes free (none, if the fill is past the end) is 56, tested last, same effect."
-unfoldable pub enters : Ledger → Line → Entered
-enters s (unfit n p) = Refused n p
-enters s (line x) = need (leb (s.fill + 64) (length s.bytes)) (Refused 56 0) (Fill (s.fill + 64))
+unfoldable pub enters : Ledger → Line → Result ℕ Fault
+enters s (unfit n p) = Err (fault_at n p)
+enters s (line x) = need (leb (s.fill + 64) (length s.bytes)) (Err (fault_at 56 0)) (Ok (s.fill + 64))
 
 -- The ledger afterwards: "makes no line and leaves the ledger as it was" on any refusal.
 unfoldable pub entered : Ledger → Line → Ledger
@@ -106,7 +102,7 @@ entered s (unfit n p) = s
 entered s (line x) = need (leb (s.fill + 64) (length s.bytes)) s (lines (splice 64 s.fill x s.bytes) (s.fill + 64))
 
 -- Both: the answer r, and the bytes that are left.
-abbrev pub Enters : Ledger → Line → Entered → List ℕ → Type 0
+abbrev pub Enters : Ledger → Line → Result ℕ Fault → List ℕ → Type 0
 Enters s x r left = (r ≡ enters s x) × (left ≡ (entered s x).bytes)
 
 -- A RUN OF CALLS

@@ -3,20 +3,13 @@
 // Of `codec` it sees what its public questions' contracts and its stated theorems say, and nothing else.
 #![tactic(auto)]
 
-ghost use Rattle.std.specs.Prelude.{◌≡◌, ◌+◌, ◌≤◌, length};
+ghost use Rattle.std.specs.Prelude.{Err, ◌≡◌, ◌+◌, ◌≤◌, length};
 ghost use Rattle.wire.specs.Bytes.{part, bytes_of, splice};
 ghost use Rattle.reading.specs.Part.{bytes_in};
 ghost use Rattle.opening.specs.Opening.{under, scratch_after};
 ghost use Rattle.ledger.specs.Ledger.{word_of, barcode_with, line_with, line_from, call, line_of, Inside, lines, enters, entered, Enters};
 
-use codec::{Front, Number, Part};
-
-// How far the ledger is filled, with one line more; or why there is none.
-#[derive(Clone, Copy)]
-pub enum Entered {
-    Fill(usize),
-    Refused { number: u8, place: usize },
-}
+use codec::{Fault, Front, Number, Part};
 
 const LB: [u8; 2] = *b"LB";
 
@@ -35,7 +28,7 @@ pub fn add_line(
     blank: u64,
     ledger: &mut [u8],
     fill: usize,
-) -> Entered
+) -> Result<usize, Fault>
     ensures value { result ≡ enters (lines ledger.old fill) (line_of (call table.now message.now (under store.now customer (length scratch.old)) blank)) }
     ensures ledger_after { ledger.new ≡ (entered (lines ledger.old fill) (line_of (call table.now message.now (under store.now customer (length scratch.old)) blank))).bytes }
     ensures scratch_after { scratch.new ≡ scratch_after table.now store.now message.now scratch.old }
@@ -61,8 +54,8 @@ pub fn add_line(
     }
 }
 
-fn refused(number: u8) -> Entered
-    ensures { result ≡ Entered.Refused number 0 }
+fn refused(number: u8) -> Result<usize, Fault>
+    ensures { result ≡ Err (fault_at number 0) }
 {
     Entered::Refused { number, place: 0 }
 }
@@ -70,13 +63,13 @@ fn refused(number: u8) -> Entered
 // The line with these values: 55, 56. `barcode` is a part of the message.
 fn enter(
     message: &[u8],
-    barcode: Part,
+    barcode: Result<Part, Fault>,
     density: usize,
     speed: usize,
     grade: usize,
     ledger: &mut [u8],
     fill: usize,
-) -> Entered
+) -> Result<usize, Fault>
     requires { Inside message.now barcode }
     ensures { Enters (lines ledger.old fill) (line_from (bytes_in message.now barcode) (bytes_of 4 density) (bytes_of 4 speed) (bytes_of 4 grade)) result ledger.new }
 {
@@ -98,7 +91,7 @@ fn enter_line(
     grade: usize,
     ledger: &mut [u8],
     fill: usize,
-) -> Entered
+) -> Result<usize, Fault>
     requires { start + count ≤ length message.now }
     ensures { Enters (lines ledger.old fill) (line_from (part count start message.now) (bytes_of 4 density) (bytes_of 4 speed) (bytes_of 4 grade)) result ledger.new }
 {
@@ -122,7 +115,7 @@ fn enter_line(
 // WRITING
 
 // A number whose low four bytes are the wire bytes of a u32 or an enumeration.
-fn word_of(value: Number) -> usize
+fn word_of(value: Result<Number, Fault>) -> usize
     ensures { result ≡ word_of value }
 {
     match value {

@@ -1,4 +1,5 @@
 -- That the claims hold.
+use Rattle.std.proofs.Common.{Ok, Err, Some, None}
 use Prim.Native.Nat.{ℕ, zero, suc, ◌+◌, ◌*◌}
 use mathlib.Core.Path.{◌≡◌, refl, sym, ap, ◌∙◌}
 use mathlib.Core.Bool.{Bool, true, false}
@@ -8,35 +9,30 @@ use lib.ListN.{length}
 use lib.Dec.{leb}
 use borrow.Author.Tests.{leb-true, leb-false}
 use Rattle.wire.specs.Bytes.{splice}
-use Rattle.schema.specs.declared.Verdict.{Verdict}
-use Rattle.schema.specs.declared.Verdict.TheVariants.{Accepted as Pass, Refused as Fail}
-use Rattle.schema.specs.Faults.{need}
+use Rattle.schema.specs.Faults.{Verdict, fault_at, need}
 use Rattle.schema.specs.Table.{table_verdict}
 use Rattle.opening.specs.Opening.{Under, message_verdict}
-use Rattle.tape.specs.declared.Answer.{Answer}
-use Rattle.tape.specs.declared.Answer.TheVariants.{Ended, Accepted, Refused}
-use Rattle.tape.specs.Tape.{whole, message_at, answer_of, tape_step, handed}
+use Rattle.tape.specs.Tape.{Answer, whole, message_at, answer_of, tape_step, handed}
 use Rattle.tape.proofs.Laws.{step-ended, step-20, step_cut, step-whole, handed-some}
 use Rattle.answers.specs.declared.outcome.Outcome.{Outcome}
 use Rattle.answers.specs.declared.outcome.Outcome.TheVariants.{Answered, Refused as Rejected, Failed}
 use Rattle.answers.specs.Outcomes.{worse_of}
-use Rattle.ledger.specs.declared.Entered.TheVariants.{Fill, Refused as NoLine}
 use Rattle.ledger.specs.Ledger.{Call, call, Line, unfit, line, line_of, Ledger, lines, enters, entered, run, with_line, lines_of}
 use Rattle.ledgers.specs.Entries.{call_before, calls_from, calls_at, calls, entry_outcome, run_outcome, ledger_outcome}
 use Rattle.ledgers.specs.Claims.{Passed, EntryClaims}
 
 abbrev is_accepted : Answer → Bool
-is_accepted Ended = false
-is_accepted Accepted = true
-is_accepted (Refused n p) = false
+is_accepted None = false
+is_accepted (Some (Ok _)) = true
+is_accepted (Some (Err f)) = false
 
 other : {X : Type 0} → false ≡ true → X
 other e = let z : ◌≡◌ {A = ℕ} 0 1 = cc in absurd (omega arith)
 
-verdict-of : (v : Verdict) → is_accepted (answer_of v) ≡ true → v ≡ Pass
+verdict-of : (v : Verdict) → is_accepted (answer_of v) ≡ true → v ≡ Ok tt
 unfolding answer_of
-verdict-of Pass e = refl
-verdict-of (Fail n p) e = other e
+verdict-of (Ok _) e = refl
+verdict-of (Err f) e = other e
 
 -- EVERY LINE
 
@@ -58,28 +54,28 @@ run-filled (c ∷ cs) s h = by-line (line_of c) (run-filled cs) h
     by-line (line x) rest h = unfold enters entered with_line in by-room (leb (s.fill + 64) (length s.bytes)) rest h
       where
         by-room : (v : Bool) → ((k : Ledger) → (run_outcome k cs ≡ Failed → ⊥) → (run k cs).fill ≡ k.fill + 64 * length (lines_of cs))
-            → (worse_of (entry_outcome (need v (NoLine 56 0) (Fill (s.fill + 64)))) (run_outcome (need v s (lines (splice 64 s.fill x s.bytes) (s.fill + 64))) cs) ≡ Failed → ⊥)
+            → (worse_of (entry_outcome (need v (Err (fault_at 56 0)) (Ok (s.fill + 64)))) (run_outcome (need v s (lines (splice 64 s.fill x s.bytes) (s.fill + 64))) cs) ≡ Failed → ⊥)
             → (run (need v s (lines (splice 64 s.fill x s.bytes) (s.fill + 64))) cs).fill ≡ s.fill + 64 * length (x ∷ lines_of cs)
         by-room true rest h = unfold need in let q = rest (lines (splice 64 s.fill x s.bytes) (s.fill + 64)) (λ e. h (worse-failed _ _ e)) in omega (arith, q)
         by-room false rest h = unfold need entry_outcome worse_of in absurd (h refl)
 
 module _ (t s : List ℕ) (u : Under) (id : ℕ) where
   -- what is handed out as accepted is
-  own-passed : (p : ℕ) → (tape_step t s p u).answer ≡ Accepted → message_verdict t (handed s p Accepted) u ≡ Pass
+  own-passed : (p : ℕ) → (tape_step t s p u).answer ≡ Some (Ok tt) → message_verdict t (handed s p (Some (Ok tt))) u ≡ Ok tt
   own-passed p e = by_place (leb (length s) p) (table_verdict t) (whole s p) refl refl refl
     where
-      by_place : (b : Bool) (v : Verdict) (w : Bool) → leb (length s) p ≡ b → table_verdict t ≡ v → whole s p ≡ w → message_verdict t (handed s p Accepted) u ≡ Pass
+      by_place : (b : Bool) (v : Verdict) (w : Bool) → leb (length s) p ≡ b → table_verdict t ≡ v → whole s p ≡ w → message_verdict t (handed s p (Some (Ok tt))) u ≡ Ok tt
       by_place true v w f g h = other (ap (λ x. is_accepted x.answer) (sym (step-ended t s p u (leb-true _ _ f))) ∙ ap is_accepted e)
-      by_place false (Fail n q) w f g h = other (ap (λ x. is_accepted x.answer) (sym (step-20 t s p u n q (leb-false _ _ f) (sym g))) ∙ ap is_accepted e)
-      by_place false Pass false f g h = other (ap (λ x. is_accepted x.answer) (sym (step_cut t s p u (leb-false _ _ f) g h)) ∙ ap is_accepted e)
-      by_place false Pass true f g h =
+      by_place false (Err f) w f g h = other (ap (λ x. is_accepted x.answer) (sym (step-20 t s p u f.number f.place (leb-false _ _ f) (sym g))) ∙ ap is_accepted e)
+      by_place false (Ok _) false f g h = other (ap (λ x. is_accepted x.answer) (sym (step_cut t s p u (leb-false _ _ f) g h)) ∙ ap is_accepted e)
+      by_place false (Ok _) true f g h =
           rw (sym (handed-some s p h)) (verdict-of (message_verdict t (message_at s p) u) (ap (λ x. is_accepted x.answer) (sym (step-whole t s p u g h)) ∙ ap is_accepted e))
 
   passed-before : (p : ℕ) (a : Answer) (cs : List Call) → (tape_step t s p u).answer ≡ a → Passed cs → Passed (call_before a (call t (handed s p a) u id) cs)
   unfolding call_before Passed
-  passed-before p Ended cs e r = tt
-  passed-before p Accepted cs e r = (own-passed p e, r)
-  passed-before p (Refused n q) cs e r = r
+  passed-before p None cs e r = tt
+  passed-before p (Some (Ok _)) cs e r = (own-passed p e, r)
+  passed-before p (Some (Err f)) cs e r = r
 
   passed-from : (n p : ℕ) → Passed (calls_from n t s u id p)
   unfolding calls_from Passed

@@ -1,4 +1,6 @@
 -- Laws of a tape's calls, of what a run of them leaves, and of its outcome.
+use Rattle.schema.specs.declared.Fault.{Fault}
+use Rattle.std.proofs.Common.{Ok, Err, Some, None, Result}
 use Prim.Native.Nat.{ℕ, zero, suc, ◌+◌, ◌<◌, ◌≤◌}
 use mathlib.Core.Path.{◌≡◌, refl, sym, ap, ◌∙◌}
 use mathlib.Core.Bool.{Bool, true, false, cond}
@@ -8,14 +10,11 @@ use lib.ListN.{length}
 use lib.Dec.{leb, eqb}
 use borrow.Author.Tests.{leb-true, leb-false}
 use Rattle.wire.specs.Bytes.{splice}
-use Rattle.schema.specs.declared.Verdict.TheVariants.{Refused as Failing}
-use Rattle.schema.specs.Faults.{need}
+use Rattle.schema.specs.Faults.{fault_at, need}
 use Rattle.schema.specs.Table.{table_verdict}
 use Rattle.opening.specs.Opening.{Under, under}
-use Rattle.tape.specs.declared.Answer.{Answer}
-use Rattle.tape.specs.declared.Answer.TheVariants.{Ended, Accepted, Refused as RefusedAt}
 use Rattle.tape.specs.declared.Step.{Step}
-use Rattle.tape.specs.Tape.{tape_step, handed, answers_at}
+use Rattle.tape.specs.Tape.{Answer, tape_step, handed, answers_at}
 use Rattle.tape.proofs.Laws.{step-ended, step-20}
 use Rattle.tape.proofs.Whole.{is_end, onward, answers-on, answers-end}
 use Rattle.answers.specs.declared.outcome.Outcome.{Outcome}
@@ -23,8 +22,6 @@ use Rattle.answers.specs.declared.outcome.Outcome.TheVariants.{Answered, Refused
 use Rattle.answers.specs.Outcomes.{worse_of}
 use Rattle.tapes.specs.Outcomes.{answer_outcome, tape_outcome}
 use Rattle.tapes.proofs.Laws.{worse-more, worse-none, outcome-20 as tape-20}
-use Rattle.ledger.specs.declared.Entered.{Entered}
-use Rattle.ledger.specs.declared.Entered.TheVariants.{Fill, Refused as NoLine}
 use Rattle.ledger.specs.Ledger.{Call, call, Line, unfit, line, line_of, Ledger, lines, enters, entered, run}
 use Rattle.ledgers.specs.declared.Filled.{Filled}
 use Rattle.ledgers.specs.Entries.{call_before, calls_from, calls_at, entry_of, ledger_after, fill_of, entry_outcome, turn_outcome, run_outcome, ledger_outcome, Fills}
@@ -61,7 +58,7 @@ module _ (t s : List ℕ) (u : Under) (id : ℕ) where
   calls-on p = enough (length s) (suc (length s)) p (omega arith) (omega arith)
 
 -- a refused table has none
-pub calls-20 : (t s : List ℕ) (u : Under) (id n q : ℕ) → Failing n q ≡ table_verdict t → calls_at t s u id 0 ≡ []
+pub calls-20 : (t s : List ℕ) (u : Under) (id n q : ℕ) → Err (fault_at n q) ≡ table_verdict t → calls_at t s u id 0 ≡ []
 unfolding call_before
 calls-20 t [] u id n q e = calls-end t [] u id 0 (omega arith)
 calls-20 t (x ∷ s) u id n q e =
@@ -69,7 +66,7 @@ calls-20 t (x ∷ s) u id n q e =
 
 -- ONE MESSAGE
 
-fill-room : (b : Bool) (s s' : Ledger) → fill_of s.fill (need b (NoLine 56 0) (Fill s'.fill)) ≡ (need b s s').fill
+fill-room : (b : Bool) (s s' : Ledger) → fill_of s.fill (need b (Err (fault_at 56 0)) (Ok s'.fill)) ≡ (need b s s').fill
 unfolding fill_of need
 fill-room true s s' = refl
 fill-room false s s' = refl
@@ -81,15 +78,15 @@ fill-entered s (line x) = fill-room (leb (s.fill + 64) (length s.bytes)) s (line
 
 pub fill-after : (a : Answer) (s : Ledger) (c : Call) → fill_of s.fill (entry_of a s c) ≡ (ledger_after a s c).fill
 unfolding fill_of entry_of ledger_after
-fill-after Ended s c = refl
-fill-after Accepted s c = fill-entered s (line_of c)
-fill-after (RefusedAt n p) s c = refl
+fill-after None s c = refl
+fill-after (Some (Ok _)) s c = fill-entered s (line_of c)
+fill-after (Some (Err f)) s c = refl
 
 run-turn : (a : Answer) (s : Ledger) (c : Call) (cs : List Call) → is_end a ≡ false → run s (call_before a c cs) ≡ run (ledger_after a s c) cs
 unfolding run call_before ledger_after
-run-turn Ended s c cs e = no_end e
-run-turn Accepted s c cs e = refl
-run-turn (RefusedAt n p) s c cs e = refl
+run-turn None s c cs e = no_end e
+run-turn (Some (Ok _)) s c cs e = refl
+run-turn (Some (Err f)) s c cs e = refl
 
 -- OUTCOMES
 
@@ -112,9 +109,9 @@ worse-first a b c = worse-more a b c ∙ ap (λ (x : Outcome). worse_of x c) (wo
 outcome-turn : (a : Answer) (s : Ledger) (c : Call) (answers : List Answer) (cs : List Call) → is_end a ≡ false
     → ledger_outcome s (a ∷ answers) (call_before a c cs) ≡ worse_of (turn_outcome a (entry_of a s c)) (ledger_outcome (ledger_after a s c) answers cs)
 unfolding ledger_outcome tape_outcome answer_outcome run_outcome call_before turn_outcome entry_of ledger_after worse_of
-outcome-turn Ended s c answers cs e = no_end e
-outcome-turn Accepted s c answers cs e = worse-first (tape_outcome answers) (entry_outcome (enters s (line_of c))) (run_outcome (entered s (line_of c)) cs)
-outcome-turn (RefusedAt n p) s c answers cs e = sym (worse-more Refused (tape_outcome answers) (run_outcome s cs))
+outcome-turn None s c answers cs e = no_end e
+outcome-turn (Some (Ok _)) s c answers cs e = worse-first (tape_outcome answers) (entry_outcome (enters s (line_of c))) (run_outcome (entered s (line_of c)) cs)
+outcome-turn (Some (Err f)) s c answers cs e = sym (worse-more Refused (tape_outcome answers) (run_outcome s cs))
 
 module _ (t s : List ℕ) (u : Under) (id : ℕ) where
   -- the outcome w so far, and that of the tape from p on
@@ -163,7 +160,7 @@ module _ (t s : List ℕ) (u : Under) (id : ℕ) where
     }
 
     -- by what the code found: m is the message, e what came of it
-    pub turn : (m L : List ℕ) (f : ℕ) (e : Entered) (o w' : Outcome) → m ≡ handed s p x.answer → e ≡ entry_of x.answer l (call t m u id)
+    pub turn : (m L : List ℕ) (f : ℕ) (e : Result ℕ Fault) (o w' : Outcome) → m ≡ handed s p x.answer → e ≡ entry_of x.answer l (call t m u id)
         → L ≡ (ledger_after x.answer l (call t m u id)).bytes → o ≡ turn_outcome x.answer e → w' ≡ worse_of w o → f ≡ fill_of l.fill e → Turn w l p w' (lines L f) x.next
     turn m L f e o w' hm he hL ho hw hf =
         let ec : call t m u id ≡ own = ap (λ (y : List ℕ). call t y u id) hm in
@@ -174,7 +171,7 @@ module _ (t s : List ℕ) (u : Under) (id : ℕ) where
         rw (ew, ef, eL) turn-own
 
 -- under scratches as long as the one that the loop was lent: k at the tape's step, k' at the entry
-pub turn-under : (t s store : List ℕ) (customer room k k' id p : ℕ) (x : Step) (w w' o : Outcome) (m L L' : List ℕ) (f f' : ℕ) (e : Entered)
+pub turn-under : (t s store : List ℕ) (customer room k k' id p : ℕ) (x : Step) (w w' o : Outcome) (m L L' : List ℕ) (f f' : ℕ) (e : Result ℕ Fault)
     → k ≡ room → k' ≡ room → p < length s → x ≡ tape_step t s p (under store customer k) → m ≡ handed s p x.answer
     → e ≡ entry_of x.answer (lines L f) (call t m (under store customer k') id) → L' ≡ (ledger_after x.answer (lines L f) (call t m (under store customer k') id)).bytes
     → o ≡ turn_outcome x.answer e → w' ≡ worse_of w o → f' ≡ fill_of f e → Turn t s (under store customer room) id w (lines L f) p w' (lines L' f') x.next
@@ -184,7 +181,7 @@ turn-under t s store customer room k k' id p x w w' o m L L' f f' e hk hk' h q h
     (hL ∙ ap (λ (n : ℕ). (ledger_after x.answer (lines L f) (call t m (under store customer n) id)).bytes) hk') ho hw hf
 
 -- A refused table: one refusal where a byte is left, and no call.
-pub fills-20 : (t s : List ℕ) (u : Under) (id n q : ℕ) (l : Ledger) (r : Filled) → Failing n q ≡ table_verdict t
+pub fills-20 : (t s : List ℕ) (u : Under) (id n q : ℕ) (l : Ledger) (r : Filled) → Err (fault_at n q) ≡ table_verdict t
     → r.fill ≡ l.fill → r.outcome ≡ cond (eqb (length s) 0) Answered Refused → Fills l (answers_at t s u 0) (calls_at t s u id 0) r l.bytes
 unfolding run ledger_outcome run_outcome
 fills-20 t s u id n q l r e f o =

@@ -1,6 +1,5 @@
 -- "a ledger line made only from a message that passed", of a tape's messages in a ledger.
-use Rattle.std.specs.Prelude.{◌≡◌, List, [], ◌∷◌, ℕ, ◌+◌, ◌*◌, length}
-use Rattle.schema.specs.declared.Verdict.TheVariants.{Accepted}
+use Rattle.std.specs.Prelude.{Ok, ◌≡◌, List, [], ◌∷◌, ℕ, ◌+◌, ◌*◌, length}
 use Rattle.opening.specs.Opening.{Under, message_verdict}
 use Rattle.tape.specs.Tape.{tape_answers}
 use Rattle.answers.specs.declared.outcome.Outcome.TheVariants.{Failed}
@@ -10,7 +9,7 @@ use Rattle.ledgers.specs.Entries.{calls, ledger_outcome}
 -- Each of these calls is for a message that is accepted.
 unfoldable pub Passed : List Call → Type 0
 Passed [] = Unit
-Passed (c ∷ cs) = (message_verdict c.table c.message c.reads ≡ Accepted) × Passed cs
+Passed (c ∷ cs) = (message_verdict c.table c.message c.reads ≡ Ok tt) × Passed cs
 
 pub record EntryClaims (t tape : List ℕ) (u : Under) (id : ℕ) : Type 0 where
   pub passed : Passed (calls t tape u id)

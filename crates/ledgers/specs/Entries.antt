@@ -1,15 +1,12 @@
 -- A tape's messages in a ledger: "a whole shift's tape read past its bad messages, and a ledger line made only from a message that passed".
-use Rattle.std.specs.Prelude.{◌≡◌, cond, List, [], ◌∷◌, ℕ, zero, suc, length, eqb}
+use Rattle.schema.specs.declared.Fault.{Fault}
+use Rattle.std.specs.Prelude.{Ok, Err, Some, None, Result, ◌≡◌, cond, List, [], ◌∷◌, ℕ, zero, suc, length, eqb}
 use Rattle.opening.specs.Opening.{Under}
-use Rattle.tape.specs.declared.Answer.{Answer}
-use Rattle.tape.specs.declared.Answer.TheVariants.{Ended, Accepted, Refused as RefusedAt}
-use Rattle.tape.specs.Tape.{tape_step, handed}
+use Rattle.tape.specs.Tape.{Answer, tape_step, handed}
 use Rattle.answers.specs.declared.outcome.Outcome.{Outcome}
 use Rattle.answers.specs.declared.outcome.Outcome.TheVariants.{Answered, Refused, Failed}
 use Rattle.answers.specs.Outcomes.{worse_of}
 use Rattle.tapes.specs.Outcomes.{tape_outcome}
-use Rattle.ledger.specs.declared.Entered.{Entered}
-use Rattle.ledger.specs.declared.Entered.TheVariants.{Fill, Refused as NoLine}
 use Rattle.ledger.specs.Ledger.{Call, call, line_of, Ledger, enters, entered, run}
 use Rattle.ledgers.specs.declared.Filled.{Filled}
 
@@ -17,9 +14,9 @@ use Rattle.ledgers.specs.declared.Filled.{Filled}
 
 -- The call for a message, before those of the rest: none where it is refused, and none where the tape ended.
 unfoldable pub call_before : Answer → Call → List Call → List Call
-call_before Ended c cs = []
-call_before Accepted c cs = c ∷ cs
-call_before (RefusedAt n p) c cs = cs
+call_before None c cs = []
+call_before (Some (Ok _)) c cs = c ∷ cs
+call_before (Some (Err f)) c cs = cs
 
 -- The calls for the accepted messages from a place on, each with the bytes that the tape's reader hands out; of at most n messages.
 unfoldable pub calls_from : ℕ → List ℕ → List ℕ → Under → ℕ → ℕ → List Call
@@ -38,31 +35,31 @@ calls t tape u id = calls_at t tape u id 0
 -- ONE MESSAGE
 
 -- What comes of a message with this answer of the tape, and the ledger afterwards: a refused one makes no line.
-unfoldable pub entry_of : Answer → Ledger → Call → Entered
-entry_of Ended s c = Fill s.fill
-entry_of Accepted s c = enters s (line_of c)
-entry_of (RefusedAt n p) s c = NoLine n p
+unfoldable pub entry_of : Answer → Ledger → Call → Result ℕ Fault
+entry_of None s c = Ok s.fill
+entry_of (Some (Ok _)) s c = enters s (line_of c)
+entry_of (Some (Err f)) s c = Err f
 
 unfoldable pub ledger_after : Answer → Ledger → Call → Ledger
-ledger_after Ended s c = s
-ledger_after Accepted s c = entered s (line_of c)
-ledger_after (RefusedAt n p) s c = s
+ledger_after None s c = s
+ledger_after (Some (Ok _)) s c = entered s (line_of c)
+ledger_after (Some (Err f)) s c = s
 
-unfoldable pub fill_of : ℕ → Entered → ℕ
-fill_of fill (Fill n) = n
-fill_of fill (NoLine n p) = fill
+unfoldable pub fill_of : ℕ → Result ℕ Fault → ℕ
+fill_of fill (Ok n) = n
+fill_of fill (Err f) = fill
 
 -- OUTCOMES
 
 -- No room for a line is worse than a message that makes none: then nothing is written.
-unfoldable pub entry_outcome : Entered → Outcome
-entry_outcome (Fill n) = Answered
-entry_outcome (NoLine n p) = cond (eqb n 56) Failed Refused
+unfoldable pub entry_outcome : Result ℕ Fault → Outcome
+entry_outcome (Ok n) = Answered
+entry_outcome (Err f) = cond (eqb f.number 56) Failed Refused
 
-unfoldable pub turn_outcome : Answer → Entered → Outcome
-turn_outcome Ended e = Answered
-turn_outcome Accepted e = entry_outcome e
-turn_outcome (RefusedAt n p) e = Refused
+unfoldable pub turn_outcome : Answer → Result ℕ Fault → Outcome
+turn_outcome None e = Answered
+turn_outcome (Some (Ok _)) e = entry_outcome e
+turn_outcome (Some (Err f)) e = Refused
 
 -- Of a run of calls, "each given ledger and fill as the last left them".
 unfoldable pub run_outcome : Ledger → List Call → Outcome

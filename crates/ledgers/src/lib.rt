@@ -1,7 +1,7 @@
 // The lines of a tape's messages, entered in a ledger, and the messages that make none.
 #![tactic(auto)]
 
-ghost use Rattle.std.specs.Prelude.{◌≡◌, ◌≤◌, cond, length, eqb};
+ghost use Rattle.std.specs.Prelude.{Ok, ◌≡◌, ◌≤◌, cond, length, eqb};
 ghost use Rattle.table.specs.Index.{Checked};
 ghost use Rattle.opening.specs.Opening.{under};
 ghost use Rattle.tape.specs.Tape.{tape_answers};
@@ -37,7 +37,7 @@ fn enter(
     id: u64,
     ledger: &mut [u8],
     fill: usize,
-) -> Entered
+) -> Result<usize, Fault>
     ensures value { result ≡ entry_of answer (lines ledger.old fill) (call table.now message.now (under store.now customer (length scratch.old)) id) }
     ensures ledger_after { ledger.new ≡ (ledger_after answer (lines ledger.old fill) (call table.now message.now (under store.now customer (length scratch.old)) id)).bytes }
 {
@@ -51,7 +51,7 @@ fn enter(
 }
 
 // The fill with one entry more.
-fn fill_of(fill: usize, entered: Entered) -> usize
+fn fill_of(fill: usize, entered: Result<usize, Fault>) -> usize
     ensures { result ≡ fill_of fill entered }
 {
     match entered {
@@ -63,7 +63,7 @@ fn fill_of(fill: usize, entered: Entered) -> usize
     }
 }
 
-fn outcome_of(entered: Entered) -> Outcome
+fn outcome_of(entered: Result<usize, Fault>) -> Outcome
     ensures { result ≡ entry_outcome entered }
 {
     match entered {
@@ -77,7 +77,7 @@ fn outcome_of(entered: Entered) -> Outcome
     }
 }
 
-fn turn_outcome(answer: Answer, entered: Entered) -> Outcome
+fn turn_outcome(answer: Answer, entered: Result<usize, Fault>) -> Outcome
     ensures { result ≡ turn_outcome answer entered }
 {
     match answer {
@@ -104,7 +104,7 @@ fn enter_under(
     ledger: &mut [u8],
     start: usize,
 ) -> Filled
-    requires { Checked table.now index.now Verdict.Accepted }
+    requires { Checked table.now index.now (Ok tt) }
     ensures { Fills (lines ledger.old start) (tape_answers table.now tape.now (under store.now customer (length scratch.old))) (calls table.now tape.now (under store.now customer (length scratch.old)) id) result ledger.new }
 {
     let mut worst = Outcome::Answered;
@@ -183,7 +183,7 @@ fn print_refused(page: &mut Page, tape: &[u8], at: usize, number: u8, place: usi
 }
 
 // What came of the message at `at`, asked with no room: 56 where it makes a line. Answers 1 for a refusal.
-fn say(page: &mut Page, tape: &[u8], at: usize, entered: Entered) -> usize
+fn say(page: &mut Page, tape: &[u8], at: usize, entered: Result<usize, Fault>) -> usize
     ensures { result ≤ 1 }
 {
     match entered {
@@ -253,7 +253,7 @@ fn list_under(
     scratch: &mut [u8],
     id: u64,
 )
-    requires { Checked table.now index.now Verdict.Accepted }
+    requires { Checked table.now index.now (Ok tt) }
 {
     let mut messages = 0;
     let mut refused = 0;

@@ -85,7 +85,7 @@ fn print_target(page: &mut Page, run: &[u8], at: usize) {
     }
 }
 
-fn number_of(bytes: &[u8; 9], number: u8) -> Number {
+fn number_of(bytes: &[u8; 9], number: u8) -> Result<Number, Fault> {
     reading::number_at(bytes, 0, number)
 }
 

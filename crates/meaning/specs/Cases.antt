@@ -1,11 +1,9 @@
 -- Document 004's messages, with their sheets: document 01's "twelve cases .. for the written rules themselves, as one table under a single claim".
 -- A message stands as document 004 prints it, a line for each of its lines; a sheet has a line for each of its records.
-use Rattle.std.specs.Prelude.{◌≡◌, refl, List, [], ◌∷◌, ◌++◌, ℕ, length}
+use Rattle.std.specs.Prelude.{Ok, Err, ◌≡◌, refl, List, [], ◌∷◌, ◌++◌, ℕ, length}
 use Rattle.wire.specs.Bytes.{le, bytes_of, same, all_zero, zeros}
 use Rattle.wire.specs.Utf8.{after, begins, follow, lowest, highest, text_from, is_valid, utf8}
-use Rattle.schema.specs.declared.Verdict.{Verdict}
-use Rattle.schema.specs.declared.Verdict.TheVariants.{Accepted, Refused}
-use Rattle.schema.specs.Faults.{need, also}
+use Rattle.schema.specs.Faults.{Verdict, need, also}
 use Rattle.schema.specs.Schema.{member, passes, test_fault, text_ok, kind_width, value_width, field_width, fields_width, fields_of, super_of, width, shallow_kind, shallow_fields, shallow, find, known, under, allows}
 use Rattle.schema.specs.Symbols.{rank}
 use Rattle.schema.specs.Table.{group_marked, scalar_width, kind_of, field_at, fields_at, values_at, group_at, enums_from, groups_from, places_from, enums, schema, places, is_enum, is_group, is_due, due_after, shape_from, shape_verdict, enum_verdict, symbol_verdict, group_verdict, size_ok, reference_ok, field_verdict, record_verdict, records_from, records_verdict, any_id, id_verdict, each_group, in_bounds, widths_verdict, begins_with, inherits, supers_verdict, stores_own, stored_verdict, table_verdict}
@@ -326,8 +324,8 @@ cases =
 
 -- "20: table refused", and what follows where it is accepted, with scratch as long as the message.
 unfoldable pub under20 : Verdict → Reading → Reading
-under20 Accepted r = r
-under20 (Refused n p) r = refused 20 0
+under20 (Ok _) r = r
+under20 (Err f) r = refused 20 0
 
 unfoldable pub readings : List Case → List Reading
 readings [] = []

@@ -1,11 +1,11 @@
 -- A walk's answer and the count that it stands for: what a function shows at a return, and how it goes on after a call.
-use Rattle.std.proofs.Common.{◌≡◌, ℕ, ◌+◌, ◌%◌, ◌^◌, ◌<◌, List, [], sym, refl, ap, ◌∙◌, add-zero, add_assoc, mod-lt, mod-eq_of_lt, arith}
+use Rattle.schema.specs.Faults.{fault_at}
+use Rattle.std.proofs.Common.{Ok, Err, ◌≡◌, ℕ, ◌+◌, ◌%◌, ◌^◌, ◌<◌, List, [], sym, refl, ap, ◌∙◌, add-zero, add_assoc, mod-lt, mod-eq_of_lt, arith}
 use native.Mathlib.Nat.{mod-add-mod}
 use Rattle.message.specs.Count.{Count, failed, counted, more, and_then}
 use Rattle.message.specs.Check.{count_by, count_of, after}
 use Rattle.message.specs.declared.Step.{Step}
 use Rattle.message.specs.declared.Step.TheVariants.{Counted, Refused}
-use Rattle.message.specs.declared.Walked.TheVariants.{Counted as Whole, Refused as Refuse}
 
 -- RETURNS
 
@@ -66,14 +66,14 @@ module _ (F : ℕ → List ℕ) (k : ℕ) (c : Count) (v : Step) (s : count_by F
 -- THE CHECK'S ANSWER
 
 module _ (k : ℕ) (c : Count) where
-  pub check-refuses : (n p : ℕ) → c ≡ failed n p → count_of (Refuse n p) [] ≡ after k c
+  pub check-refuses : (n p : ℕ) → c ≡ failed n p → count_of (Err (fault_at n p)) [] ≡ after k c
   unfolding count_of after
   check-refuses n p e = rw e
 
-  pub check-accepts : (v : Step) (l : ℕ) (x : ℕ) → count_by (λ _. []) v ≡ after k c → v ≡ Counted l x → count_of (Whole l) [] ≡ after k c
+  pub check-accepts : (v : Step) (l : ℕ) (x : ℕ) → count_by (λ _. []) v ≡ after k c → v ≡ Counted l x → count_of (Ok l) [] ≡ after k c
   unfolding count_of count_by
   check-accepts v l x s e = sym (ap (count_by (λ _. [])) e) ∙ s
 
-  pub check-stops : (v : Step) (n p : ℕ) → count_by (λ _. []) v ≡ after k c → v ≡ Refused n p → count_of (Refuse n p) [] ≡ after k c
+  pub check-stops : (v : Step) (n p : ℕ) → count_by (λ _. []) v ≡ after k c → v ≡ Refused n p → count_of (Err (fault_at n p)) [] ≡ after k c
   unfolding count_of count_by
   check-stops v n p s e = sym (ap (count_by (λ _. [])) e) ∙ s

@@ -1,5 +1,6 @@
 -- What the check's functions answer, and what they ask of their callers.
-use Rattle.std.specs.Prelude.{◌≡◌, ℕ, ◌+◌, ◌-◌, ◌*◌, ◌/◌, ◌%◌, ◌^◌, ◌<◌, ◌≤◌, min, Bool, cond, ◌||◌, List, [], length, drop, replicate, ◌==◌, nat_le}
+use Rattle.schema.specs.declared.Fault.{Fault}
+use Rattle.std.specs.Prelude.{Ok, Err, Result, ◌≡◌, ℕ, ◌+◌, ◌-◌, ◌*◌, ◌/◌, ◌%◌, ◌^◌, ◌<◌, ◌≤◌, min, Bool, cond, ◌||◌, List, [], length, drop, replicate, ◌==◌, nat_le}
 use Rattle.schema.specs.Faults.{need}
 use Rattle.schema.specs.Schema.{Kind, Field, width}
 use Rattle.schema.specs.Table.{schema}
@@ -11,8 +12,6 @@ use Rattle.message.specs.Walk.{Here, here, Reader, Inner, Place, lost, found, ma
 use Rattle.message.specs.Count.{Count, failed, counted}
 use Rattle.message.specs.declared.Step.{Step}
 use Rattle.message.specs.declared.Step.TheVariants.{Counted, Refused}
-use Rattle.message.specs.declared.Walked.{Walked}
-use Rattle.message.specs.declared.Walked.TheVariants.{Counted as Whole, Refused as Failed}
 use Rattle.message.specs.declared.Located.{Located}
 use Rattle.message.specs.declared.Located.TheVariants.{At, Nowhere}
 use Rattle.message.specs.declared.Frame.{Frame}
@@ -24,7 +23,7 @@ unfoldable pub levels_in : ℕ → ℕ
 levels_in n = n % 16
 
 unfoldable pub ignored_in : ℕ → Ignored
-ignored_in n = record { absent = (n / 16 % 2 == 1); pads = nat_le 2 (n / 16 % 4); unused = nat_le 4 (n / 16) }
+ignored_in n = record { absent = n / 16 % 2 == 1; pads = nat_le 2 (n / 16 % 4); unused = nat_le 4 (n / 16) }
 
 -- MARKS
 -- The code keeps no occupancy of the values that stand one behind the other from the data area's start on, as most do: it knows where they end.
@@ -49,9 +48,9 @@ count_by F (Counted k s) = counted k (F s)
 count_by F (Refused n p) = failed n p
 
 -- The whole walk's answer, with occupancy m.
-unfoldable pub count_of : Walked → List ℕ → Count
-count_of (Whole k) m = counted k m
-count_of (Failed n p) m = failed n p
+unfoldable pub count_of : Result ℕ Fault → List ℕ → Count
+count_of (Ok k) m = counted k m
+count_of (Err f) m = failed f.number f.place
 
 -- A count that goes on behind a sheet of k bytes. The code adds in 64 bits; a sheet is at most eleven times as long as its message, so nothing is cut off.
 unfoldable pub after : ℕ → Count → Count

@@ -22,6 +22,7 @@ ghost use Rattle.message.specs.Check.{levels_in, ignored_in, packed, scattered, 
 ghost use Rattle.message.specs.declared.Frame.{Frame};
 ghost use Rattle.message.specs.Scopes.{group_of, behind_of, left_of, Lies, Opens};
 
+use schema::Fault;
 use settings::Ignored;
 
 // Which bytes of a data area are taken, as one number, since a struct would pass through memory at each
@@ -33,13 +34,6 @@ const SCATTERED: usize = 131072;
 #[derive(Clone, Copy)]
 enum Step {
     Counted { length: usize, taken: usize },
-    Refused { number: u8, place: usize },
-}
-
-// The check's answer: the sheet's length, or the first fault.
-#[derive(Clone, Copy)]
-pub enum Walked {
-    Counted { length: usize },
     Refused { number: u8, place: usize },
 }
 
@@ -1339,7 +1333,7 @@ pub fn check(
     message: &[u8],
     ignored: Ignored,
     scratch: &mut [u8],
-) -> Walked
+) -> Result<usize, Fault>
     requires { (Layout table.now index.now) × (length message.now ≤ length scratch.old) × (length message.now ≤ 65536) }
     ensures result_value { count_of result [] ≡ after 0 (count (walk ignored (schema table.now) message.now)) }
     ensures scratch_after { scratch.new ≡ splice (length message.now) 0 (replicate (length message.now) 0) scratch.old }
@@ -1356,7 +1350,7 @@ fn check_sized(
     message: &[u8],
     rules: usize,
     occupied: &mut [u8],
-) -> Walked
+) -> Result<usize, Fault>
     requires { (Layout table.now index.now) × (length occupied.old ≡ length message.now) × (length message.now ≤ 65536) × (levels_in rules ≡ 8) }
     ensures { count_of result [] ≡ after 0 (count (walk (ignored_in rules) (schema table.now) message.now)) }
 {

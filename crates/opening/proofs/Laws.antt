@@ -1,4 +1,6 @@
 -- What the opening of a message answers, by what the crates below found.
+use Rattle.schema.specs.declared.Fault.{Fault}
+use Rattle.std.proofs.Common.{Ok, Err, Result}
 use Prim.Native.Nat.{ℕ, ◌*◌, ◌<◌, ◌≤◌}
 use mathlib.Core.Path.{◌≡◌, refl, sym, ap, ◌∙◌}
 use mathlib.Core.Bool.{Bool, true, false}
@@ -7,19 +9,15 @@ use native.Mathlib.Omega.{arith}
 use lib.ListN.{length, replicate}
 use borrow.Author.Tests.{le-leb, lt-leb, leb-true}
 use Rattle.wire.specs.Bytes.{splice}
-use Rattle.schema.specs.declared.Verdict.TheVariants.{Accepted, Refused}
-use Rattle.schema.specs.Faults.{need}
+use Rattle.schema.specs.Faults.{fault_at, need}
 use Rattle.schema.specs.Schema.{Kind, plain, inline, indirect, static, dynamic, Field}
 use Rattle.schema.specs.Table.{schema, table_verdict}
 use Rattle.schema.specs.Layout.{Layout}
 use Rattle.schema.proofs.Depth.{and_both}
 use Rattle.settings.specs.declared.Ignored.{Ignored}
-use Rattle.settings.specs.declared.Setting.TheVariants.{Ignores, Refused as Unknown}
 use Rattle.settings.specs.Store.{strict, lax, records, sound, governing, setting_of}
 use Rattle.table.specs.Measure.{sound_kind, sound_fields}
 use Rattle.table.proofs.Accepted as table
-use Rattle.message.specs.declared.Walked.{Walked}
-use Rattle.message.specs.declared.Walked.TheVariants.{Counted as Passed, Refused as Failed}
 use Rattle.message.specs.Walk.{Reading, refused, done, walk, message_r}
 use Rattle.message.specs.Count.{count}
 use Rattle.message.specs.Check.{count_of, after}
@@ -29,14 +27,14 @@ use Rattle.reading.proofs.Alike.{Laxer, walk-laxer, laxest}
 use Rattle.opening.specs.Opening.{accepted, Under, under, message_reading, verdict_of, message_verdict, scratch_after, Opened}
 
 -- a refusal opens nothing
-pub opens-nothing : (t b : List ℕ) (u : Under) (k : List ℕ) (w : Walked) (n p : ℕ) → w ≡ Failed n p → message_reading t b u ≡ refused n p → Opened t b u k w
+pub opens-nothing : (t b : List ℕ) (u : Under) (k : List ℕ) (w : Result ℕ Fault) (n p : ℕ) → w ≡ Err (fault_at n p) → message_reading t b u ≡ refused n p → Opened t b u k w
 opens-nothing t b u k w n p e r = record {
   refuses = λ n' p' f. let a : n ≡ n' = cc in let c : p ≡ p' = cc in rw (a, c) at r;
   opens = λ n' f. let z : ◌≡◌ {A = ℕ} 0 1 = cc in absurd (omega arith);
 }
 
 -- 20
-module _ (t st b s : List ℕ) (n p : ℕ) (e : Refused n p ≡ table_verdict t) where
+module _ (t st b s : List ℕ) (n p : ℕ) (e : Err (fault_at n p) ≡ table_verdict t) where
   pub reading-20 : (u : Under) → message_reading t b u ≡ refused 20 0
   unfolding message_reading accepted need
   reading-20 u = rw (← e)
@@ -58,10 +56,10 @@ sized-fields n own (f ∷ fs) e = let x = and_both _ _ e in (sized-kind n own f.
     sized-kind n own (static g) e = tt
     sized-kind n own (dynamic g) e = tt
 
-pub sized : (t : List ℕ) → table_verdict t ≡ Accepted → Sized (schema t)
+pub sized : (t : List ℕ) → table_verdict t ≡ Ok tt → Sized (schema t)
 sized t e = let a = table.accepted t e in record { kinds = λ g. sized-fields _ g _ (a.sound g); shallows = a.shallows }
 
-pub reading-under : (t : List ℕ) → table_verdict t ≡ Accepted → (u : Under) → sound u.store ≡ true
+pub reading-under : (t : List ℕ) → table_verdict t ≡ Ok tt → (u : Under) → sound u.store ≡ true
     → (b : List ℕ) → message_reading t b u ≡ message_r (governing u.store u.customer) (schema t) u.scratch b
 unfolding message_reading accepted need message_r
 reading-under t e u f b = rw (e, f)
@@ -77,34 +75,34 @@ strictest x = record { absent = λ e. absurd (none e); pads = λ e. absurd (none
 
 -- what the store says of a customer's settings
 module _ (st : List ℕ) (c : ℕ) where
-  pub settled : (x : Ignored) → Ignores x ≡ setting_of st c → (sound st ≡ true) × (x ≡ governing st c)
+  pub settled : (x : Ignored) → Ok x ≡ setting_of st c → (sound st ≡ true) × (x ≡ governing st c)
   unfolding setting_of
   settled x e = go (sound st) e
     where
-      go : (b : Bool) → Ignores x ≡ need b (Unknown 50 (9 * records st)) (Ignores (governing st c)) → (b ≡ true) × (x ≡ governing st c)
+      go : (b : Bool) → Ok x ≡ need b (Err (fault_at 50 (9 * records st))) (Ok (governing st c)) → (b ≡ true) × (x ≡ governing st c)
       go true e = unfold need in let q : x ≡ governing st c = cc in (refl, q)
       go false e = unfold need in let z : ◌≡◌ {A = ℕ} 0 1 = cc in absurd (omega arith)
 
-  pub unsettled : (n p : ℕ) → Unknown n p ≡ setting_of st c → (sound st ≡ false) × (refused 50 (9 * records st) ≡ refused n p)
+  pub unsettled : (n p : ℕ) → Err (fault_at n p) ≡ setting_of st c → (sound st ≡ false) × (refused 50 (9 * records st) ≡ refused n p)
   unfolding setting_of
   unsettled n p e = go (sound st) e
     where
-      go : (b : Bool) → Unknown n p ≡ need b (Unknown 50 (9 * records st)) (Ignores (governing st c)) → (b ≡ false) × (refused 50 (9 * records st) ≡ refused n p)
+      go : (b : Bool) → Err (fault_at n p) ≡ need b (Err (fault_at 50 (9 * records st))) (Ok (governing st c)) → (b ≡ false) × (refused 50 (9 * records st) ≡ refused n p)
       go true e = unfold need in let z : ◌≡◌ {A = ℕ} 0 1 = cc in absurd (omega arith)
       go false e = unfold need in let q : n ≡ 50 = cc in let r : p ≡ 9 * records st = cc in (refl, rw (q, r))
 
 -- what a check says of the walk
-walked-refuses : (x : Reading) (n p : ℕ) → count_of (Failed n p) [] ≡ count x → x ≡ refused n p
+walked-refuses : (x : Reading) (n p : ℕ) → count_of (Err (fault_at n p)) [] ≡ count x → x ≡ refused n p
 unfolding count_of count
 walked-refuses (refused n' p') n p e = cc
 walked-refuses (done s m) n p e = let z : ◌≡◌ {A = ℕ} 0 1 = cc in absurd (omega arith)
 
-walked-means : (x : Reading) (n : ℕ) → count_of (Passed n) [] ≡ count x → (s : List ℕ) × (x ≡ done s []) × (length s ≡ n)
+walked-means : (x : Reading) (n : ℕ) → count_of (Ok n) [] ≡ count x → (s : List ℕ) × (x ≡ done s []) × (length s ≡ n)
 unfolding count_of count
 walked-means (refused n' p) n e = let z : ◌≡◌ {A = ℕ} 0 1 = cc in absurd (omega arith)
 walked-means (done s m) n e = let l : length s ≡ n = cc in let i : m ≡ [] = cc in (s, ap (done s) i, l)
 
-module _ (t st : List ℕ) (c : ℕ) (b s : List ℕ) (e : Accepted ≡ table_verdict t) where
+module _ (t st : List ℕ) (c : ℕ) (b s : List ℕ) (e : Ok tt ≡ table_verdict t) where
   abbrev asked : Under
   asked = under st c (length s)
 
@@ -127,7 +125,7 @@ module _ (t st : List ℕ) (c : ℕ) (b s : List ℕ) (e : Accepted ≡ table_ve
     scratch-21 = rw (← e, le-leb _ _ fits, lt-leb _ _ short)
 
   module _ (fits : length b ≤ 65536) (room : length b ≤ length s) where
-    module _ (n p : ℕ) (f : Unknown n p ≡ setting_of st c) where
+    module _ (n p : ℕ) (f : Err (fault_at n p) ≡ setting_of st c) where
       pub reading-50 : message_reading t b asked ≡ refused n p
       unfolding message_reading accepted need
       reading-50 = let u = unsettled st c n p f in rw (← e, le-leb _ _ fits, le-leb _ _ room, u.0) u.1
@@ -136,18 +134,18 @@ module _ (t st : List ℕ) (c : ℕ) (b s : List ℕ) (e : Accepted ≡ table_ve
       unfolding scratch_after accepted
       scratch-50 = rw (← e, le-leb _ _ fits, le-leb _ _ room, (unsettled st c n p f).0)
 
-    module _ (x : Ignored) (f : Ignores x ≡ setting_of st c) where
+    module _ (x : Ignored) (f : Ok x ≡ setting_of st c) where
       walked : message_reading t b asked ≡ walk x (schema t) b
       unfolding message_r need
       walked = let u = settled st c x f in reading-under t (sym e) asked u.0 b ∙ rw (le-leb _ _ fits, le-leb _ _ room, u.1)
 
-      pub opened : (k : List ℕ) → Layout t k → (w : Walked) → count_of w [] ≡ after 0 (count (walk x (schema t) b)) → Opened t b asked k w
+      pub opened : (k : List ℕ) → Layout t k → (w : Result ℕ Fault) → count_of w [] ≡ after 0 (count (walk x (schema t) b)) → Opened t b asked k w
       opened k l w d =
           let exact : count_of w [] ≡ count (walk x (schema t) b) = d ∙ after-exact x (schema t) (sized t (sym e)) b fits in
           record {
-            refuses = λ n p g. walked ∙ walked-refuses _ n p (ap (λ (v : Walked). count_of v []) (sym g) ∙ exact);
+            refuses = λ n p g. walked ∙ walked-refuses _ n p (ap (λ (v : Result ℕ Fault). count_of v []) (sym g) ∙ exact);
             opens = λ n g.
-                let r = walked-means _ n (ap (λ (v : Walked). count_of v []) (sym g) ∙ exact) in
+                let r = walked-means _ n (ap (λ (v : Result ℕ Fault). count_of v []) (sym g) ∙ exact) in
                 record {
                   table = sym e;
                   layout = l;
@@ -167,10 +165,10 @@ module _ (t st : List ℕ) (c : ℕ) (b s : List ℕ) (e : Accepted ≡ table_ve
 -- THE VERDICT, BY THE READING
 
 module _ (t b : List ℕ) (u : Under) where
-  pub verdict-accepted : (s m : List ℕ) → message_reading t b u ≡ done s m → message_verdict t b u ≡ Accepted
+  pub verdict-accepted : (s m : List ℕ) → message_reading t b u ≡ done s m → message_verdict t b u ≡ Ok tt
   unfolding message_verdict verdict_of
   verdict-accepted s m e = rw e
 
-  pub verdict-refused : (n p : ℕ) → message_reading t b u ≡ refused n p → message_verdict t b u ≡ Refused n p
+  pub verdict-refused : (n p : ℕ) → message_reading t b u ≡ refused n p → message_verdict t b u ≡ Err (fault_at n p)
   unfolding message_verdict verdict_of
   verdict-refused n p e = rw e

@@ -1,21 +1,18 @@
 -- What every question about a message begins with: the message's reading under a table, a settings store and a scratch, and what is left
 -- in the scratch.
-use Rattle.std.specs.Prelude.{◌≡◌, Bool, true, false, cond, ◌&&◌, List, [], ℕ, ◌*◌, ◌≤◌, length, replicate, leb}
+use Rattle.schema.specs.declared.Fault.{Fault}
+use Rattle.std.specs.Prelude.{Ok, Err, Result, ◌≡◌, Bool, true, false, cond, ◌&&◌, List, [], ℕ, ◌*◌, ◌≤◌, length, replicate, leb}
 use Rattle.wire.specs.Bytes.{splice}
-use Rattle.schema.specs.declared.Verdict.{Verdict}
-use Rattle.schema.specs.declared.Verdict.TheVariants.{Accepted, Refused}
-use Rattle.schema.specs.Faults.{need}
+use Rattle.schema.specs.Faults.{Verdict, fault_at, need}
 use Rattle.schema.specs.Table.{schema, table_verdict}
 use Rattle.schema.specs.Layout.{Layout}
 use Rattle.settings.specs.Store.{lax, records, sound, governing}
-use Rattle.message.specs.declared.Walked.{Walked}
-use Rattle.message.specs.declared.Walked.TheVariants.{Counted as Passed, Refused as Failed}
 use Rattle.message.specs.Walk.{Reading, refused, done, walk, fitting}
 
 -- "A table is accepted when its check gives no number."
 unfoldable pub accepted : Verdict → Bool
-accepted Accepted = true
-accepted (Refused n p) = false
+accepted (Ok _) = true
+accepted (Err f) = false
 
 -- What a message is read under, besides the table: the settings store, whose message it is, and how long the scratch is.
 pub record Under : Type 0 where
@@ -37,8 +34,8 @@ message_reading t b u =
 
 -- A reading's verdict.
 unfoldable pub verdict_of : Reading → Verdict
-verdict_of (refused n p) = Refused n p
-verdict_of (done s m) = Accepted
+verdict_of (refused n p) = Err (fault_at n p)
+verdict_of (done s m) = Ok tt
 
 unfoldable pub message_verdict : List ℕ → List ℕ → Under → Verdict
 message_verdict t b u = verdict_of (message_reading t b u)
@@ -52,7 +49,7 @@ scratch_after t st b s =
 
 -- An accepted message b of the table t, whose index is k: its sheet, of n bytes.
 pub record Known (t b : List ℕ) (u : Under) (k : List ℕ) (n : ℕ) : Type 0 where
-  pub table : table_verdict t ≡ Accepted
+  pub table : table_verdict t ≡ Ok tt
   pub layout : Layout t k
   pub small : length b ≤ 65536
   pub store : sound u.store ≡ true
@@ -62,6 +59,6 @@ pub record Known (t b : List ℕ) (u : Under) (k : List ℕ) (n : ℕ) : Type 0 
   pub long : length sheet ≡ n
 
 -- What a question that goes on from the check's answer w learns.
-pub record Opened (t b : List ℕ) (u : Under) (k : List ℕ) (w : Walked) : Type 0 where
-  pub refuses : (n p : ℕ) → w ≡ Failed n p → message_reading t b u ≡ refused n p
-  pub opens : (n : ℕ) → w ≡ Passed n → Known t b u k n
+pub record Opened (t b : List ℕ) (u : Under) (k : List ℕ) (w : Result ℕ Fault) : Type 0 where
+  pub refuses : (n p : ℕ) → w ≡ Err (fault_at n p) → message_reading t b u ≡ refused n p
+  pub opens : (n : ℕ) → w ≡ Ok n → Known t b u k n

@@ -1,14 +1,12 @@
 // What every question about a message begins with: "20, 23, 21, 50, 22", and the walk.
 #![tactic(auto)]
 
-ghost use Rattle.std.specs.Prelude.{◌≡◌, length, replicate};
+ghost use Rattle.std.specs.Prelude.{Ok, Err, ◌≡◌, length, replicate};
+ghost use Rattle.schema.specs.Faults.{fault_at};
 ghost use Rattle.table.specs.Index.{Checked};
-ghost use Rattle.message.specs.declared.Walked.TheVariants.{Refused as Failed};
 ghost use Rattle.opening.specs.Opening.{under, scratch_after, Opened};
 
-use message::Walked;
-use schema::Verdict;
-use settings::Setting;
+use schema::Fault;
 
 // Checks the table and the message; where both pass, the index is the table's.
 pub fn open_message(
@@ -18,7 +16,7 @@ pub fn open_message(
     customer: u16,
     message: &[u8],
     scratch: &mut [u8],
-) -> Walked
+) -> Result<usize, Fault>
     requires { index.old ≡ replicate 322 0 }
     ensures opened { Opened table.now message.now (under store.now customer (length scratch.old)) index.new result }
     ensures scratch_after { scratch.new ≡ scratch_after table.now store.now message.now scratch.old }
@@ -30,8 +28,8 @@ pub fn open_message(
     }
 }
 
-fn refused(number: u8) -> Walked
-    ensures { result ≡ Failed number 0 }
+fn refused(number: u8) -> Result<usize, Fault>
+    ensures { result ≡ Err (fault_at number 0) }
 {
     Walked::Refused { number, place: 0 }
 }
@@ -44,8 +42,8 @@ pub fn open_under(
     customer: u16,
     message: &[u8],
     scratch: &mut [u8],
-) -> Walked
-    requires { Checked table.now index.now Verdict.Accepted }
+) -> Result<usize, Fault>
+    requires { Checked table.now index.now (Ok tt) }
     ensures opened { Opened table.now message.now (under store.now customer (length scratch.old)) index.now result }
     ensures scratch_after { scratch.new ≡ scratch_after table.now store.now message.now scratch.old }
 {

@@ -1,4 +1,5 @@
 -- Dynamic groups, the extension and the whole sheet: each way through them.
+use Rattle.std.proofs.Common.{Ok, Err}
 use mathlib.Core.Path.{◌≡◌, refl, sym, ap, ◌∙◌}
 use mathlib.Core.Bool.{Bool, true, false}
 use mathlib.Core.List.{List, [], ◌++◌, append-nil}
@@ -9,7 +10,7 @@ use lib.ListN.{length, take, drop, length-append, length-drop}
 use lib.Dec.{leb}
 use borrow.Author.Tests.{le-leb, lt-leb, lt-ltb, le-ltb, eq-eqb, ne_eqb}
 use Rattle.wire.specs.Bytes.{part, le, bytes_of, same}
-use Rattle.schema.specs.Faults.{need}
+use Rattle.schema.specs.Faults.{fault_at, need}
 use Rattle.schema.specs.Schema.{Group, width, find, known, allows}
 use Rattle.message.specs.Sheet.{GB, XT, XU, GE, mark_bytes}
 use Rattle.sheet.specs.Written.{Writing, stopped, wrote, Writer, InnerW, joined, next_w, placed, grab, due, then_w, marked_w, indirect_w, inner_b, items_w, list_b, static_w, extending_b, extension_w, swapped, back_w, behind_w, framed, closed, body_w, head_w, group_w, ended, sheet_w}
@@ -20,7 +21,6 @@ use Rattle.sheet.proofs.Groups.{framed-length, satw-closed}
 use Rattle.sheet.proofs.Widths.{Wide, wide_is, wides-indirect, wides-static, wides-extension}
 use Rattle.parsing.specs.Count.{Count, count, capped, after}
 use Rattle.parsing.specs.Parse.{passed, refused, parsed_of, Counts, Finds, record_fault, end_w, Ready}
-use Rattle.parsing.specs.declared.Parsed.TheVariants.{Counted, Refused}
 use Rattle.parsing.specs.declared.Step.{Step}
 use Rattle.parsing.proofs.Answers.{refuses, stays, went, halted, fails, capped-more, count-as}
 use Rattle.parsing.proofs.Records.{record-small, record-inside, record-good, record-bad, at_mark, behind-mark}
@@ -206,7 +206,7 @@ placed-stopped o (stopped j q) k p e = e
 placed-stopped o (wrote X Y r) k p e = absurd (let z : ◌≡◌ {A = ℕ} 0 1 = cc in omega arith)
 
 module _ (gs : List Group) (s : List ℕ) where
-  pub sheet-long : 1048576 < length s → Refused 42 0 ≡ parsed_of (sheet_w gs s)
+  pub sheet-long : 1048576 < length s → Err (fault_at 42 0) ≡ parsed_of (sheet_w gs s)
   unfolding sheet_w need parsed_of
   sheet-long h = rw (lt-leb (length s) 1048576 h)
 
@@ -222,7 +222,7 @@ module _ (gs : List Group) (s : List ℕ) where
     unfolding inner_b
     message-is = marked-indirect GB (inner_b (group_w gs 8) 0) 0 0 s
 
-    pub sheet-stopped : (v.number ≡ 0 → ⊥) → Refused (v.number % 256) v.place ≡ parsed_of (sheet_w gs s)
+    pub sheet-stopped : (v.number ≡ 0 → ⊥) → Err (fault_at (v.number % 256) v.place) ≡ parsed_of (sheet_w gs s)
     unfolding ended parsed_of
     sheet-stopped n =
         let x = halted s 0 _ v (f 0 0) n in
@@ -240,15 +240,15 @@ module _ (gs : List Group) (s : List ℕ) where
           let n : p.1 ≡ [] = satw-is (rw p.2 at message-alone) in
           (p.0, p.2 ∙ ap (λ (Y : List ℕ). wrote p.0 Y (drop v.place s)) n, x.sum ∙ ap capped (omega (arith, ap length p.4 ∙ length-append p.0 p.1, ap length n)))
 
-      pub sheet-more : v.place < length s → Refused 43 v.place ≡ parsed_of (sheet_w gs s)
+      pub sheet-more : v.place < length s → Err (fault_at 43 v.place) ≡ parsed_of (sheet_w gs s)
       unfolding ended parsed_of need
       sheet-more l =
           let m = length-drop v.place s in
           let p : length s - length (drop v.place s) ≡ v.place = omega arith in
           rw (sheet-is h, its.1, ne_eqb (length (drop v.place s)) 0 (omega arith), p)
 
-      pub sheet-whole : length s ≤ v.place → Counted v.length ≡ parsed_of (sheet_w gs s)
+      pub sheet-whole : length s ≤ v.place → Ok v.length ≡ parsed_of (sheet_w gs s)
       unfolding ended parsed_of need
       sheet-whole l =
           let m = length-drop v.place s in
-          ap Counted its.2 ∙ rw (sheet-is h, its.1, eq-eqb (length (drop v.place s)) 0 (omega arith))
+          ap Ok its.2 ∙ rw (sheet-is h, its.1, eq-eqb (length (drop v.place s)) 0 (omega arith))

@@ -1,7 +1,8 @@
 -- What the functions that read a sheet answer, and what they ask of their callers.
-use Rattle.std.specs.Prelude.{◌≡◌, true, cond, List, [], ℕ, ◌+◌, ◌%◌, ◌<◌, ◌≤◌, length, take, drop, leb, eqb}
+use Rattle.schema.specs.declared.Fault.{Fault}
+use Rattle.std.specs.Prelude.{Ok, Err, Result, ◌≡◌, true, cond, List, [], ℕ, ◌+◌, ◌%◌, ◌<◌, ◌≤◌, length, take, drop, leb, eqb}
 use Rattle.wire.specs.Bytes.{part, le, same}
-use Rattle.schema.specs.Faults.{need}
+use Rattle.schema.specs.Faults.{fault_at, need}
 use Rattle.schema.specs.Schema.{shallow}
 use Rattle.schema.specs.Table.{schema}
 use Rattle.schema.specs.declared.Scope.{Scope}
@@ -13,15 +14,13 @@ use Rattle.sheet.specs.Writers.{static_of, nested_of, extension_of}
 use Rattle.parsing.specs.Count.{Count, failed, counted, count, capped, after}
 use Rattle.parsing.specs.declared.Step.{Step}
 use Rattle.parsing.specs.declared.Opened.{Opened}
-use Rattle.parsing.specs.declared.Parsed.{Parsed}
-use Rattle.parsing.specs.declared.Parsed.TheVariants.{Counted, Refused}
 
 -- ANSWERS
 
 -- The answer of a whole sheet: the first fault, or the message's length, which is exact up to 65,536.
-unfoldable pub parsed_of : Writing → Parsed
-parsed_of (stopped k p) = Refused k p
-parsed_of (wrote X D r) = Counted (capped (length X))
+unfoldable pub parsed_of : Writing → Result ℕ Fault
+parsed_of (stopped k p) = Err (fault_at k p)
+parsed_of (wrote X D r) = Ok (capped (length X))
 
 -- A step that passed, with where the next record begins and the count; and one that found a fault.
 abbrev pub passed : ℕ → ℕ → Step

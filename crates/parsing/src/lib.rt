@@ -19,6 +19,7 @@ ghost use Rattle.sheet.specs.Writers.{item_w, static_of, plain_of, item_of, fiel
 ghost use Rattle.parsing.specs.Count.{capped};
 ghost use Rattle.parsing.specs.Parse.{parsed_of, passed, refused, Finds, record_fault, counted_fault, end_w, group_of, close_of, Ready, Within, unopened, Opens};
 
+use schema::Fault;
 use sheet::{GB, GE, NO, SG, SQ, ST, VA, XT, XU};
 
 // What a step finds: where the next record begins, and how many bytes there are so far. Where `number`
@@ -29,13 +30,6 @@ struct Step {
     number: usize,
     place: usize,
     length: usize,
-}
-
-// The answer for a whole sheet: the length of its message, or the first fault.
-#[derive(Clone, Copy)]
-pub enum Parsed {
-    Counted { length: usize },
-    Refused { number: u8, place: usize },
 }
 
 // The count, some bytes further. A message of more than 65,536 bytes is refused however long it is, so
@@ -706,7 +700,7 @@ fn check_extending(
 // THE SHEET
 
 // "42, then record by record", and "43: bytes after the last `GE`, place the first of them".
-pub fn check_sheet(table: &[u8], index: &[u16], sheet: &[u8]) -> Parsed
+pub fn check_sheet(table: &[u8], index: &[u16], sheet: &[u8]) -> Result<usize, Fault>
     requires { Layout table.now index.now }
     ensures { result ≡ parsed_of (sheet_w (schema table.now) sheet.now) }
 {

@@ -1,4 +1,7 @@
 -- What the code finds is what the definitions say, and it lies in the message.
+use Rattle.schema.specs.declared.Fault.{Fault}
+use Rattle.schema.specs.Faults.{fault_at}
+use Rattle.std.proofs.Common.{Ok, Err, Result}
 use mathlib.Core.Path.{◌≡◌, refl, sym, ap, ◌∙◌, subst}
 use mathlib.Core.Bool.{Bool, true, false, cond, ◌&&◌, and-eq-true_iff}
 use mathlib.Core.List.{List, [], ◌∷◌}
@@ -27,10 +30,7 @@ use Rattle.reading.specs.Number.{number_types, number_width, number_of, number_a
 use Rattle.reading.specs.Part.{part_of, part_at, bytes_in, start_of}
 use Rattle.reading.specs.Laid.{Led, Laid, ItemLaid}
 use Rattle.reading.specs.declared.Located.{Located}
-use Rattle.reading.specs.declared.Located.TheVariants.{Missing, At}
 use Rattle.reading.specs.declared.Part.{Part}
-use Rattle.reading.specs.declared.Part.TheVariants.{Refusal, Lies}
-use Rattle.reading.specs.declared.Number.TheVariants.{Refused}
 use Rattle.reading.proofs.Read.{fields_laid}
 use Rattle.reading.proofs.Opened.{inner, statics, own_fields, top, Opened, opened, KindRead, OwnRead, item-read, item-laid, PartLaid, part-laid, same_item, same-laid, same-group}
 
@@ -92,15 +92,15 @@ module _ (y : Ignored) (t k b : List ℕ) (P : Layout t k) (A : Accepted y t b) 
 
 -- THE ITEM THAT WAS FOUND
 
-module _ (y : Ignored) (t b : List ℕ) (A : Accepted y t b) (v : Located) (n i : ℕ) (is : item_in t v ≡ item_of (schema t) b n i) where
-  found-read : (r p : ℕ) → v ≡ At r p → KindRead y (schema t) b (field_in t r).kind p
+module _ (y : Ignored) (t b : List ℕ) (A : Accepted y t b) (v : Result Located Fault) (n i : ℕ) (is : item_in t v ≡ item_of (schema t) b n i) where
+  found-read : (r p : ℕ) → v ≡ Ok (record { row = r; place = p }) → KindRead y (schema t) b (field_in t r).kind p
   unfolding item_in
-  found-read r p e = subst (λ (v : Located). OwnRead y (schema t) b (item_in t v)) e (subst (λ (x : Item). OwnRead y (schema t) b x) (sym is) (item-read y (schema t) b A.0 A.1 A.2 n i))
+  found-read r p e = subst (λ (v : Result Located Fault). OwnRead y (schema t) b (item_in t v)) e (subst (λ (x : Item). OwnRead y (schema t) b x) (sym is) (item-read y (schema t) b A.0 A.1 A.2 n i))
 
-  pub found-laid : (r p : ℕ) → v ≡ At r p → ItemLaid b (field_in t r).kind p
+  pub found-laid : (r p : ℕ) → v ≡ Ok (record { row = r; place = p }) → ItemLaid b (field_in t r).kind p
   found-laid r p e = item-laid (inner y (schema t) b) (width (schema t) 4) (statics y (schema t) b) (top y (schema t) b) _ p (found-read r p e)
 
-  pub found_number : (r p x : ℕ) → v ≡ At r p → x ≡ get_or t (r + 2) 0 → p + number_width x ≤ length b
+  pub found_number : (r p x : ℕ) → v ≡ Ok (record { row = r; place = p }) → x ≡ get_or t (r + 2) 0 → p + number_width x ≤ length b
   unfolding number_width field_at
   found_number r p x e q =
       let ty : x ≡ field_type (drop r t) = q ∙ sym (byte_at t r 2) in
@@ -112,28 +112,28 @@ module _ (y : Ignored) (t b : List ℕ) (A : Accepted y t b) (v : Located) (n i 
 
   -- what is said of it
 
-  pub number-missing : (m : ℕ) → v ≡ Missing m → Refused m 0 ≡ number_at b (item_of (schema t) b n i)
+  pub number-missing : (m : ℕ) → v ≡ Err (fault_at m 0) → Err (fault_at m 0) ≡ number_at b (item_of (schema t) b n i)
   unfolding item_in number_at
-  number-missing m e = ap (λ (v : Located). number_at b (item_in t v)) (sym e) ∙ ap (number_at b) is
+  number-missing m e = ap (λ (v : Result Located Fault). number_at b (item_in t v)) (sym e) ∙ ap (number_at b) is
 
-  pub number-found : (r p x : ℕ) → v ≡ At r p → x ≡ get_or t (r + 2) 0 → number_of x (part (number_width x) p b) ≡ number_at b (item_of (schema t) b n i)
+  pub number-found : (r p x : ℕ) → v ≡ Ok (record { row = r; place = p }) → x ≡ get_or t (r + 2) 0 → number_of x (part (number_width x) p b) ≡ number_at b (item_of (schema t) b n i)
   unfolding item_in number_at field_at
   number-found r p x e q =
-      ap (λ (x : ℕ). number_of x (part (number_width x) p b)) (q ∙ sym (byte_at t r 2)) ∙ ap (λ (v : Located). number_at b (item_in t v)) (sym e) ∙ ap (number_at b) is
+      ap (λ (x : ℕ). number_of x (part (number_width x) p b)) (q ∙ sym (byte_at t r 2)) ∙ ap (λ (v : Result Located Fault). number_at b (item_in t v)) (sym e) ∙ ap (number_at b) is
 
-  pub part-missing : (m : ℕ) → v ≡ Missing m → Refusal m ≡ part_at b (item_of (schema t) b n i)
+  pub part-missing : (m : ℕ) → v ≡ Err (fault_at m 0) → Err (fault_at m 0) ≡ part_at b (item_of (schema t) b n i)
   unfolding item_in part_at
-  part-missing m e = ap (λ (v : Located). part_at b (item_in t v)) (sym e) ∙ ap (part_at b) is
+  part-missing m e = ap (λ (v : Result Located Fault). part_at b (item_in t v)) (sym e) ∙ ap (part_at b) is
 
-  pub part-found : (r p : ℕ) → v ≡ At r p → part_of (field_in t r).type (field_in t r).kind b p ≡ part_at b (item_of (schema t) b n i)
+  pub part-found : (r p : ℕ) → v ≡ Ok (record { row = r; place = p }) → part_of (field_in t r).type (field_in t r).kind b p ≡ part_at b (item_of (schema t) b n i)
   unfolding item_in part_at field_at
-  part-found r p e = ap (λ (v : Located). part_at b (item_in t v)) (sym e) ∙ ap (part_at b) is
+  part-found r p e = ap (λ (v : Result Located Fault). part_at b (item_in t v)) (sym e) ∙ ap (part_at b) is
 
-pub row_inside : (t : List ℕ) (v : Located) (r p : ℕ) → Recorded t v → v ≡ At r p → r + 16 ≤ length t
+pub row_inside : (t : List ℕ) (v : Result Located Fault) (r p : ℕ) → Recorded t v → v ≡ Ok (record { row = r; place = p }) → r + 16 ≤ length t
 row_inside t v r p h e = subst (Recorded t) e h
 
 -- the part lies in the message
-pub part-inside : (y : Ignored) (t b : List ℕ) → Accepted y t b → (n i : ℕ) (v : Part) → v ≡ part_at b (item_of (schema t) b n i) → (p m : ℕ) → v ≡ Lies p m → p + m ≤ length b
+pub part-inside : (y : Ignored) (t b : List ℕ) → Accepted y t b → (n i : ℕ) (v : Result Part Fault) → v ≡ part_at b (item_of (schema t) b n i) → (p m : ℕ) → v ≡ Ok (record { start = p; length = m }) → p + m ≤ length b
 unfolding part_at
 part-inside y t b A n i v is p m e =
     let r = item-read y (schema t) b A.0 A.1 A.2 n i in
@@ -144,20 +144,20 @@ part-inside y t b A n i v is p m e =
     go (item f p) r = part-laid (inner y (schema t) b) (width (schema t) 4) (statics y (schema t) b) (top y (schema t) b) f.type f.kind p r
 
 -- what is handed out of a part, and where it starts
-module _ (b : List ℕ) (x : Part) where
-  pub bytes-none : (n : ℕ) → Refusal n ≡ x → [] ≡ bytes_in b x
+module _ (b : List ℕ) (x : Result Part Fault) where
+  pub bytes-none : (n : ℕ) → Err (fault_at n 0) ≡ x → [] ≡ bytes_in b x
   unfolding bytes_in
   bytes-none n e = ap (bytes_in b) e
 
-  pub bytes-some : (p n : ℕ) → Lies p n ≡ x → part n p b ≡ bytes_in b x
+  pub bytes-some : (p n : ℕ) → Ok (record { start = p; length = n }) ≡ x → part n p b ≡ bytes_in b x
   unfolding bytes_in
   bytes-some p n e = ap (bytes_in b) e
 
-  pub start_none : (q n : ℕ) → Refusal n ≡ x → 0 + q ≡ q + start_of x
+  pub start_none : (q n : ℕ) → Err (fault_at n 0) ≡ x → 0 + q ≡ q + start_of x
   unfolding start_of
   start_none q n e = omega (arith, ap start_of e)
 
-  pub start-some : (q p n : ℕ) → Lies p n ≡ x → p + q ≡ q + start_of x
+  pub start-some : (q p n : ℕ) → Ok (record { start = p; length = n }) ≡ x → p + q ≡ q + start_of x
   unfolding start_of
   start-some q p n e = omega (arith, ap start_of e)
 
@@ -167,10 +167,10 @@ module _ (t : List ℕ) (r : ℕ) (b : List ℕ) (at : ℕ) where
   abbrev kind : Kind
   kind = (field_in t r).kind
 
-  abbrev part_here : Part
+  abbrev part_here : Result Part Fault
   part_here = part_of (field_in t r).type kind b at
 
-  pub part-fixed : (n : ℕ) → get_or t (r + 2) 0 ≡ 19 → n ≡ get_or t (r + 5) 0 → Lies at n ≡ part_here
+  pub part-fixed : (n : ℕ) → get_or t (r + 2) 0 ≡ 19 → n ≡ get_or t (r + 5) 0 → Ok (record { start = at; length = n }) ≡ part_here
   unfolding part_of field_at kind_of
   part-fixed n e q = let z : field_type (drop r t) ≡ 19 = byte_at t r 2 ∙ e in rw (z, q, ← (byte_at t r 5))
 
@@ -180,21 +180,21 @@ module _ (t : List ℕ) (r : ℕ) (b : List ℕ) (at : ℕ) where
       unfolding field_at
       other-type e = other (sym (byte_at t r 2) ∙ e)
 
-      pub part-plain : (w : ℕ) → v ≡ Plain w → Refusal 48 ≡ part_here
+      pub part-plain : (w : ℕ) → v ≡ Plain w → Err (fault_at 48 0) ≡ part_here
       unfolding part_of kind_from
       part-plain w e = rw (← is, e, ne_eqb _ _ other-type)
 
-      pub part-number : (x : Tested) → v ≡ Number x → Refusal 48 ≡ part_here
+      pub part-number : (x : Tested) → v ≡ Number x → Err (fault_at 48 0) ≡ part_here
       unfolding part_of kind_from tested_kind
       part-number x e = rw (← is, e) (go x)
         where
-          go : (x : Tested) → Refusal 48 ≡ part_of (field_in t r).type (tested_kind (enums t) x) b at
+          go : (x : Tested) → Err (fault_at 48 0) ≡ part_of (field_in t r).type (tested_kind (enums t) x) b at
           go Flag = rw (ne_eqb _ _ other-type)
           go Millis = rw (ne_eqb _ _ other-type)
           go Nanos = rw (ne_eqb _ _ other-type)
           go (Symbol l) = rw (ne_eqb _ _ other-type)
 
-    pub part-static : (g : ℕ) → v ≡ Static g → Refusal 48 ≡ part_here
+    pub part-static : (g : ℕ) → v ≡ Static g → Err (fault_at 48 0) ≡ part_here
     unfolding part_of kind_from
     part-static g e = rw (← is, e)
 
@@ -211,16 +211,16 @@ module _ (t : List ℕ) (r : ℕ) (b : List ℕ) (at : ℕ) where
       unfolding kind_from
       dynamic-laid a e = rw (← is, e) at l
 
-    pub part-inline : (u : Bool) (c n : ℕ) → v ≡ Inline u c → n ≡ byte at b → Lies (at + 1) n ≡ part_here
+    pub part-inline : (u : Bool) (c n : ℕ) → v ≡ Inline u c → n ≡ byte at b → Ok (record { start = at + 1; length = n }) ≡ part_here
     unfolding part_of kind_from
     part-inline u c n e q = rw (← is, e, q)
 
     -- p: where the offset leads; n: the count or size there
     module _ (p n : ℕ) (leads : p ≡ target b at) (counts : n ≡ count_at b at) where
-      pub part-indirect : (u : Bool) → v ≡ Indirect u → Lies (p + 4) n ≡ part_here
+      pub part-indirect : (u : Bool) → v ≡ Indirect u → Ok (record { start = p + 4; length = n }) ≡ part_here
       unfolding part_of kind_from
       part-indirect u e = rw (← is, e, leads, counts)
 
-      pub part-dynamic : (a : ℕ) → v ≡ Dynamic a → Lies p (4 + n) ≡ part_here
+      pub part-dynamic : (a : ℕ) → v ≡ Dynamic a → Ok (record { start = p; length = 4 + n }) ≡ part_here
       unfolding part_of kind_from
       part-dynamic a e = rw (← is, e, leads, counts)

@@ -1,4 +1,5 @@
 -- Where an item lies, case by case as the code finds it.
+use Rattle.std.proofs.Common.{Ok, Err}
 use mathlib.Core.Path.{◌≡◌, refl}
 use mathlib.Core.Bool.{true, false}
 use mathlib.Core.List.{List, [], ◌∷◌, ◌++◌}
@@ -8,7 +9,7 @@ use native.Mathlib.Nat.{sub-zero, mul-zero, add-zero, zero-add, add_assoc, mul-l
 use lib.ListN.{length, drop}
 use lib.Seq.{drop-drop}
 use borrow.Author.Tests.{eq-eqb, ne_eqb, lt-ltb, le-ltb}
-use Rattle.schema.specs.Faults.{need}
+use Rattle.schema.specs.Faults.{fault_at, need}
 use Rattle.schema.specs.Schema.{Field, kind_width, field_width, fields_width}
 use Rattle.schema.specs.Table.{field_at, fields_at}
 use Rattle.schema.proofs.Records.{fields-more, fields-none}
@@ -17,7 +18,6 @@ use Rattle.message.specs.Walk.{byte}
 use Rattle.meaning.specs.Conforms.{target, count_at}
 use Rattle.reading.specs.Item.{missing, sequence_item, value_item, absent, value_place, field_item, item_from, field_in, item_in}
 use Rattle.reading.specs.Laid.{Led, FieldLaid, Laid}
-use Rattle.reading.specs.declared.Located.TheVariants.{Missing, At}
 
 -- an item's place is a number of 64 bits
 pub item-bound : (i n w : ℕ) → i ≤ n → n < 2 ^ 32 → w ≤ 4096 → i * w ≤ 2 ^ 44
@@ -31,11 +31,11 @@ module _ (t : List ℕ) (r : ℕ) (sw : ℕ → ℕ) (b : List ℕ) (at i : ℕ)
 
   -- p: where the offset leads; n: the count there
   module _ (p n : ℕ) (is : p ≡ target b at) (counts : n ≡ count_at b at) where
-    pub sequence-hit : (w : ℕ) → w ≡ kind_width sw f.kind → i < n → item_in t (At r (p + 4 + i * w)) ≡ sequence_item sw f b at i
+    pub sequence-hit : (w : ℕ) → w ≡ kind_width sw f.kind → i < n → item_in t (Ok (record { row = r; place = p + 4 + i * w })) ≡ sequence_item sw f b at i
     unfolding item_in sequence_item need
     sequence-hit w e h = rw (e, is) (rw (← counts, lt-ltb _ _ h))
 
-    pub sequence-miss : n ≤ i → item_in t (Missing 28) ≡ sequence_item sw f b at i
+    pub sequence-miss : n ≤ i → item_in t (Err (fault_at 28 0)) ≡ sequence_item sw f b at i
     unfolding item_in sequence_item need
     sequence-miss h = rw (← counts, le-ltb _ _ h)
 
@@ -43,15 +43,15 @@ module _ (t : List ℕ) (r : ℕ) (sw : ℕ → ℕ) (b : List ℕ) (at i : ℕ)
   unfolding value_item
   value-sequence e = rw e
 
-  pub value-one : f.sequence ≡ false → i ≡ 0 → item_in t (At r at) ≡ value_item sw f b at i
+  pub value-one : f.sequence ≡ false → i ≡ 0 → item_in t (Ok (record { row = r; place = at })) ≡ value_item sw f b at i
   unfolding item_in value_item need
   value-one e z = rw (e, eq-eqb _ _ z)
 
-  pub value_none : f.sequence ≡ false → (i ≡ 0 → ⊥) → item_in t (Missing 28) ≡ value_item sw f b at i
+  pub value_none : f.sequence ≡ false → (i ≡ 0 → ⊥) → item_in t (Err (fault_at 28 0)) ≡ value_item sw f b at i
   unfolding item_in value_item need
   value_none e z = rw (e, ne_eqb _ _ z)
 
-  pub field-absent : f.optional ≡ true → byte at b ≡ 0 → item_in t (Missing 29) ≡ field_item sw f b at i
+  pub field-absent : f.optional ≡ true → byte at b ≡ 0 → item_in t (Err (fault_at 29 0)) ≡ field_item sw f b at i
   unfolding item_in field_item absent need
   field-absent e z = rw (e, eq-eqb _ _ z)
 

@@ -1,4 +1,5 @@
 -- What is read of an item is the value that the message lists at the item's place.
+use Rattle.std.proofs.Common.{Ok, Err}
 use mathlib.Core.Path.{◌≡◌, refl, sym, ap, ◌∙◌, subst}
 use mathlib.Core.Bool.{Bool, true, false, cond, and-eq-true_iff}
 use mathlib.Core.List.{List, [], ◌∷◌, ◌++◌, append_assoc, append-nil}
@@ -10,8 +11,7 @@ use lib.Dec.{ltb, eqb}
 use borrow.Author.Tests.{eq-eqb, ne_eqb, lt-ltb, le-ltb, le-leb, eqb-true, ltb-true, not-true}
 use Rattle.wire.specs.Bytes.{part}
 use Rattle.wire.proofs.Laws.{length_part, part-part, part-add}
-use Rattle.schema.specs.Faults.{need}
-use Rattle.schema.specs.declared.Verdict.TheVariants.{Accepted}
+use Rattle.schema.specs.Faults.{fault_at, need}
 use Rattle.schema.specs.Schema.{Kind, plain, inline, indirect, static, dynamic, member, Field, Group, kind_width, value_width, field_width, fields_of, width, find}
 use Rattle.schema.specs.Table.{group_marked, scalar_width, kind_of, field_type, field_size, reference, field_at, fields_at, group_at, groups_from, record_count, enums, schema}
 use Rattle.settings.specs.declared.Ignored.{Ignored}
@@ -24,7 +24,6 @@ use Rattle.meaning.proofs.Lists.{records-both, group-lists, walk-lists}
 use Rattle.reading.specs.Item.{Item, missing, item, sequence_item, value_item, absent, value_place, field_item, item_from, item_of}
 use Rattle.reading.specs.Number.{number_types, number_width, number_of, number_at}
 use Rattle.reading.specs.Part.{part_of, part_at, bytes_in, verdict_of}
-use Rattle.reading.specs.declared.Part.TheVariants.{Refusal, Lies}
 use Rattle.reading.specs.Listed.{value_before, field_before, fields_before, values_before, item_value, contents, heading, record_in, records_in, Listed, FieldAt, first, later, item_count, ItemCases, OwnCases}
 use Rattle.reading.proofs.Done.{next-done, indirect-done}
 use Rattle.reading.proofs.Read.{Read, OnItem, need-item, cond-item, Flags, fields-flags}
@@ -157,12 +156,12 @@ module _ (b : List ℕ) (p : ℕ) where
   number-contents n (static g) e = absurd (true-false false e refl)
   number-contents n (dynamic g) e = absurd (true-false false e refl)
 
-  fixed-contents : (c : Bool) (w : ℕ) → verdict_of (cond c (Lies p w) (Refusal 48)) ≡ Accepted → bytes_in b (cond c (Lies p w) (Refusal 48)) ≡ part w p b
+  fixed-contents : (c : Bool) (w : ℕ) → verdict_of (cond c (Ok (record { start = p; length = w })) (Err (fault_at 48 0))) ≡ Ok tt → bytes_in b (cond c (Ok (record { start = p; length = w })) (Err (fault_at 48 0))) ≡ part w p b
   unfolding verdict_of bytes_in
   fixed-contents true w e = refl
   fixed-contents false w e = let z : ◌≡◌ {A = ℕ} 0 1 = cc in absurd (omega arith)
 
-  bytes-contents : (t : ℕ) (k : Kind) → verdict_of (part_of t k b p) ≡ Accepted → bytes_in b (part_of t k b p) ≡ contents b (item_value k p)
+  bytes-contents : (t : ℕ) (k : Kind) → verdict_of (part_of t k b p) ≡ Ok tt → bytes_in b (part_of t k b p) ≡ contents b (item_value k p)
   unfolding verdict_of part_of bytes_in item_value contents
   bytes-contents t (plain w x) e = fixed-contents (eqb t 19) w e
   bytes-contents t (inline u c) e = refl

@@ -1,4 +1,6 @@
 -- Numbers, once over the width.
+use Rattle.schema.specs.Faults.{fault_at}
+use Rattle.std.proofs.Common.{Err}
 use mathlib.Core.Path.{◌≡◌, refl}
 use mathlib.Core.Bool.{Bool, true, false, ◌||◌}
 use mathlib.Core.List.{List, [], ◌∷◌}
@@ -13,7 +15,7 @@ use Rattle.wire.proofs.Laws.{part-part}
 use Rattle.schema.specs.Schema.{member}
 use Rattle.schema.proofs.Types.{le-one}
 use Rattle.reading.specs.Number.{number_width, float_of, decimal_of, number_of}
-use Rattle.reading.specs.declared.Number.TheVariants.{Decimal, Float, NanBits, Refused}
+use Rattle.reading.specs.declared.Number.TheVariants.{Decimal, Float, NanBits}
 
 -- THE WIDTH
 
@@ -43,7 +45,7 @@ decimal-at b at h =
 
 -- "48 other kind": none of the types that are numbers
 pub other : (t : ℕ) (x : List ℕ) → (t ≡ 1 → ⊥) → (t ≡ 2 → ⊥) → (t ≡ 3 → ⊥) → (t ≡ 4 → ⊥) → (t ≡ 5 → ⊥) → (t ≡ 6 → ⊥) → (t ≡ 7 → ⊥) → (t ≡ 8 → ⊥) → (t ≡ 9 → ⊥)
-    → (t ≡ 10 → ⊥) → (t ≡ 11 → ⊥) → (t ≡ 12 → ⊥) → (t ≡ 13 → ⊥) → (t ≡ 14 → ⊥) → (t ≡ 15 → ⊥) → (t ≡ 16 → ⊥) → (t ≡ 20 → ⊥) → Refused 48 0 ≡ number_of t x
+    → (t ≡ 10 → ⊥) → (t ≡ 11 → ⊥) → (t ≡ 12 → ⊥) → (t ≡ 13 → ⊥) → (t ≡ 14 → ⊥) → (t ≡ 15 → ⊥) → (t ≡ 16 → ⊥) → (t ≡ 20 → ⊥) → Err (fault_at 48 0) ≡ number_of t x
 unfolding number_of member
 other t x a b c d e f g h i j k l m n o p q =
     rw (ne_eqb _ _ a, ne_eqb _ _ b, ne_eqb _ _ c, ne_eqb _ _ d, ne_eqb _ _ e, ne_eqb _ _ f, ne_eqb _ _ g, ne_eqb _ _ h, ne_eqb _ _ i, ne_eqb _ _ j, ne_eqb _ _ k, ne_eqb _ _ l, ne_eqb _ _ m, ne_eqb _ _ n, ne_eqb _ _ o, ne_eqb _ _ p, ne_eqb _ _ q)

@@ -1,4 +1,7 @@
 -- An accepted message, opened: what its acceptance shows of its fields.
+use Rattle.schema.specs.declared.Fault.{Fault}
+use Rattle.schema.specs.Faults.{fault_at}
+use Rattle.std.proofs.Common.{Ok, Err, Result}
 use mathlib.Core.Path.{◌≡◌, refl}
 use mathlib.Core.Bool.{Bool, true, false, cond, and-eq-true_iff}
 use mathlib.Core.List.{List, [], ◌∷◌}
@@ -18,7 +21,6 @@ use Rattle.reading.specs.Item.{Item, item_from, item_of, value_item, sequence_it
 use Rattle.reading.specs.Laid.{Led, Laid, ItemLaid}
 use Rattle.reading.specs.Part.{part_of}
 use Rattle.reading.specs.declared.Part.{Part}
-use Rattle.reading.specs.declared.Part.TheVariants.{Refusal, Lies}
 use Rattle.reading.proofs.Done.{need-done, padded-done, prefixed-done, next-done, indirect-done}
 use Rattle.reading.proofs.Read.{Read, ItemRead, fields_read}
 
@@ -92,9 +94,9 @@ module _ (x : Ignored) (gs : List Group) (b : List ℕ) where
 -- ONE KIND: WHERE ITS BYTES LIE
 
 -- a part lies in the message
-abbrev pub PartLaid : List ℕ → Part → Type 0
-PartLaid b (Refusal n) = Unit
-PartLaid b (Lies p n) = p + n ≤ length b
+abbrev pub PartLaid : List ℕ → Result Part Fault → Type 0
+PartLaid b (Err f) = Unit
+PartLaid b (Ok x) = x.start + x.length ≤ length b
 
 module _ (I : Inner) (sw : ℕ → ℕ) (S : ℕ → Reader) (h : Here) where
   led : (inside : ℕ → Reader) (p : ℕ) (m s m' : List ℕ) → indirect_r 26 1 inside h p m ≡ done s m' → p + 4 ≤ length h.bytes → Led h.bytes p
@@ -112,7 +114,7 @@ module _ (I : Inner) (sw : ℕ → ℕ) (S : ℕ → Reader) (h : Here) where
   unfolding inline_r
   inline-whole u c p m s m' e = leb-true _ _ (need-done _ _ _ _ e).0
 
-  fixed-laid : (c : Bool) (p w : ℕ) → p + w ≤ length h.bytes → PartLaid h.bytes (cond c (Lies p w) (Refusal 48))
+  fixed-laid : (c : Bool) (p w : ℕ) → p + w ≤ length h.bytes → PartLaid h.bytes (cond c (Ok (record { start = p; length = w })) (Err (fault_at 48 0)))
   fixed-laid true p w l = l
   fixed-laid false p w l = tt
 

@@ -1,6 +1,7 @@
 -- Where one value of an accepted message lies.
 -- "A reading names a field of the message's group and an item (0 unless a sequence)." Both count from 0.
-use Rattle.std.specs.Prelude.{◌≡◌, Bool, not, cond, ◌&&◌, List, [], ◌∷◌, ℕ, zero, suc, ◌+◌, ◌*◌, ◌≤◌, length, drop, ltb, eqb}
+use Rattle.schema.specs.declared.Fault.{Fault}
+use Rattle.std.specs.Prelude.{Ok, Err, Result, ◌≡◌, Bool, not, cond, ◌&&◌, List, [], ◌∷◌, ℕ, zero, suc, ◌+◌, ◌*◌, ◌≤◌, length, drop, ltb, eqb}
 use Rattle.schema.specs.Faults.{need}
 use Rattle.schema.specs.Schema.{Field, Group, kind_width, field_width, fields_of, width, find}
 use Rattle.schema.specs.Table.{field_at, fields_at, enums, schema}
@@ -8,7 +9,6 @@ use Rattle.settings.specs.declared.Ignored.{Ignored}
 use Rattle.message.specs.Walk.{byte, done, walk}
 use Rattle.meaning.specs.Conforms.{target, count_at, type_id}
 use Rattle.reading.specs.declared.Located.{Located}
-use Rattle.reading.specs.declared.Located.TheVariants.{Missing, At}
 
 -- "A message is accepted when its check under an accepted table .. gives none": where x is ignored, the walk of b under the table t has a sheet.
 abbrev pub Accepted : Ignored → List ℕ → List ℕ → Type 0
@@ -58,14 +58,14 @@ field_in t r = field_at (enums t) (drop r t)
 abbrev pub fields_in : List ℕ → ℕ → ℕ → List Field
 fields_in t r n = fields_at (enums t) n (drop r t)
 
-unfoldable pub item_in : List ℕ → Located → Item
-item_in t (Missing n) = missing n
-item_in t (At r p) = item (field_in t r) p
+unfoldable pub item_in : List ℕ → Result Located Fault → Item
+item_in t (Err f) = missing f.number
+item_in t (Ok x) = item (field_in t x.row) x.place
 
-abbrev pub Recorded : List ℕ → Located → Type 0
-Recorded t (Missing n) = Unit
-Recorded t (At r p) = r + 16 ≤ length t
+abbrev pub Recorded : List ℕ → Result Located Fault → Type 0
+Recorded t (Err f) = f.place ≡ 0
+Recorded t (Ok x) = x.row + 16 ≤ length t
 
 -- The code's answer is this item, whose field's record is whole.
-abbrev pub Finds : List ℕ → Located → Item → Type 0
+abbrev pub Finds : List ℕ → Result Located Fault → Item → Type 0
 Finds t v x = (item_in t v ≡ x) × Recorded t v

@@ -1,8 +1,7 @@
 -- What is read is the value that the message lists at the item's place: "and its sheet then lists its values exactly".
 -- "A reading names a field of the message's group and an item (0 unless a sequence)."
-use Rattle.std.specs.Prelude.{◌≡◌, true, false, cond, List, [], ◌∷◌, ◌++◌, ℕ, zero, suc, ◌+◌, ◌≤◌, ◌<◌, length, take, drop}
+use Rattle.std.specs.Prelude.{Ok, ◌≡◌, true, false, cond, List, [], ◌∷◌, ◌++◌, ℕ, zero, suc, ◌+◌, ◌≤◌, ◌<◌, length, take, drop}
 use Rattle.wire.specs.Bytes.{part, bytes_of}
-use Rattle.schema.specs.declared.Verdict.TheVariants.{Accepted}
 use Rattle.schema.specs.Schema.{Kind, plain, inline, indirect, static, dynamic, member, Field, Group, kind_width, value_width, field_width, fields_of, width, find}
 use Rattle.settings.specs.declared.Ignored.{Ignored}
 use Rattle.message.specs.Sheet.{VA, ST, SG, GB, mark_bytes, NO, GE}
@@ -81,7 +80,7 @@ pub record ListedAs (y : Ignored) (gs : List Group) (b s : List ℕ) (n i : ℕ)
   pub sheet : s ≡ mark_bytes GB ++ (part 8 4 b ++ (records_in gs b (values_before gs b n i) ++ (record_in gs b v ++ (records_in gs b (within ++ behind) ++ GE))))
   -- what is read of it is the bytes that it is made of, and so is its record
   pub number : member f.type number_types ≡ true → number_at b (item f p) ≡ number_of f.type (contents b v)
-  pub bytes : verdict_of (part_at b (item f p)) ≡ Accepted → bytes_in b (part_at b (item f p)) ≡ contents b v
+  pub bytes : verdict_of (part_at b (item f p)) ≡ Ok tt → bytes_in b (part_at b (item f p)) ≡ contents b v
   pub headed : ((a : ℕ) → f.kind ≡ dynamic a → ⊥) → record_in gs b v ≡ heading b f.kind p ++ contents b v
   -- "so that it is a message too": a dynamic group is accepted, and its record is its own sheet
   pub message : (a : ℕ) → f.kind ≡ dynamic a → (m : List ℕ) × (walk y gs (contents b v) ≡ done (record_in gs b v) m)

@@ -1,13 +1,15 @@
 -- "A number answer fits types 1..16 and 20: signed (2, 4, 6, 8, 12 to 14, 20), unsigned (1, 3, 5, 7, 15, 16), bool, decimal or float;
 -- an f64 reading is the float whose bits are the eight bytes."
-use Rattle.std.specs.Prelude.{cond, List, [], ◌∷◌, ◌++◌, ℕ, ◌-◌, ◌*◌, eqb}
+use Rattle.schema.specs.declared.Fault.{Fault}
+use Rattle.schema.specs.Faults.{fault_at}
+use Rattle.std.specs.Prelude.{Ok, Err, Result, cond, List, [], ◌∷◌, ◌++◌, ℕ, ◌-◌, ◌*◌, eqb}
 use Rattle.std.specs.Float.Ieee.{of_bits, nan_bits}
 use Rattle.std.specs.Float.{binary64}
 use Rattle.wire.specs.Bytes.{part, le, signed}
 use Rattle.schema.specs.Schema.{member}
 use Rattle.schema.specs.Table.{scalar_width}
 use Rattle.reading.specs.declared.Number.{Number}
-use Rattle.reading.specs.declared.Number.TheVariants.{Signed, Unsigned, Bool as Flag, Decimal, Float, NanBits, Refused}
+use Rattle.reading.specs.declared.Number.TheVariants.{Signed, Unsigned, Bool as Flag, Decimal, Float, NanBits}
 use Rattle.reading.specs.Item.{Item, missing, item}
 
 abbrev pub unsigned_types : List ℕ
@@ -33,15 +35,15 @@ unfoldable pub decimal_of : List ℕ → Number
 decimal_of x = Decimal (signed 7 (le (part 1 0 x))) (signed 63 (le (part 8 1 x)))
 
 -- The number of type t that the bytes x are; "48 other kind".
-unfoldable pub number_of : ℕ → List ℕ → Number
+unfoldable pub number_of : ℕ → List ℕ → Result Number Fault
 number_of t x =
-    cond (member t unsigned_types) (Unsigned (le x))
-    (cond (member t signed_types) (Signed (signed (8 * number_width t - 1) (le x)))
-    (cond (eqb t 9) (float_of (le x))
-    (cond (eqb t 10) (decimal_of x)
-    (cond (eqb t 11) (Flag (eqb (le x) 1))
-    (Refused 48 0)))))
+    cond (member t unsigned_types) (Ok (Unsigned (le x)))
+    (cond (member t signed_types) (Ok (Signed (signed (8 * number_width t - 1) (le x))))
+    (cond (eqb t 9) (Ok (float_of (le x)))
+    (cond (eqb t 10) (Ok (decimal_of x))
+    (cond (eqb t 11) (Ok (Flag (eqb (le x) 1)))
+    (Err (fault_at 48 0))))))
 
-unfoldable pub number_at : List ℕ → Item → Number
-number_at b (missing n) = Refused n 0
+unfoldable pub number_at : List ℕ → Item → Result Number Fault
+number_at b (missing n) = Err (fault_at n 0)
 number_at b (item f p) = number_of f.type (part (number_width f.type) p b)

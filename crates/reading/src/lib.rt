@@ -13,24 +13,24 @@ ghost use Rattle.schema.specs.FieldKinds.{Widths};
 ghost use Rattle.settings.specs.Store.{lax};
 ghost use Rattle.reading.specs.Item.{Accepted, sequence_item, value_item, field_item, item_from, item_of, field_in, fields_in, Finds};
 ghost use Rattle.reading.specs.Number.{number_width, float_of, decimal_of, number_of, number_at};
+ghost use Rattle.reading.specs.declared.Number.TheVariants.{Unsigned, Signed};
 ghost use Rattle.reading.specs.Part.{part_of, part_at, bytes_in, start_of, verdict_of};
 ghost use Rattle.reading.specs.Laid.{Led, FieldLaid, Laid, ItemLaid};
 
-use schema::{FieldKind, Verdict};
+use schema::{Fault, FieldKind};
 
-// Where an item lies, and the row of its field, which is the place of the field's record in the table;
-// or why there is none.
-#[derive(Clone, Copy)]
-pub enum Located {
-    Missing { number: u8 },
-    At { row: usize, place: usize },
+// Where an item lies, and the row of its field, which is the place of the field's record in the table.
+#[derive(Clone, Copy, Debug, PartialEq, Eq)]
+pub struct Located {
+    pub row: usize,
+    pub place: usize,
 }
 
-// An item's bytes: where they start in the message and how many they are; or why there are none.
-#[derive(Clone, Copy)]
-pub enum Part {
-    Refusal { number: u8 },
-    Lies { start: usize, length: usize },
+// An item's bytes: where they start in the message and how many they are.
+#[derive(Clone, Copy, Debug, PartialEq, Eq)]
+pub struct Part {
+    pub start: usize,
+    pub length: usize,
 }
 
 // An item's number. A float's bits may be a NaN's, of which a float keeps no more than that it is one.
@@ -42,7 +42,6 @@ pub enum Number {
     Decimal { exponent: i8, mantissa: i64 },
     Float(f64),
     NanBits(u64),
-    Refused { number: u8, place: usize },
 }
 
 // WHERE AN ITEM LIES
@@ -57,7 +56,7 @@ fn locate_in_sequence(
     group: &[u8],
     at: usize,
     item: usize,
-) -> Located
+) -> Result<Located, Fault>
     requires { (Widths index.now) × (row + 16 ≤ length table.now) × (Led group.now at) }
     ensures { Finds table.now result (sequence_item (width_in index.now) (field_in table.now row) group.now at item) }
 {
@@ -80,7 +79,7 @@ fn locate_value(
     group: &[u8],
     at: usize,
     item: usize,
-) -> Located
+) -> Result<Located, Fault>
     requires { (Widths index.now) × (row + 16 ≤ length table.now) × ((field_in table.now row).sequence ≡ true → Led group.now at) }
     ensures { Finds table.now result (value_item (width_in index.now) (field_in table.now row) group.now at item) }
 {
@@ -101,7 +100,7 @@ fn locate_item(
     group: &[u8],
     at: usize,
     item: usize,
-) -> Located
+) -> Result<Located, Fault>
     requires { (Widths index.now) × (row + 16 ≤ length table.now) × (FieldLaid (width_in index.now) group.now (field_in table.now row) at) }
     ensures { Finds table.now result (field_item (width_in index.now) (field_in table.now row) group.now at item) }
 {
@@ -139,7 +138,7 @@ pub fn locate_from(
     at: usize,
     field: usize,
     item: usize,
-) -> Located
+) -> Result<Located, Fault>
     requires { (Widths index.now) × (row + 16 * count ≤ length table.now) × (length table.now ≤ 65536) × (Laid (width_in index.now) group.now (fields_in table.now row count) at) }
     ensures { Finds table.now result (item_from (width_in index.now) (fields_in table.now row count) group.now at field item) }
 {
@@ -151,7 +150,7 @@ pub fn locate_from(
 }
 
 // Item `item` of the message's field `field`.
-pub fn locate(table: &[u8], index: &[u16], message: &[u8], field: usize, item: usize) -> Located
+pub fn locate(table: &[u8], index: &[u16], message: &[u8], field: usize, item: usize) -> Result<Located, Fault>
     requires { (Layout table.now index.now) × (Accepted lax table.now message.now) }
     ensures { Finds table.now result (item_of (schema table.now) message.now field item) }
 {
@@ -178,7 +177,7 @@ pub fn locate(table: &[u8], index: &[u16], message: &[u8], field: usize, item: u
 
 fn unsigned_at(bytes: &[u8], at: usize, width: u8) -> Number
     requires { (at + width ≤ length bytes.now) × (member width (1 ∷ (2 ∷ (4 ∷ (8 ∷ [])))) ≡ true) }
-    ensures { result ≡ Number.Unsigned (le (part width at bytes.now)) }
+    ensures { result ≡ Unsigned (le (part width at bytes.now)) }
 {
     match width {
         1 => Number::Unsigned(wire::wide(bytes[at]) as u64),
@@ -190,7 +189,7 @@ fn unsigned_at(bytes: &[u8], at: usize, width: u8) -> Number
 
 fn signed_at(bytes: &[u8], at: usize, width: u8) -> Number
     requires { (at + width ≤ length bytes.now) × (member width (1 ∷ (2 ∷ (4 ∷ (8 ∷ [])))) ≡ true) }
-    ensures { result ≡ Number.Signed (signed (8 * width - 1) (le (part width at bytes.now))) }
+    ensures { result ≡ Signed (signed (8 * width - 1) (le (part width at bytes.now))) }
 {
     match width {
         1 => Number::Signed(wire::i8_from_bits(bytes[at]) as i64),
@@ -223,7 +222,7 @@ fn float_at(bytes: &[u8], at: usize) -> Number
 }
 
 // The number at `at`, of this type of document 01. "48 other kind"
-pub fn number_at(bytes: &[u8], at: usize, number: u8) -> Number
+pub fn number_at(bytes: &[u8], at: usize, number: u8) -> Result<Number, Fault>
     requires { at + number_width number ≤ length bytes.now }
     ensures { result ≡ number_of number (part (number_width number) at bytes.now) }
 {
@@ -253,7 +252,7 @@ pub fn number_at(bytes: &[u8], at: usize, number: u8) -> Number
 }
 
 // The number that item `item` of the message's field `field` is.
-pub fn read_number(table: &[u8], index: &[u16], message: &[u8], field: usize, item: usize) -> Number
+pub fn read_number(table: &[u8], index: &[u16], message: &[u8], field: usize, item: usize) -> Result<Number, Fault>
     requires { (Layout table.now index.now) × (Accepted lax table.now message.now) }
     ensures { result ≡ number_at message.now (item_of (schema table.now) message.now field item) }
 {
@@ -267,7 +266,7 @@ pub fn read_number(table: &[u8], index: &[u16], message: &[u8], field: usize, it
 // THE BYTES
 
 // The part of the item at `at`, whose field has its record at `row`.
-pub fn part_at(table: &[u8], row: usize, bytes: &[u8], at: usize) -> Part
+pub fn part_at(table: &[u8], row: usize, bytes: &[u8], at: usize) -> Result<Part, Fault>
     requires { (row + 16 ≤ length table.now) × (ItemLaid bytes.now (field_in table.now row).kind at) }
     ensures { result ≡ part_of (field_in table.now row).type (field_in table.now row).kind bytes.now at }
 {
@@ -304,7 +303,7 @@ pub fn part_at(table: &[u8], row: usize, bytes: &[u8], at: usize) -> Part
 }
 
 // The part of item `item` of the message's field `field`.
-pub fn find_part(table: &[u8], index: &[u16], message: &[u8], field: usize, item: usize) -> Part
+pub fn find_part(table: &[u8], index: &[u16], message: &[u8], field: usize, item: usize) -> Result<Part, Fault>
     requires { (Layout table.now index.now) × (Accepted lax table.now message.now) }
     ensures { result ≡ part_at message.now (item_of (schema table.now) message.now field item) }
 {
@@ -342,7 +341,7 @@ pub fn read_bytes_verdict(
     message: &[u8],
     field: usize,
     item: usize,
-) -> Verdict
+) -> Result<(), Fault>
     requires { (Layout table.now index.now) × (Accepted lax table.now message.now) }
     ensures { result ≡ verdict_of (part_at message.now (item_of (schema table.now) message.now field item)) }
 {

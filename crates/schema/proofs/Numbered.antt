@@ -1,8 +1,8 @@
 -- No refusal of a table has the number 0.
-use Rattle.std.proofs.Common.{◌≡◌, ℕ, zero, suc, ◌+◌, ◌≤◌, Bool, true, false, cond, List, [], ◌∷◌, arith}
-use Rattle.schema.specs.declared.Verdict.{Verdict}
-use Rattle.schema.specs.declared.Verdict.TheVariants.{Accepted, Refused}
-use Rattle.schema.specs.Faults.{need, also}
+use Rattle.std.specs.Prelude.{Result, ⊤}
+use Rattle.schema.specs.declared.Fault.{Fault}
+use Rattle.std.proofs.Common.{Ok, Err, ◌≡◌, ℕ, zero, suc, ◌+◌, ◌≤◌, Bool, true, false, cond, List, [], ◌∷◌, arith}
+use Rattle.schema.specs.Faults.{Verdict, fault_at, need, also}
 use Rattle.schema.specs.Schema.{Test, any, flag, below, symbol, passes, test_fault, Group}
 use Rattle.schema.specs.Table.{FD, SY, marked, group_marked, Due, shape_from, shape_verdict, enum_verdict, symbol_verdict, group_verdict, field_verdict, record_verdict, records_from, records_verdict, id_verdict, each_group, widths_verdict, supers_verdict, stored_verdict, table_verdict}
 
@@ -25,46 +25,47 @@ module _ {X : Type 0} (P : X → Type 0) where
   in-test (below n) v f q = in-need (passes (below n) v) (f (omega arith)) q
   in-test (symbol vs) v f q = in-need (passes (symbol vs) v) (f (omega arith)) q
 
-pub data Numbered : Verdict → Type 0 where
-  accepts : Numbered Accepted
-  refuses : {n p : ℕ} → 1 ≤ n → Numbered (Refused n p)
+-- An answer whose fault, if there is one, has a number.
+pub data Numbered {A : Type 0} : Result A Fault → Type 0 where
+  accepts : (x : A) → Numbered (Ok x)
+  refuses : (f : Fault) → 1 ≤ f.number → Numbered (Err f)
 
-pub not-zero : {v : Verdict} → Numbered v → (p : ℕ) → v ≡ Refused 0 p → ⊥
-not-zero accepts p e = let z : ◌≡◌ {A = ℕ} 0 1 = cc in omega (arith, z)
-not-zero (refuses {n = n} l) p e = let z : n ≡ 0 = cc in omega (arith, z, l)
+pub not-zero : {A : Type 0} {v : Result A Fault} → Numbered v → (p : ℕ) → v ≡ Err (fault_at 0 p) → ⊥
+not-zero (accepts x) p e = (cc)
+not-zero (refuses f l) p e = let z : f ≡ fault_at 0 p = cc in let k : 1 ≤ 0 = rw z at l in omega (arith, k)
 
-pub tested : (c : Bool) (n p : ℕ) {v : Verdict} → 1 ≤ n → Numbered v → Numbered (need c (Refused n p) v)
-tested c n p l x = in-need Numbered c (refuses l) x
+pub tested : {A : Type 0} (c : Bool) (n p : ℕ) {v : Result A Fault} → 1 ≤ n → Numbered v → Numbered (need c (Err (fault_at n p)) v)
+tested c n p l x = in-need Numbered c (refuses (fault_at n p) l) x
 
 pub numbered-also : {v w : Verdict} → Numbered v → Numbered w → Numbered (also v w)
 unfolding also
-numbered-also accepts y = y
-numbered-also (refuses l) y = refuses l
+numbered-also (accepts x) y = y
+numbered-also (refuses f l) y = refuses f l
 
 shape : (n : ℕ) (d : Due) (p : ℕ) (t : List ℕ) → Numbered (shape_from n d p t)
 unfolding shape_from
-shape zero d p t = tested _ 31 _ (omega arith) accepts
+shape zero d p t = tested _ 31 _ (omega arith) (accepts tt)
 shape (suc n) d p t = tested _ 31 _ (omega arith) (shape n _ _ _)
 
 each : (n : ℕ) → 1 ≤ n → (test : ℕ → ℕ → Bool) (g : ℕ) (ps : List ℕ) → Numbered (each_group n test g ps)
 unfolding each_group
-each n l test g [] = accepts
+each n l test g [] = (accepts tt)
 each n l test g (p ∷ ps) = tested _ n _ l (each n l test (g + 1) ps)
 
 one : (ne : ℕ) (gs : List Group) (next low p : ℕ) (t : List ℕ) → Numbered (record_verdict ne gs next low p t)
 unfolding record_verdict field_verdict symbol_verdict group_verdict enum_verdict
 one ne gs next low p t =
-    in-cond Numbered (marked FD t) (tested _ 32 _ (omega arith) (tested _ 33 _ (omega arith) accepts))
-    (in-cond Numbered (marked SY t) (tested _ 32 _ (omega arith) (tested _ 34 _ (omega arith) accepts))
-    (in-cond Numbered (group_marked t) (tested _ 32 _ (omega arith) (tested _ 33 _ (omega arith) (tested _ 34 _ (omega arith) accepts)))
-    (tested _ 32 _ (omega arith) accepts)))
+    in-cond Numbered (marked FD t) (tested _ 32 _ (omega arith) (tested _ 33 _ (omega arith) (accepts tt)))
+    (in-cond Numbered (marked SY t) (tested _ 32 _ (omega arith) (tested _ 34 _ (omega arith) (accepts tt)))
+    (in-cond Numbered (group_marked t) (tested _ 32 _ (omega arith) (tested _ 33 _ (omega arith) (tested _ 34 _ (omega arith) (accepts tt))))
+    (tested _ 32 _ (omega arith) (accepts tt))))
 
 records : (ne : ℕ) (gs : List Group) (n next low p : ℕ) (t : List ℕ) → Numbered (records_from ne gs n next low p t)
 unfolding records_from
-records ne gs zero next low p t = accepts
+records ne gs zero next low p t = (accepts tt)
 records ne gs (suc n) next low p t = numbered-also (one ne gs next low p t) (records ne gs n _ _ _ _)
 
 pub table : (t : List ℕ) → Numbered (table_verdict t)
 unfolding table_verdict shape_verdict records_verdict id_verdict widths_verdict supers_verdict stored_verdict
-table t = tested _ 30 _ (omega arith) (numbered-also (shape _ _ _ _) (numbered-also (records _ _ _ _ _ _ _) (numbered-also (tested _ 34 _ (omega arith) accepts)
+table t = tested _ 30 _ (omega arith) (numbered-also (shape _ _ _ _) (numbered-also (records _ _ _ _ _ _ _) (numbered-also (tested _ 34 _ (omega arith) (accepts tt))
     (numbered-also (each 35 (omega arith) _ _ _) (numbered-also (each 36 (omega arith) _ _ _) (each 37 (omega arith) _ _ _))))))

@@ -1,9 +1,7 @@
 -- Requests 5 and 8 (document 02) by example: groups that begin with the fields of their super or do not, and groups that store their widths.
-use Rattle.std.specs.Prelude.{◌≡◌, ℕ, List, [], ◌∷◌, ◌++◌, map, refl}
+use Rattle.std.specs.Prelude.{Ok, Err, ◌≡◌, ℕ, List, [], ◌∷◌, ◌++◌, map, refl}
 use Rattle.wire.specs.Bytes.{bytes_of, le, same, all_zero}
-use Rattle.schema.specs.declared.Verdict.{Verdict}
-use Rattle.schema.specs.declared.Verdict.TheVariants.{Accepted, Refused}
-use Rattle.schema.specs.Faults.{need, also}
+use Rattle.schema.specs.Faults.{Verdict, fault_at, need, also}
 use Rattle.schema.specs.Schema.{kind_width, value_width, field_width, fields_width, fields_of, width, shallow_kind, shallow_fields, shallow, find, known}
 use Rattle.schema.specs.Symbols.{rank}
 use Rattle.schema.specs.Table.{GR, GW, group_marked, scalar_width, kind_of, field_at, fields_at, values_at, group_at, enums_from, groups_from, places_from, enums, schema, places, is_enum, is_group, is_due, due_after, shape_from, shape_verdict, enum_verdict, symbol_verdict, group_verdict, size_ok, reference_ok, field_verdict, record_verdict, records_from, records_verdict, any_id, id_verdict, each_group, in_bounds, widths_verdict, begins_with, inherits, supers_verdict, stores_own, stored_verdict, table_verdict}
@@ -76,39 +74,39 @@ case t v = record { table = t; verdict = v }
 
 abbrev pub cases : List Case
 cases =
-    case (child 3 (text ++ (word ++ long))) Accepted
-    ∷ case (child 2 (text ++ word)) Accepted
-    ∷ case empty Accepted
-    ∷ case (grandchild 3 (text ++ (word ++ long))) Accepted
-    ∷ case (symbolic 0) Accepted
+    case (child 3 (text ++ (word ++ long))) (Ok tt)
+    ∷ case (child 2 (text ++ word)) (Ok tt)
+    ∷ case empty (Ok tt)
+    ∷ case (grandchild 3 (text ++ (word ++ long))) (Ok tt)
+    ∷ case (symbolic 0) (Ok tt)
     -- a field is missing, the order is another, a u64 stands where the super has a u32
-    ∷ case (child 1 text) (Refused 36 48)
-    ∷ case (child 2 (word ++ text)) (Refused 36 48)
-    ∷ case (child 3 (text ++ (long ++ word))) (Refused 36 48)
+    ∷ case (child 1 text) (Err (fault_at 36 48))
+    ∷ case (child 2 (word ++ text)) (Err (fault_at 36 48))
+    ∷ case (child 3 (text ++ (long ++ word))) (Err (fault_at 36 48))
     -- the first group's fields are not enough
-    ∷ case (grandchild 2 (text ++ word)) (Refused 36 112)
+    ∷ case (grandchild 2 (text ++ word)) (Err (fault_at 36 112))
     -- "record for record", and not by what they mean
-    ∷ case (symbolic 1) (Refused 36 96)
+    ∷ case (symbolic 1) (Err (fault_at 36 96))
     -- 35 of a later group comes first
-    ∷ case (child 1 (text ++ (group 3 0 17 ++ wide))) (Refused 35 80)
+    ∷ case (child 1 (text ++ (group 3 0 17 ++ wide))) (Err (fault_at 35 80))
     -- both forms, and a mix
-    ∷ case (pair (group 1 0 1) (group 2 0 1)) Accepted
-    ∷ case (pair (stored 1 0 1 4) (stored 2 0 1 5)) Accepted
-    ∷ case (pair (group 1 0 1) (stored 2 0 1 5)) (Refused 31 32)
-    ∷ case (pair (stored 1 0 1 4) (group 2 0 1)) (Refused 31 32)
+    ∷ case (pair (group 1 0 1) (group 2 0 1)) (Ok tt)
+    ∷ case (pair (stored 1 0 1 4) (stored 2 0 1 5)) (Ok tt)
+    ∷ case (pair (group 1 0 1) (stored 2 0 1 5)) (Err (fault_at 31 32))
+    ∷ case (pair (stored 1 0 1 4) (group 2 0 1)) (Err (fault_at 31 32))
     -- bytes 14-15 of `GR`
-    ∷ case (pair (group_record GR 1 0 1 4) (group 2 0 1)) (Refused 32 0)
-    ∷ case (pair (group 1 0 1) (group_record GR 2 0 1 256)) (Refused 32 32)
+    ∷ case (pair (group_record GR 1 0 1 4) (group 2 0 1)) (Err (fault_at 32 0))
+    ∷ case (pair (group 1 0 1) (group_record GR 2 0 1 256)) (Err (fault_at 32 32))
     -- a width without the flag, one with a wrong high byte, and two wrong ones
-    ∷ case (pair (stored 1 0 1 4) (stored 2 0 1 4)) (Refused 37 32)
-    ∷ case (pair (stored 1 0 1 4) (stored 2 0 1 261)) (Refused 37 32)
-    ∷ case (pair (stored 1 0 1 8) (stored 2 0 1 9)) (Refused 37 0)
+    ∷ case (pair (stored 1 0 1 4) (stored 2 0 1 4)) (Err (fault_at 37 32))
+    ∷ case (pair (stored 1 0 1 4) (stored 2 0 1 261)) (Err (fault_at 37 32))
+    ∷ case (pair (stored 1 0 1 8) (stored 2 0 1 9)) (Err (fault_at 37 0))
     -- "35 goes by the true widths": the inner group has none, whatever it stores; the other stores more than it may have
-    ∷ case (hollow (stored 1 0 0 1) (stored 2 0 1 2)) (Refused 35 16)
-    ∷ case (pair (stored 1 0 1 4097) (stored 2 0 1 5)) (Refused 37 0)
+    ∷ case (hollow (stored 1 0 0 1) (stored 2 0 1 2)) (Err (fault_at 35 16))
+    ∷ case (pair (stored 1 0 1 4097) (stored 2 0 1 5)) (Err (fault_at 37 0))
     -- 35 and 36 of a later group come before 37
-    ∷ case (stored 1 0 1 0 ++ (word ++ (stored 2 0 17 4335 ++ wide))) (Refused 35 32)
-    ∷ case (stored 1 0 1 0 ++ (word ++ stored 2 1 0 0)) (Refused 36 32)
+    ∷ case (stored 1 0 1 0 ++ (word ++ (stored 2 0 17 4335 ++ wide))) (Err (fault_at 35 32))
+    ∷ case (stored 1 0 1 0 ++ (word ++ stored 2 1 0 0)) (Err (fault_at 36 32))
     ∷ []
 
 pub cases-hold : map (λ c. table_verdict c.table) cases ≡ map (λ c. c.verdict) cases

@@ -1,11 +1,10 @@
 -- The schema table: its faults in document 01's order, and the schema that it holds.
 -- The table (document 01's word for the encoded schema) is records of 16 bytes. What is defined record by record takes what is left of the
 -- table's bytes, of which the first 16 are the record at hand, and the number of records left.
-use Rattle.std.specs.Prelude.{ℕ, zero, suc, ◌+◌, ◌-◌, ◌*◌, ◌/◌, ◌%◌, Bool, false, cond, not, ◌&&◌, ◌||◌, List, [], ◌∷◌, length, take, drop, ◌==◌, nat_le, nat_lt, slice_index, slice_index_or}
+use Rattle.schema.specs.declared.Fault.{Fault}
+use Rattle.std.specs.Prelude.{Ok, Err, ℕ, zero, suc, ◌+◌, ◌-◌, ◌*◌, ◌/◌, ◌%◌, Bool, false, cond, not, ◌&&◌, ◌||◌, List, [], ◌∷◌, length, take, drop, ◌==◌, nat_le, nat_lt, slice_index, slice_index_or}
 use Rattle.wire.specs.Bytes.{part, le, same, all_zero}
-use Rattle.schema.specs.declared.Verdict.{Verdict}
-use Rattle.schema.specs.declared.Verdict.TheVariants.{Accepted, Refused}
-use Rattle.schema.specs.Faults.{need, also}
+use Rattle.schema.specs.Faults.{Verdict, fault_at, need, also}
 use Rattle.schema.specs.Schema.{Kind, plain, inline, indirect, static, dynamic, any, flag, below, symbol, Field, Group, width, shallow, known}
 use Rattle.schema.specs.Symbols.{rank}
 
@@ -101,7 +100,7 @@ kind_of es type size ref =
     (cond (type == 22) (dynamic (ref + 1)) (dynamic 0)))))))))
 
 unfoldable pub field_at : List (List ℕ) → List ℕ → Field
-field_at es t = record { type = field_type t; kind = kind_of es (field_type t) (field_size t) (reference t); optional = (optional_flag t == 1); sequence = (sequence_flag t == 1) }
+field_at es t = record { type = field_type t; kind = kind_of es (field_type t) (field_size t) (reference t); optional = optional_flag t == 1; sequence = sequence_flag t == 1 }
 
 -- The fields of the next n records.
 unfoldable pub fields_at : List (List ℕ) → ℕ → List ℕ → List Field
@@ -115,7 +114,7 @@ values_at (suc n) t = symbol_value t ∷ values_at n (drop 16 t)
 
 -- The group whose record stands first: its fields are the records behind it.
 unfoldable pub group_at : List (List ℕ) → List ℕ → Group
-group_at es t = record { has_id = (id_flag t == 1); id = type_id t; super = super_number t; fields = fields_at es (field_count t) (drop 16 t) }
+group_at es t = record { has_id = id_flag t == 1; id = type_id t; super = super_number t; fields = fields_at es (field_count t) (drop 16 t) }
 
 -- "each kind is numbered from 0": the enumerations, the groups and the groups' places, of n records.
 unfoldable pub enums_from : ℕ → List ℕ → List (List ℕ)
@@ -176,8 +175,8 @@ due_after d t =
     (record { enumerations = d.enumerations; groups = d.groups + 1; owed = field_count t; stored = marked GW t }))
 
 unfoldable pub shape_from : ℕ → Due → ℕ → List ℕ → Verdict
-shape_from zero d p t = need (d.owed == 0) (Refused 31 p) Accepted
-shape_from (suc n) d p t = need (is_due d t) (Refused 31 p) (shape_from n (due_after d t) (p + 16) (drop 16 t))
+shape_from zero d p t = need (d.owed == 0) (Err (fault_at 31 p)) (Ok tt)
+shape_from (suc n) d p t = need (is_due d t) (Err (fault_at 31 p)) (shape_from n (due_after d t) (p + 16) (drop 16 t))
 
 unfoldable pub shape_verdict : List ℕ → Verdict
 shape_verdict t = shape_from (record_count t) (record { enumerations = 0; groups = 0; owed = 0; stored = false }) 0 t
@@ -185,20 +184,20 @@ shape_verdict t = shape_from (record_count t) (record { enumerations = 0; groups
 -- 32, 33, 34, RECORD BY RECORD
 
 unfoldable pub enum_verdict : ℕ → List ℕ → Verdict
-enum_verdict p t = need (all_zero (part 12 4 t)) (Refused 32 p) Accepted
+enum_verdict p t = need (all_zero (part 12 4 t)) (Err (fault_at 32 p)) (Ok tt)
 
 -- low: the least rank that rises.
 unfoldable pub symbol_verdict : ℕ → ℕ → List ℕ → Verdict
 symbol_verdict low p t =
-    need (all_zero (part 10 6 t)) (Refused 32 p)
-    (need (nat_le low (rank (symbol_value t))) (Refused 34 p) Accepted)
+    need (all_zero (part 10 6 t)) (Err (fault_at 32 p))
+    (need (nat_le low (rank (symbol_value t))) (Err (fault_at 34 p)) (Ok tt))
 
 -- own: the group's number. Bytes 14-15 are zero, or a stored width.
 unfoldable pub group_verdict : List Group → ℕ → ℕ → List ℕ → Verdict
 group_verdict gs own p t =
-    need (nat_lt (id_flag t) 2 && ((id_flag t == 1 || all_zero (part 8 2 t)) && (marked GW t || all_zero (part 2 14 t)))) (Refused 32 p)
-    (need (nat_le (super_number t) own) (Refused 33 p)
-    (need (not (id_flag t == 1 && known (take own gs) (type_id t))) (Refused 34 p) Accepted))
+    need (nat_lt (id_flag t) 2 && ((id_flag t == 1 || all_zero (part 8 2 t)) && (marked GW t || all_zero (part 2 14 t)))) (Err (fault_at 32 p))
+    (need (nat_le (super_number t) own) (Err (fault_at 33 p))
+    (need (not (id_flag t == 1 && known (take own gs) (type_id t))) (Err (fault_at 34 p)) (Ok tt)))
 
 -- "String and binary: size 1..255 is inline, size 0 is indirect. Fixed: size 1..255 is the width. Other types have size 0."
 unfoldable pub size_ok : ℕ → ℕ → Bool
@@ -212,9 +211,9 @@ reference_ok ne ng own type ref =
 
 unfoldable pub field_verdict : ℕ → ℕ → ℕ → ℕ → List ℕ → Verdict
 field_verdict ne ng own p t =
-    need (nat_lt (optional_flag t) 2 && (nat_lt (sequence_flag t) 2 && all_zero (part 8 8 t))) (Refused 32 p)
+    need (nat_lt (optional_flag t) 2 && (nat_lt (sequence_flag t) 2 && all_zero (part 8 8 t))) (Err (fault_at 32 p))
     (need (nat_le 1 (field_type t) && (nat_le (field_type t) 23 && (size_ok (field_type t) (field_size t) && reference_ok ne ng own (field_type t) (reference t))))
-    (Refused 33 p) Accepted)
+    (Err (fault_at 33 p)) (Ok tt))
 
 -- next: the number of groups before this record, so that a field's own group is the one before; low: see symbol_verdict.
 unfoldable pub record_verdict : ℕ → List Group → ℕ → ℕ → ℕ → List ℕ → Verdict
@@ -225,7 +224,7 @@ record_verdict ne gs next low p t =
     (enum_verdict p t)))
 
 unfoldable pub records_from : ℕ → List Group → ℕ → ℕ → ℕ → ℕ → List ℕ → Verdict
-records_from ne gs zero next low p t = Accepted
+records_from ne gs zero next low p t = Ok tt
 records_from ne gs (suc n) next low p t =
     also (record_verdict ne gs next low p t)
     (records_from ne gs n (cond (group_marked t) (next + 1) next) (cond (marked SY t) (rank (symbol_value t) + 1) 0) (p + 16) (drop 16 t))
@@ -240,14 +239,14 @@ any_id [] = false
 any_id (g ∷ gs) = g.has_id || any_id gs
 
 unfoldable pub id_verdict : List ℕ → Verdict
-id_verdict t = need (any_id (schema t)) (Refused 34 (length t)) Accepted
+id_verdict t = need (any_id (schema t)) (Err (fault_at 34 (length t))) (Ok tt)
 
 -- 35, 36 AND 37, GROUP BY GROUP
 
 -- Fault n of the first group that fails its test, at its record. The groups' records stand at ps, the first of them that of group number g.
 unfoldable pub each_group : ℕ → (ℕ → ℕ → Bool) → ℕ → List ℕ → Verdict
-each_group n test g [] = Accepted
-each_group n test g (p ∷ ps) = need (test g p) (Refused n p) (each_group n test (g + 1) ps)
+each_group n test g [] = Ok tt
+each_group n test g (p ∷ ps) = need (test g p) (Err (fault_at n p)) (each_group n test (g + 1) ps)
 
 -- 35: "width over 4,096, static depth over 4, or a type 21 field whose group has width 0". It "goes by the true widths".
 unfoldable pub in_bounds : List Group → ℕ → Bool
@@ -283,7 +282,7 @@ stored_verdict t = each_group 37 (stores_own t) 0 (places t)
 -- record, after 36."
 unfoldable pub table_verdict : List ℕ → Verdict
 table_verdict t =
-    need (nat_lt 0 (length t) && (nat_le (length t) 65536 && length t % 16 == 0)) (Refused 30 0)
+    need (nat_lt 0 (length t) && (nat_le (length t) 65536 && length t % 16 == 0)) (Err (fault_at 30 0))
     (also (shape_verdict t)
     (also (records_verdict t)
     (also (id_verdict t)

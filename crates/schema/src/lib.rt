@@ -7,16 +7,17 @@
 ghost use Rattle.std.specs.Prelude.{◌≡◌, ℕ, ◌+◌, ◌*◌, ◌^◌, ◌<◌, ◌≤◌, ◌&&◌, List, [], length, take, drop, if◌then◌else◌, ◌==◌, slice_index, slice_index_or};
 ghost use Rattle.wire.specs.Bytes.{part};
 ghost use Rattle.schema.specs.Schema.{text_ok, member, find, known, allows, kind_width, value_width, field_width};
+ghost use Rattle.schema.specs.Faults.{judged};
 ghost use Rattle.schema.specs.Symbols.{rank, halve};
 ghost use Rattle.schema.specs.Table.{scalar_width, symbol_count, symbol_value, type_id, id_flag, super_number, field_count, stored_width, field_type, field_size, reference, field_at, enums, schema};
 ghost use Rattle.schema.specs.Layout.{group_place, group_total, enum_total, symbol_place, symbol_total, width_in, Placed, Layout};
 ghost use Rattle.schema.specs.FieldKinds.{kind_from, text_kind, tested_kind, kind_fault, plain_width, Widths};
 
-// A check's answer: this number of document 01's, at this place.
-#[derive(Clone, Copy)]
-pub enum Verdict {
-    Accepted,
-    Refused { number: u8, place: usize },
+// A refusal: this number of document 01's, at this place.
+#[derive(Clone, Copy, Debug, PartialEq, Eq)]
+pub struct Fault {
+    pub number: u8,
+    pub place: usize,
 }
 
 // The numbers whose bytes are tested: a bool, a time of day in milliseconds or nanoseconds, and a
@@ -475,39 +476,24 @@ pub fn is_text(utf8: bool, bytes: &[u8], at: usize, count: usize) -> bool
     true
 }
 
-// "10, 11, 12: no such symbol; bool or flag not 0, 1; 24 hours or more", or 0 where the number that
-// stands at `at` passes.
-pub fn test_fault(table: &[u8], index: &[u16], tested: Tested, bytes: &[u8], at: usize) -> u8
+// "10, 11, 12: no such symbol; bool or flag not 0, 1; 24 hours or more": whether the number that stands
+// at `at` passes. A fault is told at `place`.
+pub fn check_tested(
+    table: &[u8],
+    index: &[u16],
+    tested: Tested,
+    bytes: &[u8],
+    at: usize,
+    place: usize,
+) -> Result<(), Fault>
     requires { (Layout table.now index.now) × (at + kind_width (width_in index.now) (tested_kind (enums table.now) tested) ≤ length bytes.now) }
-    ensures { result ≡ kind_fault (tested_kind (enums table.now) tested) (drop at bytes.now) }
+    ensures { result ≡ judged (kind_fault (tested_kind (enums table.now) tested) (drop at bytes.now)) place }
 {
-    match tested {
-        Tested::Flag => {
-            if bytes[at] < 2 {
-                return 0;
-            }
-            11
-        }
-        Tested::Millis => {
-            if wire::read_u32(bytes, at) < 86400000 {
-                return 0;
-            }
-            12
-        }
-        Tested::Nanos => {
-            if wire::read_u64(bytes, at) < 86400000000000 {
-                return 0;
-            }
-            12
-        }
-        Tested::Symbol { list } => {
-            if 64 <= list {
-                return 10;
-            }
-            if has_symbol(table, index, list, wire::read_u32(bytes, at) as u32) {
-                return 0;
-            }
-            10
-        }
-    }
+    let passes = match tested {
+        Tested::Flag => bytes[at] < 2,
+        Tested::Millis => wire::read_u32(bytes, at) < 86400000,
+        Tested::Nanos => wire::read_u64(bytes, at) < 86400000000000,
+        Tested::Symbol { list } => list < 64 && has_symbol(table, index, list, wire::read_u32(bytes, at) as u32),
+    };
+    todo
 }

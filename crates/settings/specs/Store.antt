@@ -1,14 +1,11 @@
 -- The settings store: which of document 01's faults 4, 6 and 8 a customer's messages may have. All citations are document 02's, of request 7.
 -- "Add a settings store, a lent buffer of records, a two-byte mark before each, `CS`: customer number u16, version u16, three flag bytes to ignore
 -- 4, 6 and 8. Records of 9 bytes stand from the start, all bytes after them are zero."
-use Rattle.std.specs.Prelude.{Bool, true, false, cond, ◌&&◌, List, [], ◌∷◌, ◌++◌, ℕ, zero, suc, ◌+◌, ◌*◌, length, drop, get_or, leb, ltb, eqb}
+use Rattle.schema.specs.declared.Fault.{Fault}
+use Rattle.std.specs.Prelude.{Ok, Err, Result, Bool, true, false, cond, ◌&&◌, List, [], ◌∷◌, ◌++◌, ℕ, zero, suc, ◌+◌, ◌*◌, length, drop, get_or, leb, ltb, eqb}
 use Rattle.wire.specs.Bytes.{part, splice, le, bytes_of, same, all_zero}
-use Rattle.schema.specs.Faults.{need}
-use Rattle.schema.specs.declared.Verdict.{Verdict}
-use Rattle.schema.specs.declared.Verdict.TheVariants.{Accepted, Refused}
+use Rattle.schema.specs.Faults.{Verdict, fault_at, need}
 use Rattle.settings.specs.declared.Ignored.{Ignored}
-use Rattle.settings.specs.declared.Setting.{Setting}
-use Rattle.settings.specs.declared.Setting.TheVariants.{Ignores, Refused as Unknown}
 
 -- WHAT IS IGNORED
 
@@ -92,7 +89,7 @@ sound st = all_zero (drop (9 * records st) st)
 -- "A store that is damaged, holds a flag other than 0 or 1, or has a version that doesn't rise is 50". "Its place is the start, in the store, of the
 -- first record (or rest) at fault."
 unfoldable pub store_verdict : List ℕ → Verdict
-store_verdict st = need (sound st) (Refused 50 (9 * records st)) Accepted
+store_verdict st = need (sound st) (Err (fault_at 50 (9 * records st))) (Ok tt)
 
 -- WHAT A CUSTOMER'S SETTINGS ARE
 
@@ -105,16 +102,16 @@ ignored_by st (suc k) = ignored_of st k
 unfoldable pub governing : List ℕ → ℕ → Ignored
 governing st c = ignored_by st (newest st c (records st))
 
-unfoldable pub setting_of : List ℕ → ℕ → Setting
-setting_of st c = need (sound st) (Unknown 50 (9 * records st)) (Ignores (governing st c))
+unfoldable pub setting_of : List ℕ → ℕ → Result Ignored Fault
+setting_of st c = need (sound st) (Err (fault_at 50 (9 * records st))) (Ok (governing st c))
 
 -- "older ones stay readable (59 if not there)", "50 is tested before 51 and 59"
-unfoldable pub version_by : List ℕ → ℕ → Setting
-version_by st zero = Unknown 59 0
-version_by st (suc k) = Ignores (ignored_of st k)
+unfoldable pub version_by : List ℕ → ℕ → Result Ignored Fault
+version_by st zero = Err (fault_at 59 0)
+version_by st (suc k) = Ok (ignored_of st k)
 
-unfoldable pub setting_at : List ℕ → ℕ → ℕ → Setting
-setting_at st c v = need (sound st) (Unknown 50 (9 * records st)) (version_by st (versioned st c v (records st)))
+unfoldable pub setting_at : List ℕ → ℕ → ℕ → Result Ignored Fault
+setting_at st c v = need (sound st) (Err (fault_at 50 (9 * records st))) (version_by st (versioned st c v (records st)))
 
 -- A NEW VERSION
 
@@ -124,14 +121,14 @@ record_of c v absent pads unused = CS ++ (bytes_of 2 c ++ (bytes_of 2 v ++ (abse
 -- "also when an addition would make it so. Fewer than 9 bytes after the last record refuses an addition with 51. 50 is tested before 51".
 unfoldable pub add_verdict : List ℕ → ℕ → ℕ → ℕ → ℕ → ℕ → Verdict
 add_verdict st c v absent pads unused =
-    need (sound st && follows st (records st) c v absent pads unused) (Refused 50 (9 * records st))
-    (need (leb (9 * records st + 9) (length st)) (Refused 51 0)
-    Accepted)
+    need (sound st && follows st (records st) c v absent pads unused) (Err (fault_at 50 (9 * records st)))
+    (need (leb (9 * records st + 9) (length st)) (Err (fault_at 51 0))
+    (Ok tt))
 
 -- "each leaves the store as it was"
 unfoldable pub store_after : List ℕ → ℕ → ℕ → ℕ → ℕ → ℕ → List ℕ
 store_after st c v absent pads unused = put (add_verdict st c v absent pads unused)
   where
     put : Verdict → List ℕ
-    put Accepted = splice 9 (9 * records st) (record_of c v absent pads unused) st
-    put (Refused n p) = st
+    put (Ok _) = splice 9 (9 * records st) (record_of c v absent pads unused) st
+    put (Err f) = st

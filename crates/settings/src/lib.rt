@@ -9,10 +9,3 @@ pub struct Ignored {
     pub pads: bool,
     pub unused: bool,
 }
-
-// What is ignored, or why that cannot be told.
-#[derive(Clone, Copy)]
-pub enum Setting {
-    Ignores { ignored: Ignored },
-    Refused { number: u8, place: usize },
-}

@@ -1,4 +1,5 @@
 -- What an addition makes of a store: the check's own verdict.
+use Rattle.std.proofs.Common.{Ok, Err}
 use Prim.Native.Nat.{ℕ, zero, suc, ◌+◌, ◌-◌, ◌*◌, ◌<◌, ◌≤◌}
 use mathlib.Core.Path.{◌≡◌, refl, sym, ap, ◌∙◌}
 use mathlib.Core.Bool.{Bool, true, false, cond, ◌&&◌, and-eq-true_iff}
@@ -11,9 +12,7 @@ use lib.Dec.{leb, ltb, eqb}
 use borrow.Author.Tests.{le-leb, lt-leb, leb-true, ltb-true, ltb-false, eq-eqb, ne_eqb, eqb-true, eqb-false}
 use Rattle.wire.specs.Bytes.{part, splice, le, bytes_of, same, all_zero}
 use Rattle.wire.proofs.Laws.{part-part, le_bytes}
-use Rattle.schema.specs.Faults.{need}
-use Rattle.schema.specs.declared.Verdict.TheVariants.{Accepted, Refused}
-use Rattle.settings.specs.declared.Setting.TheVariants.{Ignores}
+use Rattle.schema.specs.Faults.{fault_at, need}
 use Rattle.settings.specs.Store.{CS, customer_of, version_of, flag_of, ignoring, ignored_of, last_of, newest, versioned, above, flags_ok, follows, stands, good, run, records, sound, store_verdict, ignored_by, setting_of, version_by, setting_at, record_of}
 use Rattle.store.proofs.Laws.{run-first, run-stop, run_on, run-turn, last-is, last-gone, last-same, last-few, newest-miss, passes, governs, has-version}
 
@@ -198,7 +197,7 @@ module _ (s t : List ℕ) (n : ℕ) (agree : take (9 * n) s ≡ take (9 * n) t) 
   version-by-same : (k : ℕ) → k ≤ n → version_by s k ≡ version_by t k
   unfolding version_by
   version-by-same zero h = refl
-  version-by-same (suc k) h = ap Ignores (ignored-same k (omega arith))
+  version-by-same (suc k) h = ap Ok (ignored-same k (omega arith))
 
   newest-same : (c k : ℕ) → k ≤ n → newest s c k ≡ newest t c k
   newest-same c k h = last-same (λ i. eqb (customer_of s i) c) (λ i. eqb (customer_of t i) c) k
@@ -294,7 +293,7 @@ module _ (st : List ℕ) (c v a p u : ℕ) (few : c < 65536) (low : v < 65536) w
   new-run = run_past (good new) (length new) n
       (λ i h. sym (good-same st new n new-agrees i h (records-fit st) (omega (arith, new-long))) ∙ good-held st i h) (omega (arith, new-long))
 
-  pub bad-stays : follows st n c v a p u ≡ false → store_verdict new ≡ Refused 50 (9 * n)
+  pub bad-stays : follows st n c v a p u ≡ false → store_verdict new ≡ Err (fault_at 50 (9 * n))
   unfolding store_verdict sound need all_zero
   bad-stays f =
       let r = new-run ∙ run-stop (good new) (length new - n) n (new-good ∙ f) in
@@ -310,13 +309,13 @@ module _ (st : List ℕ) (c v a p u : ℕ) (few : c < 65536) (low : v < 65536) w
         new-run ∙ run_on (good new) (length new - n) n (omega (arith, new-long)) (new-good ∙ f)
         ∙ run-stop (good new) (length new - n - 1) (n + 1) (zero-none new (n + 1) new-zero)
 
-    pub new-passes : store_verdict new ≡ Accepted
+    pub new-passes : store_verdict new ≡ Ok tt
     new-passes = sym (passes new (n + 1) (sym new-more) new-zero)
 
     next : n + 1 ≡ suc n
     next = omega arith
 
-    pub new-governs : setting_of new c ≡ Ignores (ignoring a p u)
+    pub new-governs : setting_of new c ≡ Ok (ignoring a p u)
     unfolding last_of ignored_by
     new-governs = sym (governs new (n + 1) (sym new-more) new-zero c)
         ∙ rw (next, eq-eqb _ _ new-customer, new-absent, new-pads, new-unused)
@@ -327,10 +326,10 @@ module _ (st : List ℕ) (c v a p u : ℕ) (few : c < 65536) (low : v < 65536) w
     new_others d h =
         let q : newest new d (n + 1) ≡ newest st d n = newest-miss new d n (λ e. h (sym e ∙ new-customer)) ∙ sym (newest-same st new n new-agrees d n (omega arith)) in
         sym (governs new (n + 1) (sym new-more) new-zero d)
-        ∙ ap Ignores (ap (ignored_by new) q ∙ sym (by-same st new n new-agrees (newest st d n) (last-few (λ i. eqb (customer_of st i) d) n)))
+        ∙ ap Ok (ap (ignored_by new) q ∙ sym (by-same st new n new-agrees (newest st d n) (last-few (λ i. eqb (customer_of st i) d) n)))
         ∙ governs st n refl z d
 
-    pub new-readable : setting_at new c v ≡ Ignores (ignoring a p u)
+    pub new-readable : setting_at new c v ≡ Ok (ignoring a p u)
     unfolding last_of version_by
     new-readable = sym (has-version new (n + 1) (sym new-more) new-zero c v)
         ∙ rw (next, eq-eqb _ _ new-customer, eq-eqb _ _ new-version, new-absent, new-pads, new-unused)

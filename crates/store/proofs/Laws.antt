@@ -1,4 +1,5 @@
 -- The store's definitions, each way through them.
+use Rattle.std.proofs.Common.{Ok, Err}
 use Prim.Native.Nat.{ℕ, zero, suc, ◌+◌, ◌-◌, ◌*◌, ◌%◌, ◌<◌, ◌≤◌}
 use mathlib.Core.Path.{◌≡◌, refl, sym, ap, ◌∙◌}
 use mathlib.Core.Bool.{Bool, true, false, cond, ◌&&◌, and_assoc}
@@ -11,9 +12,7 @@ use lib.Dec.{leb, ltb, eqb}
 use borrow.Author.Tests.{le-leb, lt-leb, ltb-true, ltb-false, ne_eqb, eqb-true, eqb-false}
 use Rattle.wire.specs.Bytes.{part, splice, bytes_of, same, all_zero}
 use Rattle.wire.proofs.Laws.{splice-cons, splice-nil, splice-append}
-use Rattle.schema.specs.Faults.{need}
-use Rattle.schema.specs.declared.Verdict.TheVariants.{Accepted, Refused}
-use Rattle.settings.specs.declared.Setting.TheVariants.{Ignores, Refused as Unknown}
+use Rattle.schema.specs.Faults.{fault_at, need}
 use Rattle.settings.specs.Store.{strict, CS, customer_of, version_of, flag_of, ignored_of, flags_ok, last_of, newest, versioned, above, follows, stands, good, run, records, sound, store_verdict, ignored_by, governing, setting_of, version_by, setting_at, record_of, add_verdict, store_after}
 use Rattle.store.specs.Check.{standing, rising_from, rising}
 
@@ -239,11 +238,11 @@ module _ (st : List ℕ) where
   ignored-some zero h = absurd (h refl)
   ignored-some (suc k) h = unfold ignored_by in let q : suc k - 1 ≡ k = omega arith in rw q
 
-  pub version-none : (k : ℕ) → k ≡ 0 → Unknown 59 0 ≡ version_by st k
+  pub version-none : (k : ℕ) → k ≡ 0 → Err (fault_at 59 0) ≡ version_by st k
   unfolding version_by
   version-none k e = rw e
 
-  pub version-some : (k : ℕ) → (k ≡ 0 → ⊥) → Ignores (ignored_of st (k - 1)) ≡ version_by st k
+  pub version-some : (k : ℕ) → (k ≡ 0 → ⊥) → Ok (ignored_of st (k - 1)) ≡ version_by st k
   version-some zero h = absurd (h refl)
   version-some (suc k) h = unfold version_by in let q : suc k - 1 ≡ k = omega arith in rw q
 
@@ -280,11 +279,11 @@ module _ (st : List ℕ) (n : ℕ) (e : n ≡ records st) where
   is-sound = rw e
 
   module _ (s : all_zero (drop (9 * n) st) ≡ true) where
-    pub passes : Accepted ≡ store_verdict st
+    pub passes : Ok tt ≡ store_verdict st
     unfolding store_verdict need
     passes = rw (sym is-sound ∙ s)
 
-    pub governs : (c : ℕ) → Ignores (ignored_by st (newest st c n)) ≡ setting_of st c
+    pub governs : (c : ℕ) → Ok (ignored_by st (newest st c n)) ≡ setting_of st c
     unfolding setting_of governing need
     governs c = rw (sym is-sound ∙ s, e)
 
@@ -293,15 +292,15 @@ module _ (st : List ℕ) (n : ℕ) (e : n ≡ records st) where
     has-version c v = rw (sym is-sound ∙ s, e)
 
   module _ (s : all_zero (drop (9 * n) st) ≡ false) where
-    pub refused : Refused 50 (9 * n) ≡ store_verdict st
+    pub refused : Err (fault_at 50 (9 * n)) ≡ store_verdict st
     unfolding store_verdict need
     refused = rw (sym is-sound ∙ s, e)
 
-    pub refused-setting : (c : ℕ) → Unknown 50 (9 * n) ≡ setting_of st c
+    pub refused-setting : (c : ℕ) → Err (fault_at 50 (9 * n)) ≡ setting_of st c
     unfolding setting_of need
     refused-setting c = rw (sym is-sound ∙ s, e)
 
-    pub refused-version : (c v : ℕ) → Unknown 50 (9 * n) ≡ setting_at st c v
+    pub refused-version : (c v : ℕ) → Err (fault_at 50 (9 * n)) ≡ setting_at st c v
     unfolding setting_at need
     refused-version c v = rw (sym is-sound ∙ s, e)
 
@@ -320,30 +319,30 @@ module _ (st : List ℕ) (n c v a p u : ℕ) (z : Bool) (e : z ≡ true) where
   follows-above f = rw (e, f)
 
 module _ (st : List ℕ) (c v a p u : ℕ) where
-  pub stays : (x q : ℕ) → add_verdict st c v a p u ≡ Refused x q → st ≡ store_after st c v a p u
+  pub stays : (x q : ℕ) → add_verdict st c v a p u ≡ Err (fault_at x q) → st ≡ store_after st c v a p u
   unfolding store_after
   stays x q r = rw r
 
-  pub joins : add_verdict st c v a p u ≡ Accepted → splice 9 (9 * records st) (record_of c v a p u) st ≡ store_after st c v a p u
+  pub joins : add_verdict st c v a p u ≡ Ok tt → splice 9 (9 * records st) (record_of c v a p u) st ≡ store_after st c v a p u
   unfolding store_after
   joins r = rw r
 
   module _ (n : ℕ) (e : n ≡ records st) where
-    add_is : add_verdict st c v a p u ≡ need (all_zero (drop (9 * n) st) && follows st n c v a p u) (Refused 50 (9 * n)) (need (leb (9 * n + 9) (length st)) (Refused 51 0) Accepted)
+    add_is : add_verdict st c v a p u ≡ need (all_zero (drop (9 * n) st) && follows st n c v a p u) (Err (fault_at 50 (9 * n))) (need (leb (9 * n + 9) (length st)) (Err (fault_at 51 0)) (Ok tt))
     unfolding add_verdict sound
     add_is = rw e
 
-    pub add-bad : all_zero (drop (9 * n) st) && follows st n c v a p u ≡ false → (Refused 50 (9 * n) ≡ add_verdict st c v a p u) × (st ≡ store_after st c v a p u)
+    pub add-bad : all_zero (drop (9 * n) st) && follows st n c v a p u ≡ false → (Err (fault_at 50 (9 * n)) ≡ add_verdict st c v a p u) × (st ≡ store_after st c v a p u)
     unfolding need
-    add-bad f = let r : add_verdict st c v a p u ≡ Refused 50 (9 * n) = add_is ∙ rw f in (sym r, stays _ _ r)
+    add-bad f = let r : add_verdict st c v a p u ≡ Err (fault_at 50 (9 * n)) = add_is ∙ rw f in (sym r, stays _ _ r)
 
     module _ (f : all_zero (drop (9 * n) st) && follows st n c v a p u ≡ true) where
-      pub add-full : length st < 9 * n + 9 → (Refused 51 0 ≡ add_verdict st c v a p u) × (st ≡ store_after st c v a p u)
+      pub add-full : length st < 9 * n + 9 → (Err (fault_at 51 0) ≡ add_verdict st c v a p u) × (st ≡ store_after st c v a p u)
       unfolding need
-      add-full h = let r : add_verdict st c v a p u ≡ Refused 51 0 = add_is ∙ rw (f, lt-leb (9 * n + 9) (length st) h) in (sym r, stays _ _ r)
+      add-full h = let r : add_verdict st c v a p u ≡ Err (fault_at 51 0) = add_is ∙ rw (f, lt-leb (9 * n + 9) (length st) h) in (sym r, stays _ _ r)
 
-      pub add_done : 9 * n + 9 ≤ length st → (Accepted ≡ add_verdict st c v a p u) × (splice 9 (9 * n) (record_of c v a p u) st ≡ store_after st c v a p u)
+      pub add_done : 9 * n + 9 ≤ length st → (Ok tt ≡ add_verdict st c v a p u) × (splice 9 (9 * n) (record_of c v a p u) st ≡ store_after st c v a p u)
       unfolding need
       add_done h =
-          let r : add_verdict st c v a p u ≡ Accepted = add_is ∙ rw (f, le-leb (9 * n + 9) (length st) h) in
+          let r : add_verdict st c v a p u ≡ Ok _ = add_is ∙ rw (f, le-leb (9 * n + 9) (length st) h) in
           (sym r, ap (λ (m : ℕ). splice 9 (9 * m) (record_of c v a p u) st) e ∙ joins r)

@@ -3,18 +3,19 @@
 // A record is named by its number, from 0; one that may be missing by its number plus 1, and 0 says that there is none.
 #![tactic(auto)]
 
-ghost use Rattle.std.specs.Prelude.{◌≡◌, true, ◌&&◌, [], ◌∷◌, ℕ, ◌+◌, ◌*◌, ◌≤◌, ◌<◌, ◌^◌, length, get_or, drop, eqb};
+ghost use Rattle.std.specs.Prelude.{Err, ◌≡◌, true, ◌&&◌, [], ◌∷◌, ℕ, ◌+◌, ◌*◌, ◌≤◌, ◌<◌, ◌^◌, length, get_or, drop, eqb};
 ghost use Rattle.wire.specs.Bytes.{splice, all_zero};
+ghost use Rattle.schema.specs.Faults.{fault_at};
 ghost use Rattle.settings.specs.Store.{customer_of, version_of, flags_ok, newest, versioned, above, follows, run, records, ignored_of, ignored_by, version_by, record_of, store_verdict, setting_of, setting_at, add_verdict, store_after};
 ghost use Rattle.store.specs.Check.{standing, rising_from, rising};
 
-use schema::Verdict;
-use settings::{Ignored, Setting};
+use schema::Fault;
+use settings::Ignored;
 
 const MARK: [u8; 2] = *b"CS";
 
 // Whether a store passes.
-pub fn check_store(store: &[u8]) -> Verdict
+pub fn check_store(store: &[u8]) -> Result<(), Fault>
     ensures { result ≡ store_verdict store.now }
 {
     let n = count_records(store);
@@ -25,7 +26,7 @@ pub fn check_store(store: &[u8]) -> Verdict
 }
 
 // What governs a customer's messages: its newest version.
-pub fn find_settings(store: &[u8], customer: u16) -> Setting
+pub fn find_settings(store: &[u8], customer: u16) -> Result<Ignored, Fault>
     ensures { result ≡ setting_of store.now customer }
 {
     let n = count_records(store);
@@ -39,7 +40,7 @@ pub fn find_settings(store: &[u8], customer: u16) -> Setting
 }
 
 // One version of a customer's settings.
-pub fn read_settings(store: &[u8], customer: u16, version: u16) -> Setting
+pub fn read_settings(store: &[u8], customer: u16, version: u16) -> Result<Ignored, Fault>
     ensures { result ≡ setting_at store.now customer version }
 {
     let n = count_records(store);
@@ -58,7 +59,7 @@ pub fn add_settings(
     absent: u8,
     pads: u8,
     unused: u8,
-) -> Verdict
+) -> Result<(), Fault>
     ensures value { result ≡ add_verdict store.old customer version absent pads unused }
     ensures store_after { store.new ≡ store_after store.old customer version absent pads unused }
 {
@@ -78,9 +79,9 @@ pub fn add_settings(
 
 // The store is at fault behind its good records, or would be.
 
-fn damaged(n: usize) -> Verdict
+fn damaged(n: usize) -> Result<(), Fault>
     requires { 9 * n < 2 ^ 64 }
-    ensures { result ≡ Verdict.Refused 50 (9 * n) }
+    ensures { result ≡ Err (fault_at 50 (9 * n)) }
 {
     Verdict::Refused {
         number: 50,
@@ -88,9 +89,9 @@ fn damaged(n: usize) -> Verdict
     }
 }
 
-fn unknown(records: usize) -> Setting
+fn unknown(records: usize) -> Result<Ignored, Fault>
     requires { 9 * records < 2 ^ 64 }
-    ensures { result ≡ Setting.Refused 50 (9 * records) }
+    ensures { result ≡ Err (fault_at 50 (9 * records)) }
 {
     Setting::Refused {
         number: 50,
@@ -309,7 +310,7 @@ fn ignored_by(store: &[u8], number: usize) -> Ignored
     ignored_of(store, number - 1)
 }
 
-fn version_by(store: &[u8], number: usize) -> Setting
+fn version_by(store: &[u8], number: usize) -> Result<Ignored, Fault>
     requires { 9 * number ≤ length store.now }
     ensures { result ≡ version_by store.now number }
 {

@@ -1,4 +1,5 @@
 -- An accepted table's schema, for the crates above to cite: `accepted` says what a verdict gives.
+use Rattle.std.proofs.Common.{Ok}
 use mathlib.Core.Path.{◌≡◌, refl, sym, ◌∙◌}
 use mathlib.Core.Bool.{Bool, true, false, not, cond, ◌&&◌}
 use mathlib.Core.List.{List, [], ◌∷◌}
@@ -7,7 +8,6 @@ use native.Mathlib.Omega.{arith}
 use lib.ListN.{length, take, drop}
 use lib.Dec.{leb, ltb, eqb}
 use borrow.Author.Tests.{eqb-true, eqb-false, ltb-true, ltb-false, eq-eqb, lt-ltb, not-true}
-use Rattle.schema.specs.declared.Verdict.TheVariants.{Accepted}
 use Rattle.schema.specs.Schema.{Group, find, known, super_of, width, shallow}
 use Rattle.schema.specs.Symbols.{rank}
 use Rattle.schema.specs.Table.{SY, symbol_value, record_verdict, marked, group_marked, id_flag, type_id, group_at, groups_from, enums_from, record_count, enums, schema, places, shape_verdict, group_verdict, records_from, records_verdict, in_bounds, widths_verdict, table_verdict}
@@ -73,7 +73,7 @@ known_in gs g n id l x = lt-ltb _ _ (found_in gs g n id l x)
 
 module _ (es : List (List ℕ)) (ne : ℕ) (gs : List Group) where
   -- a group's id is none of those before
-  fresh : {n e g o : ℕ} {s : Bool} {t : List ℕ} → Formed n e g o s t → (low p : ℕ) → records_from ne gs n g low p t ≡ Accepted → drop g gs ≡ groups_from es n t
+  fresh : {n e g o : ℕ} {s : Bool} {t : List ℕ} → Formed n e g o s t → (low p : ℕ) → records_from ne gs n g low p t ≡ Ok tt → drop g gs ≡ groups_from es n t
       → (k id : ℕ) → g ≤ k → Names gs k id → known (take k gs) id ≡ false
   unfolding records_from groups_from
   fresh {g = g} (end z) low p h d k id l x = absurd (past gs g k l d x.at)
@@ -90,7 +90,7 @@ module _ (es : List (List ℕ)) (ne : ℕ) (gs : List Group) where
   fresh {t = t} (enum _ _ m _ _ f) low p h d k id l x = let n = enum-no-group t m in fresh f _ _ (rw n at (also-accepted _ _ h).1) (rw n at d) k id l x
   fresh {n = suc n} {g = g} {t = t} (group _ m _ _ f) low p h d k id l x = go (eqb k g) refl (λ q. fresh f _ _ (rw m at v.1) (drop-next gs _ _ g all) k id q x)
     where
-      v : (record_verdict ne gs g low p t ≡ Accepted) × (records_from ne gs n (cond (group_marked t) (g + 1) g) (cond (marked SY t) (rank (symbol_value t) + 1) 0) (p + 16) (drop 16 t) ≡ Accepted)
+      v : (record_verdict ne gs g low p t ≡ Ok tt) × (records_from ne gs n (cond (group_marked t) (g + 1) g) (cond (marked SY t) (rank (symbol_value t) + 1) 0) (p + 16) (drop 16 t) ≡ Ok tt)
       v = also-accepted _ _ h
 
       all : drop g gs ≡ group_at es t ∷ groups_from es n (drop 16 t)
@@ -100,7 +100,7 @@ module _ (es : List (List ℕ)) (ne : ℕ) (gs : List Group) where
       free true b e q = not-true b q
       free false b e q = absurd (let z : ◌≡◌ {A = ℕ} 0 1 = cc in omega arith)
 
-      here : group_verdict gs g p t ≡ Accepted → Names gs g id → known (take g gs) id ≡ false
+      here : group_verdict gs g p t ≡ Ok tt → Names gs g id → known (take g gs) id ≡ false
       here e y = unfold group_verdict group_at in
           let z : y.it ≡ group_at es t = let a = y.at in let b = all in cc in
           let w = (need-accepted _ _ _ _ (need-accepted _ _ _ _ (need-accepted _ _ _ _ e).1).1).0 in
@@ -125,11 +125,11 @@ pub record Sane (t : List ℕ) : Type 0 where
   pub fresh : (g id : ℕ) → Names (schema t) g id → known (take g (schema t)) id ≡ false
   pub unique : (g k id : ℕ) → Names (schema t) g id → Names (schema t) k id → g ≡ k
 
-new-id : (t : List ℕ) → Formed (record_count t) 0 0 0 false t → records_verdict t ≡ Accepted → (k id : ℕ) → Names (schema t) k id → known (take k (schema t)) id ≡ false
+new-id : (t : List ℕ) → Formed (record_count t) 0 0 0 false t → records_verdict t ≡ Ok tt → (k id : ℕ) → Names (schema t) k id → known (take k (schema t)) id ≡ false
 unfolding records_verdict schema
 new-id t form records k id x = fresh (enums t) (length (enums t)) (schema t) form 0 0 records refl k id (omega arith) x
 
-pub accepted : (t : List ℕ) → table_verdict t ≡ Accepted → Sane t
+pub accepted : (t : List ℕ) → table_verdict t ≡ Ok tt → Sane t
 accepted t e = record {
   shallows = λ g. shallows g (ltb g (length (schema t))) refl;
   sound = schema-sound t shape records;
@@ -144,10 +144,10 @@ accepted t e = record {
     all : Passed t
     all = passed t e
 
-    shape : shape_verdict t ≡ Accepted
+    shape : shape_verdict t ≡ Ok tt
     shape = all.shape
 
-    records : records_verdict t ≡ Accepted
+    records : records_verdict t ≡ Ok tt
     records = all.records
 
     form : Formed (record_count t) 0 0 0 false t

@@ -1,5 +1,6 @@
 -- What every accepted table gives: its enumerations are in order, so request 4's theorems hold of them, its groups begin with those above them, and
 -- what they store is their width.
+use Rattle.std.proofs.Common.{Ok}
 use mathlib.Core.Path.{◌≡◌, refl, sym, ap, ◌∙◌}
 use mathlib.Core.Bool.{Bool, true, false, ◌||◌, ◌&&◌}
 use mathlib.Core.List.{List, [], ◌++◌, append_assoc, append-nil}
@@ -9,7 +10,6 @@ use lib.ListN.{length, length-append, get_or-append}
 use lib.Seq.{take-append-le}
 use lib.Dec.{ltb, eqb}
 use borrow.Author.Tests.{eqb-true, ltb-true}
-use Rattle.schema.specs.declared.Verdict.TheVariants.{Accepted}
 use Rattle.schema.specs.Schema.{Field, Group, fields_width, fields_of, super_of, under}
 use Rattle.schema.specs.Table.{widths_verdict, table_verdict}
 use Rattle.schema.proofs.Symbols.{nine}
@@ -49,7 +49,7 @@ module _ (gs : List Group) (super : BeginsSuper gs) where
   pub inherits-all : Inherits gs
   inherits-all = record { super = super; above = λ a g. above g a g; field = λ a g n h. same-field a g n (above g a g h) }
 
-stored-widths : (t : List ℕ) → table_verdict t ≡ Accepted → StoredWidths t
+stored-widths : (t : List ℕ) → table_verdict t ≡ Ok tt → StoredWidths t
 stored-widths t h =
     let p = passed t h in
     let m = all-marked t p.shape in

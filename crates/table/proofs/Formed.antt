@@ -1,4 +1,5 @@
 -- The shape of a table that passed 31, what 32 to 34 leave of its schema, its index, and the phases in a row.
+use Rattle.std.proofs.Common.{Ok, Err}
 use mathlib.Core.Path.{◌≡◌, refl, sym, ap, ◌∙◌}
 use mathlib.Core.Bool.{Bool, true, false, cond, ◌&&◌, ◌||◌}
 use mathlib.Core.List.{List, [], ◌∷◌}
@@ -8,8 +9,7 @@ use lib.ListN.{length, drop, get_or}
 use lib.Seq.{drop-drop}
 use lib.Dec.{leb, ltb, eqb}
 use borrow.Author.Tests.{eqb-true, eqb-false, ltb-true, ltb-false, leb-true, le-leb}
-use Rattle.schema.specs.declared.Verdict.TheVariants.{Accepted, Refused}
-use Rattle.schema.specs.Faults.{also}
+use Rattle.schema.specs.Faults.{fault_at, also}
 use Rattle.schema.specs.Schema.{Kind, Group, fields_of, super_of}
 use Rattle.schema.specs.Table.{EN, SY, GW, FD, marked, group_marked, symbol_count, super_number, field_count, field_type, field_size, reference, scalar_widths, scalar_width, kind_of, field_at, fields_at, group_at, groups_from, places_from, record_count, enums, schema, places, Due, is_enum, group_mark, is_due, due_after, shape_from, shape_verdict, size_ok, reference_ok, field_verdict, group_verdict, records_from, records_verdict, any_id, id_verdict, widths_verdict, supers_verdict, stored_verdict, table_verdict}
 use Rattle.schema.specs.Symbols.{Ordered}
@@ -34,15 +34,15 @@ pub data Formed : ℕ → ℕ → ℕ → ℕ → Bool → List ℕ → Type 0 w
 abbrev FormedDue : ℕ → Due → List ℕ → Type 0
 FormedDue n d = Formed n d.enumerations d.groups d.owed d.stored
 
-pub formed : (n : ℕ) (d : Due) (p : ℕ) (t : List ℕ) → shape_from n d p t ≡ Accepted → FormedDue n d t
+pub formed : (n : ℕ) (d : Due) (p : ℕ) (t : List ℕ) → shape_from n d p t ≡ Ok tt → FormedDue n d t
 unfolding shape_from
-formed zero d p t h = end (eqb-true d.owed 0 (need-accepted (eqb d.owed 0) 31 p Accepted h).0)
+formed zero d p t h = end (eqb-true d.owed 0 (need-accepted (eqb d.owed 0) 31 p (Ok tt) h).0)
 formed (suc n) d p t h =
     let a = need-accepted (is_due d t) 31 p (shape_from n (due_after d t) (p + 16) (drop 16 t)) h in
     go (λ d' q. formed n d' (p + 16) (drop 16 t) q) a.0 a.1 (ltb 0 d.owed) refl
   where
-    go : ((d' : Due) → shape_from n d' (p + 16) (drop 16 t) ≡ Accepted → FormedDue n d' (drop 16 t)) → is_due d t ≡ true
-        → shape_from n (due_after d t) (p + 16) (drop 16 t) ≡ Accepted → (c : Bool) → ltb 0 d.owed ≡ c → FormedDue (suc n) d t
+    go : ((d' : Due) → shape_from n d' (p + 16) (drop 16 t) ≡ Ok tt → FormedDue n d' (drop 16 t)) → is_due d t ≡ true
+        → shape_from n (due_after d t) (p + 16) (drop 16 t) ≡ Ok tt → (c : Bool) → ltb 0 d.owed ≡ c → FormedDue (suc n) d t
     go ih is r true q = more (eqb d.groups 0) refl
       where
         l : 0 < d.owed
@@ -95,7 +95,7 @@ one-mark {n = suc n} {g = g} {s = s} {t = t} (group _ m alike _ f) u p at = rw m
         each zero l = rw (own, ← at) (own-mark t m)
         each (suc i) l = rest i (omega arith)
 
-pub all-marked : (t : List ℕ) → shape_verdict t ≡ Accepted → (b : Bool) × ((g : ℕ) → g < length (places t) → marked (group_mark b) (drop (get_or (places t) g 0) t) ≡ true)
+pub all-marked : (t : List ℕ) → shape_verdict t ≡ Ok tt → (b : Bool) × ((g : ℕ) → g < length (places t) → marked (group_mark b) (drop (get_or (places t) g 0) t) ≡ true)
 unfolding shape_verdict places
 all-marked t s = let r = one-mark (formed (record_count t) _ 0 t s) t 0 refl in (r.0, r.2)
 
@@ -147,7 +147,7 @@ module _ (ne ng own : ℕ) (es : List (List ℕ)) (type size ref : ℕ) (z : siz
       (λ _. pick (eqb type 19) _ _ fixed (λ _. pick (eqb type 20) _ _ (λ _. refl)
       (λ _. pick (eqb type 21) _ _ lower (λ _. pick (eqb type 22) _ _ among (λ _. le-leb 0 ng (omega arith))))))))))
 
-field-sound : (es : List (List ℕ)) (ne ng own p : ℕ) (t : List ℕ) → field_verdict ne ng own p t ≡ Accepted → sound_kind ng own (field_at es t).kind ≡ true
+field-sound : (es : List (List ℕ)) (ne ng own p : ℕ) (t : List ℕ) → field_verdict ne ng own p t ≡ Ok tt → sound_kind ng own (field_at es t).kind ≡ true
 unfolding field_verdict field_at
 field-sound es ne ng own p t e =
     let a = (need-accepted _ _ _ _ (need-accepted _ _ _ _ e).1).0 in
@@ -155,7 +155,7 @@ field-sound es ne ng own p t e =
     let c = and_both (size_ok (field_type t) (field_size t)) (reference_ok ne ng own (field_type t) (reference t)) b in
     kind-sound ne ng own es (field_type t) (field_size t) (reference t) c.0 c.1
 
-super-low : (gs : List Group) (own p : ℕ) (t : List ℕ) → group_verdict gs own p t ≡ Accepted → super_number t ≤ own
+super-low : (gs : List Group) (own p : ℕ) (t : List ℕ) → group_verdict gs own p t ≡ Ok tt → super_number t ≤ own
 unfolding group_verdict
 super-low gs own p t e = leb-true (super_number t) own (need-accepted _ _ _ _ (need-accepted _ _ _ _ e).1).0
 
@@ -166,7 +166,7 @@ sound_from ng own [] = true
 sound_from ng own (x ∷ gs) = (sound_fields ng own x.fields && leb x.super own) && sound_from ng (own + 1) gs
 
 module _ (es : List (List ℕ)) (ne : ℕ) (gs : List Group) where
-  sounds : {n e g o : ℕ} {s : Bool} {t : List ℕ} → Formed n e g o s t → (low p : ℕ) → records_from ne gs n g low p t ≡ Accepted
+  sounds : {n e g o : ℕ} {s : Bool} {t : List ℕ} → Formed n e g o s t → (low p : ℕ) → records_from ne gs n g low p t ≡ Ok tt
       → (sound_from (length gs) g (groups_from es n t) ≡ true) × ((g ≡ 0 → ⊥) → sound_fields (length gs) (g - 1) (fields_at es o t) ≡ true)
   unfolding records_from groups_from fields_at sound_from sound_fields group_at
   sounds (end z) low p h = (refl, λ _. rw z)
@@ -206,7 +206,7 @@ from-sound ng own (x ∷ gs) e (suc g) =
     let z : own + 1 + g ≡ own + suc g = omega arith in
     (rw z at r.0, omega (arith, r.1))
 
-module _ (t : List ℕ) (s : shape_verdict t ≡ Accepted) (r : records_verdict t ≡ Accepted) where
+module _ (t : List ℕ) (s : shape_verdict t ≡ Ok tt) (r : records_verdict t ≡ Ok tt) where
   all_sound : sound_from (length (schema t)) 0 (schema t) ≡ true
   unfolding shape_verdict records_verdict schema
   all_sound = (sounds (enums t) (length (enums t)) (schema t) (formed (record_count t) _ 0 t s) 0 0 r).0
@@ -220,7 +220,7 @@ module _ (t : List ℕ) (s : shape_verdict t ≡ Accepted) (r : records_verdict 
 -- THE INDEX
 
 pub layout_of : (t k : List ℕ) → Placing t k → Sized t k → Whole t → ((g : ℕ) → super_of (schema t) g ≤ g) → ((e : ℕ) → Ordered (get_or (enums t) e []))
-    → stored_verdict t ≡ Accepted → Layout t k
+    → stored_verdict t ≡ Ok tt → Layout t k
 layout_of t k p z w low ordered own = record {
   long = p.long;
   small = w.small;
@@ -249,22 +249,22 @@ module _ (t : List ℕ) where
       let a = and_both (leb (length t) 65536) (eqb (length t % 16) 0) (and_both (ltb 0 (length t)) _ e).1 in
       record { whole = omega (arith, eqb-true (length t % 16) 0 a.1); small = leb-true (length t) 65536 a.0 }
 
-  pub after-30 : sized ≡ false → Refused 30 0 ≡ table_verdict t
+  pub after-30 : sized ≡ false → Err (fault_at 30 0) ≡ table_verdict t
   unfolding table_verdict
   after-30 e = sym (need-no _ _ _ e)
 
   module _ (z : sized ≡ true) where
-    pub after-31 : (n p : ℕ) → shape_verdict t ≡ Refused n p → Refused n p ≡ table_verdict t
+    pub after-31 : (n p : ℕ) → shape_verdict t ≡ Err (fault_at n p) → Err (fault_at n p) ≡ table_verdict t
     unfolding table_verdict
     after-31 n p e = sym (need-yes _ _ _ z ∙ also-stop _ _ n p e)
 
-    module _ (s : shape_verdict t ≡ Accepted) where
-      pub after-34 : (n p : ℕ) → records_verdict t ≡ Refused n p → Refused n p ≡ table_verdict t
+    module _ (s : shape_verdict t ≡ Ok tt) where
+      pub after-34 : (n p : ℕ) → records_verdict t ≡ Err (fault_at n p) → Err (fault_at n p) ≡ table_verdict t
       unfolding table_verdict
       after-34 n p e = sym (need-yes _ _ _ z ∙ also-pass _ _ s ∙ also-stop _ _ n p e)
 
-      module _ (r : records_verdict t ≡ Accepted) where
-        pub after-ids : any_id (schema t) ≡ false → Refused 34 (length t) ≡ table_verdict t
+      module _ (r : records_verdict t ≡ Ok tt) where
+        pub after-ids : any_id (schema t) ≡ false → Err (fault_at 34 (length t)) ≡ table_verdict t
         unfolding table_verdict id_verdict
         after-ids e = sym (need-yes _ _ _ z ∙ also-pass _ _ s ∙ also-pass _ _ r ∙ also-stop _ _ 34 (length t) (need-no _ _ _ e))
 
@@ -274,13 +274,13 @@ module _ (t : List ℕ) where
 
 -- an accepted table passed each of them
 pub record Passed (t : List ℕ) : Type 0 where
-  pub shape : shape_verdict t ≡ Accepted
-  pub records : records_verdict t ≡ Accepted
-  pub widths : widths_verdict t ≡ Accepted
-  pub supers : supers_verdict t ≡ Accepted
-  pub stored : stored_verdict t ≡ Accepted
+  pub shape : shape_verdict t ≡ Ok tt
+  pub records : records_verdict t ≡ Ok tt
+  pub widths : widths_verdict t ≡ Ok tt
+  pub supers : supers_verdict t ≡ Ok tt
+  pub stored : stored_verdict t ≡ Ok tt
 
-pub passed : (t : List ℕ) → table_verdict t ≡ Accepted → Passed t
+pub passed : (t : List ℕ) → table_verdict t ≡ Ok tt → Passed t
 unfolding table_verdict
 passed t e =
     let a = also-accepted _ _ (need-accepted _ _ _ _ e).1 in

@@ -1,13 +1,12 @@
 -- 35, 36 and 37 group by group: a loop over the groups, and what each group has where none is refused.
+use Rattle.std.proofs.Common.{Ok, Err}
 use mathlib.Core.Path.{◌≡◌, sym, ap, ◌∙◌}
 use mathlib.Core.Bool.{Bool, true, false}
 use mathlib.Core.List.{List, [], ◌∷◌}
 use Prim.Native.Nat.{ℕ, zero, suc, ◌+◌, ◌<◌, ◌≤◌}
 use native.Mathlib.Omega.{arith}
 use lib.ListN.{length, drop, get_or}
-use Rattle.schema.specs.declared.Verdict.{Verdict}
-use Rattle.schema.specs.declared.Verdict.TheVariants.{Accepted, Refused}
-use Rattle.schema.specs.Faults.{need}
+use Rattle.schema.specs.Faults.{Verdict, fault_at, need}
 use Rattle.schema.specs.Table.{schema, places, each_group}
 use Rattle.schema.specs.Layout.{group_place}
 use Rattle.table.specs.Index.{Placing}
@@ -15,7 +14,7 @@ use Rattle.table.proofs.Laws.{need-accepted}
 
 -- the loop stands at group number g of all, which the index k places
 module _ (n : ℕ) (test : ℕ → ℕ → Bool) (t k : List ℕ) (P : Placing t k) (all : ℕ) (is : all ≡ length (schema t)) (v : Verdict) (g : ℕ) (e : v ≡ each_group n test g (drop g (places t))) where
-  pub each-stop : g < all → test g (group_place k g) ≡ false → Refused n (group_place k g) ≡ v
+  pub each-stop : g < all → test g (group_place k g) ≡ false → Err (fault_at n (group_place k g)) ≡ v
   unfolding each_group need
   each-stop l h = sym (e ∙ rw (P.start g (omega arith), h))
 
@@ -23,11 +22,11 @@ module _ (n : ℕ) (test : ℕ → ℕ → Bool) (t k : List ℕ) (P : Placing t
   unfolding each_group need
   each_turn l h = e ∙ rw (P.start g (omega arith), h)
 
-  pub each-end : g ≤ all → all ≤ g → Accepted ≡ v
+  pub each-end : g ≤ all → all ≤ g → Ok tt ≡ v
   unfolding each_group
   each-end a b = let z : g ≡ length (schema t) = omega arith in sym (e ∙ rw (ap (λ (m : ℕ). drop m (places t)) z ∙ P.last))
 
-pub each-passed : (n : ℕ) (test : ℕ → ℕ → Bool) (g : ℕ) (ps : List ℕ) → each_group n test g ps ≡ Accepted → (i : ℕ) → i < length ps → test (g + i) (get_or ps i 0) ≡ true
+pub each-passed : (n : ℕ) (test : ℕ → ℕ → Bool) (g : ℕ) (ps : List ℕ) → each_group n test g ps ≡ Ok tt → (i : ℕ) → i < length ps → test (g + i) (get_or ps i 0) ≡ true
 unfolding each_group
 each-passed n test g [] e i l = absurd (omega arith)
 each-passed n test g (p ∷ ps) e zero l = let z : g + 0 ≡ g = omega arith in rw z (need-accepted _ _ _ _ e).0

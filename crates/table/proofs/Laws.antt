@@ -1,4 +1,5 @@
 -- Tests in a row, and what stands in a record.
+use Rattle.std.proofs.Common.{Ok, Err}
 use mathlib.Core.Path.{◌≡◌, refl, sym, ap, ◌∙◌}
 use mathlib.Core.Bool.{Bool, true, false, not, cond, ◌&&◌, ◌||◌}
 use mathlib.Core.List.{List, [], ◌∷◌, ◌++◌}
@@ -14,9 +15,7 @@ use Rattle.schema.specs.Table.{field_type, field_size, reference, size_ok, refer
 use Rattle.wire.specs.Bytes.{part, le, all_zero}
 use Rattle.wire.proofs.Laws.{part-add}
 use Rattle.schema.proofs.Records.{byte_at, number-at}
-use Rattle.schema.specs.declared.Verdict.{Verdict}
-use Rattle.schema.specs.declared.Verdict.TheVariants.{Accepted, Refused}
-use Rattle.schema.specs.Faults.{need, also}
+use Rattle.schema.specs.Faults.{Verdict, fault_at, need, also}
 
 module _ {X : Type 0} (c : Bool) (fault k : X) where
   pub need-yes : c ≡ true → need c fault k ≡ k
@@ -27,21 +26,21 @@ module _ {X : Type 0} (c : Bool) (fault k : X) where
   unfolding need
   need-no e = rw e
 
-pub need-accepted : (c : Bool) (n p : ℕ) (k : Verdict) → need c (Refused n p) k ≡ Accepted → (c ≡ true) × (k ≡ Accepted)
+pub need-accepted : (c : Bool) (n p : ℕ) (k : Verdict) → need c (Err (fault_at n p)) k ≡ Ok tt → (c ≡ true) × (k ≡ Ok tt)
 unfolding need
 need-accepted true n p k e = (refl, e)
 need-accepted false n p k e = absurd (let z : ◌≡◌ {A = ℕ} 0 1 = cc in omega arith)
 
-pub also-accepted : (v w : Verdict) → also v w ≡ Accepted → (v ≡ Accepted) × (w ≡ Accepted)
+pub also-accepted : (v w : Verdict) → also v w ≡ Ok tt → (v ≡ Ok tt) × (w ≡ Ok tt)
 unfolding also
-also-accepted Accepted w e = (refl, e)
-also-accepted (Refused n p) w e = absurd (let z : ◌≡◌ {A = ℕ} 0 1 = cc in omega arith)
+also-accepted (Ok _) w e = (refl, e)
+also-accepted (Err f) w e = absurd (let z : ◌≡◌ {A = ℕ} 0 1 = cc in omega arith)
 
-pub also-pass : (v w : Verdict) → v ≡ Accepted → also v w ≡ w
+pub also-pass : (v w : Verdict) → v ≡ Ok tt → also v w ≡ w
 unfolding also
 also-pass v w e = rw e
 
-pub also-stop : (v w : Verdict) (n p : ℕ) → v ≡ Refused n p → also v w ≡ Refused n p
+pub also-stop : (v w : Verdict) (n p : ℕ) → v ≡ Err (fault_at n p) → also v w ≡ Err (fault_at n p)
 unfolding also
 also-stop v w n p e = rw e
 
@@ -138,5 +137,5 @@ pub id-test : (gs : List Group) (n id type f : ℕ) (has b : Bool) → n ≤ len
 unfolding known
 id-test gs n id type f has b l h d is e = rw (h, ← d, ← is, length-take-le n gs l, e)
 
-pub never : {n p : ℕ} → Refused n p ≡ Accepted → ⊥
-never e = let z : ◌≡◌ {A = ℕ} 0 1 = cc in omega arith
+pub never : {n p : ℕ} → ◌≡◌ {A = Verdict} (Err (fault_at n p)) (Ok tt) → ⊥
+never e = cc

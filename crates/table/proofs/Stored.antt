@@ -1,4 +1,5 @@
 -- 37: how the check reads it, and what it gives of an accepted table's groups.
+use Rattle.std.proofs.Common.{Ok}
 use mathlib.Core.Path.{◌≡◌}
 use mathlib.Core.Bool.{true, false}
 use mathlib.Core.List.{List}
@@ -7,7 +8,6 @@ use native.Mathlib.Omega.{arith}
 use lib.ListN.{length, drop, get_or}
 use lib.Dec.{eqb}
 use borrow.Author.Tests.{eqb-true}
-use Rattle.schema.specs.declared.Verdict.TheVariants.{Accepted}
 use Rattle.schema.specs.Schema.{width}
 use Rattle.schema.specs.Table.{GW, marked, stored_width, schema, places, stores_own, stored_verdict}
 use Rattle.schema.specs.Layout.{group_place, width_in}
@@ -33,7 +33,7 @@ stored-own : (t : List ℕ) (g p : ℕ) → stores_own t g p ≡ true → marked
 unfolding stores_own
 stored-own t g p e m = eqb-true _ _ (rw m at e)
 
-pub stored-true : (t : List ℕ) → stored_verdict t ≡ Accepted → (g : ℕ) → g < length (places t) → marked GW (drop (get_or (places t) g 0) t) ≡ true
+pub stored-true : (t : List ℕ) → stored_verdict t ≡ Ok tt → (g : ℕ) → g < length (places t) → marked GW (drop (get_or (places t) g 0) t) ≡ true
     → stored_width (drop (get_or (places t) g 0) t) ≡ width (schema t) 5 g
 unfolding stored_verdict
 stored-true t e g l =
@@ -41,6 +41,6 @@ stored-true t e g l =
     stored-own t g (get_or (places t) g 0) (rw z at (each-passed 37 _ 0 (places t) e g l))
 
 -- where the index says
-pub stored_at : (t k : List ℕ) → Placing t k → stored_verdict t ≡ Accepted → (g : ℕ) → g < length (schema t) → marked GW (drop (group_place k g) t) ≡ true
+pub stored_at : (t k : List ℕ) → Placing t k → stored_verdict t ≡ Ok tt → (g : ℕ) → g < length (schema t) → marked GW (drop (group_place k g) t) ≡ true
     → stored_width (drop (group_place k g) t) ≡ width (schema t) 5 g
 stored_at t k P e g l = let s = P.start g l in rw (drop-get_d (places t) _ 0 _ g s) at (stored-true t e g (drop-less (places t) _ _ g s))

@@ -1,4 +1,5 @@
 -- 36: how the check reads it, and what it gives of an accepted table's groups.
+use Rattle.std.proofs.Common.{Ok}
 use mathlib.Core.Path.{◌≡◌, refl, sym, ap, ◌∙◌}
 use mathlib.Core.Bool.{Bool, true, false, cond}
 use mathlib.Core.List.{List, [], ◌∷◌, ◌++◌, map}
@@ -10,7 +11,6 @@ use lib.Dec.{leb}
 use borrow.Author.Tests.{eq-eqb, ne_eqb, lt-leb, le-leb, leb-true}
 use Rattle.wire.specs.Bytes.{part, same}
 use Rattle.wire.proofs.Laws.{part-part, same-eq}
-use Rattle.schema.specs.declared.Verdict.TheVariants.{Accepted}
 use Rattle.schema.specs.Schema.{Field, Group, fields_of, super_of}
 use Rattle.schema.specs.Table.{group_marked, super_number, field_count, field_at, fields_at, group_at, groups_from, places_from, record_count, enums, schema, places, begins_with, inherits, supers_verdict}
 use Rattle.schema.specs.Layout.{group_place}
@@ -115,7 +115,7 @@ has-super [] g h = absurd (omega arith)
 has-super (x ∷ gs) zero h = omega arith
 has-super (x ∷ gs) (suc g) h = omega (arith, has-super gs g h)
 
-module _ (t : List ℕ) (low : (g : ℕ) → super_of (schema t) g ≤ g) (passed : supers_verdict t ≡ Accepted) where
+module _ (t : List ℕ) (low : (g : ℕ) → super_of (schema t) g ≤ g) (passed : supers_verdict t ≡ Ok tt) where
   pub begins-super : BeginsSuper (schema t)
   unfolding supers_verdict group_at
   begins-super g h =

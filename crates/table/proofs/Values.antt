@@ -1,4 +1,5 @@
 -- An accepted table's enumerations are in order.
+use Rattle.std.proofs.Common.{Ok}
 use mathlib.Core.Path.{◌≡◌, sym, ◌∙◌}
 use mathlib.Core.Bool.{Bool}
 use mathlib.Core.List.{List, [], ◌∷◌}
@@ -6,7 +7,6 @@ use Prim.Native.Nat.{ℕ, zero, suc, ◌+◌, ◌-◌, ◌<◌, ◌≤◌}
 use native.Mathlib.Omega.{arith}
 use lib.ListN.{length, drop, get_or, get_or-eq_default}
 use borrow.Author.Tests.{leb-true}
-use Rattle.schema.specs.declared.Verdict.TheVariants.{Accepted}
 use Rattle.schema.specs.Schema.{Group}
 use Rattle.schema.specs.Symbols.{rank, Ordered}
 use Rattle.schema.specs.Table.{symbol_count, symbol_value, values_at, enums_from, record_count, enums, schema, shape_verdict, symbol_verdict, records_from, records_verdict, table_verdict}
@@ -38,7 +38,7 @@ rising-more low v vs h r = record { least = least; rise = rise }
 
 -- THE ENUMERATIONS
 
-symbol-rises : (low p : ℕ) (t : List ℕ) → symbol_verdict low p t ≡ Accepted → low ≤ rank (symbol_value t)
+symbol-rises : (low p : ℕ) (t : List ℕ) → symbol_verdict low p t ≡ Ok tt → low ≤ rank (symbol_value t)
 unfolding symbol_verdict
 symbol-rises low p t e = leb-true low _ (need-accepted _ _ _ _ (need-accepted _ _ _ _ e).1).0
 
@@ -50,7 +50,7 @@ each zero vs es a b = a
 each (suc x) vs es a b = b x
 
 module _ (ne : ℕ) (gs : List Group) where
-  rises : {n e g o : ℕ} {s : Bool} {t : List ℕ} → Formed n e g o s t → (low p : ℕ) → records_from ne gs n g low p t ≡ Accepted
+  rises : {n e g o : ℕ} {s : Bool} {t : List ℕ} → Formed n e g o s t → (low p : ℕ) → records_from ne gs n g low p t ≡ Ok tt
       → ((x : ℕ) → Ordered (get_or (enums_from n t) x [])) × (g ≡ 0 → Rising low (values_at o t))
   unfolding records_from enums_from values_at
   rises (end z) low p h = (λ x. rw (none-at x) (record { few = omega arith; rise = (rising_none 0).rise }), λ _. rw z (rising_none low))
@@ -73,9 +73,9 @@ module _ (ne : ℕ) (gs : List Group) where
       let k : o ≡ 0 = omega arith in
       (λ x. rw (group-no-enum t m) (r.0 x), λ q. rw k (rising_none low))
 
-pub lists-ordered : (t : List ℕ) → shape_verdict t ≡ Accepted → records_verdict t ≡ Accepted → (e : ℕ) → Ordered (get_or (enums t) e [])
+pub lists-ordered : (t : List ℕ) → shape_verdict t ≡ Ok tt → records_verdict t ≡ Ok tt → (e : ℕ) → Ordered (get_or (enums t) e [])
 unfolding shape_verdict records_verdict enums
 lists-ordered t s r e = (rises (length (enums t)) (schema t) (formed (record_count t) _ 0 t s) 0 0 r).0 e
 
-pub accepted-ordered : (t : List ℕ) → table_verdict t ≡ Accepted → (e : ℕ) → Ordered (get_or (enums t) e [])
+pub accepted-ordered : (t : List ℕ) → table_verdict t ≡ Ok tt → (e : ℕ) → Ordered (get_or (enums t) e [])
 accepted-ordered t h = let p = passed t h in lists-ordered t p.shape p.records

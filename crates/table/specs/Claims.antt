@@ -1,6 +1,5 @@
 -- Of every accepted table, what document 02's requests 4, 5 and 8 say of it.
-use Rattle.std.specs.Prelude.{ℕ, ◌-◌, ◌<◌, ◌≡◌, Bool, true, List, [], ◌++◌, length, take, drop, get_or}
-use Rattle.schema.specs.declared.Verdict.TheVariants.{Accepted}
+use Rattle.std.specs.Prelude.{Ok, ℕ, ◌-◌, ◌<◌, ◌≡◌, Bool, true, List, [], ◌++◌, length, take, drop, get_or}
 use Rattle.schema.specs.Schema.{Field, Group, fields_width, fields_of, super_of, width, under}
 use Rattle.schema.specs.Symbols.{Ordered, start, steps}
 use Rattle.schema.specs.Table.{GW, marked, stored_width, enums, schema, places, group_mark, widths_verdict, table_verdict}
@@ -43,9 +42,9 @@ pub record StoredWidths (t : List ℕ) : Type 0 where
   pub own : (g : ℕ) → g < length (schema t) → marked GW (record_of t g) ≡ true → stored_width (record_of t g) ≡ width (schema t) 5 g
 
 pub record AcceptedTables : Type 0 where
-  pub lists : (t : List ℕ) → table_verdict t ≡ Accepted → Lists t
-  pub inherits : (t : List ℕ) → table_verdict t ≡ Accepted → Inherits (schema t)
-  pub widths : (t : List ℕ) → table_verdict t ≡ Accepted → StoredWidths t
+  pub lists : (t : List ℕ) → table_verdict t ≡ Ok tt → Lists t
+  pub inherits : (t : List ℕ) → table_verdict t ≡ Ok tt → Inherits (schema t)
+  pub widths : (t : List ℕ) → table_verdict t ≡ Ok tt → StoredWidths t
 
 -- "35 goes by the true widths": of every table, whatever it stores.
 abbrev pub TrueWidths : Type 0

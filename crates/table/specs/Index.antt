@@ -1,7 +1,6 @@
 -- What the check of a table has put into the index, phase by phase.
-use Rattle.std.specs.Prelude.{◌≡◌, List, [], ◌∷◌, ℕ, ◌+◌, ◌-◌, ◌*◌, ◌<◌, ◌≤◌, length, drop, get_or}
-use Rattle.schema.specs.declared.Verdict.{Verdict}
-use Rattle.schema.specs.declared.Verdict.TheVariants.{Accepted}
+use Rattle.schema.specs.Faults.{Verdict}
+use Rattle.std.specs.Prelude.{Ok, ◌≡◌, List, [], ◌∷◌, ℕ, ◌+◌, ◌-◌, ◌*◌, ◌<◌, ◌≤◌, length, drop, get_or}
 use Rattle.table.specs.declared.Shape.{Shape}
 use Rattle.schema.specs.Table.{Due, due_after, field_count, values_at, group_at, groups_from, enums_from, places_from, record_count, enums, schema, places, table_verdict}
 use Rattle.schema.specs.Layout.{group_place, symbol_place, symbol_total, group_total, enum_total, Placed, Layout}
@@ -50,8 +49,8 @@ pub record Placing (t k : List ℕ) : Type 0 where
 pub record Shaped (v r : Verdict) (t k : List ℕ) : Type 0 where
   pub verdict : r ≡ v
   pub long : length k ≡ 322
-  pub placing : r ≡ Accepted → Placing t k
-  pub blank : r ≡ Accepted → (x : ℕ) → x < 64 → (get_or k (64 + x) 0 ≡ 0) × (get_or k (256 + x) 0 ≡ 0)
+  pub placing : r ≡ Ok tt → Placing t k
+  pub blank : r ≡ Ok tt → (x : ℕ) → x < 64 → (get_or k (64 + x) 0 ≡ 0) × (get_or k (256 + x) 0 ≡ 0)
 
 -- What the record at 16 * i, which is due, does to the state and to the index.
 pub record Taken (t k : List ℕ) (i : ℕ) (s r : Shape) : Type 0 where
@@ -61,4 +60,4 @@ pub record Taken (t k : List ℕ) (i : ℕ) (s r : Shape) : Type 0 where
 -- What the whole check answers.
 pub record Checked (t k : List ℕ) (r : Verdict) : Type 0 where
   pub verdict : r ≡ table_verdict t
-  pub layout : r ≡ Accepted → Layout t k
+  pub layout : r ≡ Ok tt → Layout t k

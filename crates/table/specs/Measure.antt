@@ -1,7 +1,6 @@
 -- A group's width and static depth, as the index has them of the groups that were measured.
-use Rattle.std.specs.Prelude.{◌≡◌, Bool, true, false, cond, ◌&&◌, List, [], ◌∷◌, ℕ, ◌+◌, ◌<◌, ◌≤◌, length, get_or, set, leb, ltb, eqb}
-use Rattle.schema.specs.declared.Verdict.{Verdict}
-use Rattle.schema.specs.declared.Verdict.TheVariants.{Accepted}
+use Rattle.schema.specs.Faults.{Verdict}
+use Rattle.std.specs.Prelude.{Ok, ◌≡◌, Bool, true, false, cond, ◌&&◌, List, [], ◌∷◌, ℕ, ◌+◌, ◌<◌, ◌≤◌, length, get_or, set, leb, ltb, eqb}
 use Rattle.schema.specs.Schema.{Kind, plain, inline, indirect, static, dynamic, Field, Group, fields_of, width, shallow}
 use Rattle.schema.specs.Table.{schema, in_bounds}
 use Rattle.schema.specs.Layout.{width_in}
@@ -73,5 +72,5 @@ pub record Sized (t k : List ℕ) : Type 0 where
 -- What a check of the groups answers, where the definition says v, and what it leaves in the index.
 pub record Judged (v r : Verdict) (t k : List ℕ) : Type 0 where
   pub verdict : r ≡ v
-  pub placing : r ≡ Accepted → Placing t k
-  pub known : r ≡ Accepted → Sized t k
+  pub placing : r ≡ Ok tt → Placing t k
+  pub known : r ≡ Ok tt → Sized t k

@@ -10,8 +10,9 @@ ghost use Rattle.schema.specs.Faults.{also};
 ghost use Rattle.schema.specs.Layout.{group_place, Placed};
 ghost use Rattle.table.specs.Index.{due_of, Whole, Begun, Placing, Shaped, Taken, Checked};
 ghost use Rattle.table.specs.Measure.{levels, levels_over, with_extent, Sound, Kept, Grown, AllMeasured, Sized, Judged};
-ghost use Rattle.schema.specs.declared.Verdict.TheVariants.{Accepted};
 ghost use Rattle.schema.specs.Schema.{super_of, value_width, field_width};
+
+use schema::Fault;
 
 const EN: [u8; 2] = *b"EN";
 
@@ -132,7 +133,7 @@ fn take_record(table: &[u8], index: &mut [u16], i: usize, shape: Shape) -> Shape
     }
 }
 
-fn check_shape(table: &[u8], index: &mut [u16]) -> schema::Verdict
+fn check_shape(table: &[u8], index: &mut [u16]) -> Result<(), Fault>
     requires { (Whole table.now) × (index.old ≡ replicate 322 0) }
     ensures { Shaped (shape_verdict table.now) result table.now index.new }
 {
@@ -175,7 +176,7 @@ fn ends_zero(table: &[u8], p: usize) -> bool
     wire::read_u64(table, p + 8) == 0
 }
 
-fn check_enum(table: &[u8], p: usize) -> schema::Verdict
+fn check_enum(table: &[u8], p: usize) -> Result<(), Fault>
     requires { p + 16 ≤ length table.now }
     ensures { result ≡ enum_verdict p (drop p table.now) }
 {
@@ -196,7 +197,7 @@ fn symbol_rank(table: &[u8], p: usize) -> usize
     schema::rank(schema::symbol_value(table, p)) as usize
 }
 
-fn check_symbol(table: &[u8], p: usize, low: usize) -> schema::Verdict
+fn check_symbol(table: &[u8], p: usize, low: usize) -> Result<(), Fault>
     requires { p + 16 ≤ length table.now }
     ensures { result ≡ symbol_verdict low p (drop p table.now) }
 {
@@ -225,7 +226,7 @@ fn group_zeros(table: &[u8], p: usize) -> bool
             & (wire::has_mark(table, p, GW) | (wire::read_u16(table, p + 14) == 0)))
 }
 
-fn check_group(table: &[u8], index: &[u16], p: usize, own: usize) -> schema::Verdict
+fn check_group(table: &[u8], index: &[u16], p: usize, own: usize) -> Result<(), Fault>
     requires { (p + 16 ≤ length table.now) × (Placed table.now index.now own) × (own ≤ length (schema table.now)) × (own ≤ 64) × (length index.now ≡ 322) × (length table.now ≤ 65536) }
     ensures { result ≡ group_verdict (schema table.now) own p (drop p table.now) }
 {
@@ -291,7 +292,7 @@ fn check_field(
     enumerations: usize,
     groups: usize,
     own: usize,
-) -> schema::Verdict
+) -> Result<(), Fault>
     requires { p + 16 ≤ length table.now }
     ensures { result ≡ field_verdict enumerations groups own p (drop p table.now) }
 {
@@ -324,7 +325,7 @@ fn last(n: usize) -> usize
 }
 
 // next: how many groups came before; low: the least rank that rises.
-fn check_record(table: &[u8], index: &[u16], p: usize, next: usize, low: usize) -> schema::Verdict
+fn check_record(table: &[u8], index: &[u16], p: usize, next: usize, low: usize) -> Result<(), Fault>
     requires { (p + 16 ≤ length table.now) × (Placing table.now index.now) × (next ≤ length (schema table.now)) × (length table.now ≤ 65536) }
     ensures { result ≡ record_verdict (length (enums table.now)) (schema table.now) next low p (drop p table.now) }
 {
@@ -368,7 +369,7 @@ fn groups_after(table: &[u8], p: usize, next: usize) -> usize
     next
 }
 
-fn check_records(table: &[u8], index: &[u16]) -> schema::Verdict
+fn check_records(table: &[u8], index: &[u16]) -> Result<(), Fault>
     requires { (Whole table.now) × (Placing table.now index.now) }
     ensures { result ≡ records_verdict table.now }
 {
@@ -533,7 +534,7 @@ fn measure_groups(table: &[u8], index: &mut [u16])
     }
 }
 
-fn check_widths(table: &[u8], index: &mut [u16]) -> schema::Verdict
+fn check_widths(table: &[u8], index: &mut [u16]) -> Result<(), Fault>
     requires { (Placing table.now index.old) × (Kept table.now index.old) × (Sound (schema table.now)) }
     ensures { Judged (widths_verdict table.now) result table.now index.new }
 {
@@ -580,7 +581,7 @@ fn inherits(table: &[u8], index: &[u16], g: usize) -> bool
     begins_with(table, p, schema::group_place(index, above - 1))
 }
 
-fn check_supers(table: &[u8], index: &[u16]) -> schema::Verdict
+fn check_supers(table: &[u8], index: &[u16]) -> Result<(), Fault>
     requires { (Placing table.now index.now) × ((g : ℕ) → super_of (schema table.now) g ≤ g) }
     ensures { result ≡ supers_verdict table.now }
 {
@@ -614,7 +615,7 @@ fn stores_own(table: &[u8], index: &[u16], g: usize) -> bool
     stored == width
 }
 
-fn check_stored(table: &[u8], index: &[u16]) -> schema::Verdict
+fn check_stored(table: &[u8], index: &[u16]) -> Result<(), Fault>
     requires { (Placing table.now index.now) × (Sized table.now index.now) }
     ensures { result ≡ stored_verdict table.now }
 {
@@ -633,7 +634,7 @@ fn check_stored(table: &[u8], index: &[u16]) -> schema::Verdict
 }
 
 // 35 of every group, then 36 of every group, then 37.
-fn check_groups(table: &[u8], index: &mut [u16]) -> schema::Verdict
+fn check_groups(table: &[u8], index: &mut [u16]) -> Result<(), Fault>
     requires { (Placing table.now index.old) × (Kept table.now index.old) × (Sound (schema table.now)) × ((g : ℕ) → super_of (schema table.now) g ≤ g) }
     ensures { Judged (also (widths_verdict table.now) (also (supers_verdict table.now) (stored_verdict table.now))) result table.now index.new }
 {
@@ -652,7 +653,7 @@ fn check_groups(table: &[u8], index: &mut [u16]) -> schema::Verdict
 }
 
 // Whether a table is accepted, or its first fault.
-pub fn check_table(table: &[u8]) -> schema::Verdict
+pub fn check_table(table: &[u8]) -> Result<(), Fault>
     ensures { result ≡ table_verdict table.now }
 {
     let mut index = [0u16; 322];
@@ -660,7 +661,7 @@ pub fn check_table(table: &[u8]) -> schema::Verdict
 }
 
 // The same, and an accepted table's index.
-pub fn index_table(table: &[u8], index: &mut [u16]) -> schema::Verdict
+pub fn index_table(table: &[u8], index: &mut [u16]) -> Result<(), Fault>
     requires { index.old ≡ replicate 322 0 }
     ensures { Checked table.now index.new result }
 {

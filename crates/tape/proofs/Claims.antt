@@ -1,4 +1,6 @@
 -- What request 1 asks of the tape holds of every table and tape.
+use Rattle.schema.specs.Faults.{Verdict, fault_at}
+use Rattle.std.proofs.Common.{Ok, Err, Some}
 use Prim.Native.Nat.{ℕ, zero, suc, ◌+◌, ◌<◌, ◌≤◌}
 use mathlib.Core.Path.{◌≡◌, refl, sym, ap, subst, ◌∙◌}
 use mathlib.Core.Bool.{Bool, true, false}
@@ -8,13 +10,9 @@ use lib.ListN.{length, length-append, length-drop, take, drop, take-append-drop}
 use lib.Seq.{take-append_seam, drop-append_seam, take-append-le}
 use Rattle.wire.specs.Bytes.{part, le}
 use Rattle.wire.proofs.Laws.{length_part}
-use Rattle.schema.specs.declared.Verdict.{Verdict}
-use Rattle.schema.specs.declared.Verdict.TheVariants.{Accepted as Passed, Refused as Failed}
 use Rattle.schema.specs.Table.{table_verdict}
 use Rattle.opening.specs.Opening.{Under, message_verdict}
-use Rattle.tape.specs.declared.Answer.{Answer}
-use Rattle.tape.specs.declared.Answer.TheVariants.{Refused}
-use Rattle.tape.specs.Tape.{span_at, whole, answer_of, tape_step, handed, answers_at, joined, Measured, own_answers, tail_answer}
+use Rattle.tape.specs.Tape.{Answer, span_at, whole, answer_of, tape_step, handed, answers_at, joined, Measured, own_answers, tail_answer}
 use Rattle.tape.specs.Claims.{Stands, Stored, TapeClaims}
 use Rattle.tape.proofs.Laws.{cut_short, stands, whole-inside, whole-left, handed-some, step-ended, step-20, step_cut, step-whole, scratch-cut}
 use Rattle.tape.proofs.Whole.{onward, answers-end, answers-on, answers-last, only_end}
@@ -92,26 +90,26 @@ module _ (t : List ℕ) (u : Under) where
   stands-long : (s : List ℕ) (p : ℕ) (b : List ℕ) → Stands s p b → span_at s p ≡ length b
   stands-long s p b d = sym (length_part _ p s (whole-inside s p d.all)) ∙ ap length d.bytes
 
-  passes : (s : List ℕ) (p : ℕ) (b : List ℕ) → Stands s p b → table_verdict t ≡ Passed → (tape_step t s p u).next ≡ p + length b
+  passes : (s : List ℕ) (p : ℕ) (b : List ℕ) → Stands s p b → table_verdict t ≡ Ok tt → (tape_step t s p u).next ≡ p + length b
   passes s p b d e = rw (step-whole t s p u e d.all) (ap (λ n. p + n) (stands-long s p b d))
 
-  answers : (s : List ℕ) (p : ℕ) (b : List ℕ) → Stands s p b → table_verdict t ≡ Passed → (tape_step t s p u).answer ≡ answer_of (message_verdict t b u)
+  answers : (s : List ℕ) (p : ℕ) (b : List ℕ) → Stands s p b → table_verdict t ≡ Ok tt → (tape_step t s p u).answer ≡ answer_of (message_verdict t b u)
   answers s p b d e = rw (step-whole t s p u e d.all) (ap (λ x. answer_of (message_verdict t x u)) d.bytes)
 
   anywhere : (v : Verdict) → table_verdict t ≡ v → (s s' : List ℕ) (p p' : ℕ) (b : List ℕ) → Stands s p b → Stands s' p' b → (tape_step t s p u).answer ≡ (tape_step t s' p' u).answer
-  anywhere Passed e s s' p p' b d d' = answers s p b d e ∙ sym (answers s' p' b d' e)
-  anywhere (Failed n q) e s s' p p' b d d' = rw (step-20 t s p u n q (whole-left s p d.all) (sym e), step-20 t s' p' u n q (whole-left s' p' d'.all) (sym e))
+  anywhere (Ok _) e s s' p p' b d d' = answers s p b d e ∙ sym (answers s' p' b d' e)
+  anywhere (Err f) e s s' p p' b d d' = rw (step-20 t s p u f.number f.place (whole-left s p d.all) (sym e), step-20 t s' p' u f.number f.place (whole-left s' p' d'.all) (sym e))
 
   -- from behind the bytes a on, the answers are those of a tail c
-  tail-answer : table_verdict t ≡ Passed → (a c : List ℕ) → whole c 0 ≡ false → answers_at t (a ++ c) u (length a) ≡ tail_answer (length a) c
+  tail-answer : table_verdict t ≡ Ok tt → (a c : List ℕ) → whole c 0 ≡ false → answers_at t (a ++ c) u (length a) ≡ tail_answer (length a) c
   unfolding tail_answer
   tail-answer e a [] f = answers-end t (a ++ []) u (length a) (omega (arith, length-append a []))
   tail-answer e a (x ∷ c) f =
       let h : length a < length (a ++ (x ∷ c)) = omega (arith, length-append a (x ∷ c)) in
-      answers-last t (a ++ (x ∷ c)) u (length a) (Refused 22 (length a)) h (step_cut t (a ++ (x ∷ c)) (length a) u h e (cut-there a (x ∷ c) f))
+      answers-last t (a ++ (x ∷ c)) u (length a) (Some (Err (fault_at 22 (length a)))) h (step_cut t (a ++ (x ∷ c)) (length a) u h e (cut-there a (x ∷ c) f))
 
   -- and those of the messages bs and the tail
-  in_order : table_verdict t ≡ Passed → (s : List ℕ) (bs : List (List ℕ)) (c a : List ℕ) → s ≡ a ++ (joined bs ++ c) → Measured bs → whole c 0 ≡ false
+  in_order : table_verdict t ≡ Ok tt → (s : List ℕ) (bs : List (List ℕ)) (c a : List ℕ) → s ≡ a ++ (joined bs ++ c) → Measured bs → whole c 0 ≡ false
       → answers_at t s u (length a) ≡ own_answers t u bs ++ tail_answer (length (a ++ joined bs)) c
   unfolding joined Measured own_answers
   in_order e s [] c a j m f = ap (λ (x : List ℕ). answers_at t x u (length a)) j ∙ tail-answer e a c f ∙ ap (λ n. tail_answer n c) (omega (arith, length-append a []))
@@ -123,7 +121,7 @@ module _ (t : List ℕ) (u : Under) where
       answers-on t s u (length a) (whole-left s (length a) d.all) ∙ rw (answers s (length a) b d e, on, rest, append_assoc a b (joined bs))
 
   module _ (s : List ℕ) where
-    end_to_end : (bs : List (List ℕ)) (c : List ℕ) → Stored s bs c → table_verdict t ≡ Passed → answers_at t s u 0 ≡ own_answers t u bs ++ tail_answer (length (joined bs)) c
+    end_to_end : (bs : List (List ℕ)) (c : List ℕ) → Stored s bs c → table_verdict t ≡ Ok tt → answers_at t s u 0 ≡ own_answers t u bs ++ tail_answer (length (joined bs)) c
     end_to_end bs c x e = in_order e s bs c [] x.is x.measured x.cut
 
     pub tape-claims : TapeClaims t s u
@@ -139,7 +137,7 @@ module _ (t : List ℕ) (u : Under) where
       cut-untouched = λ p room w. scratch-cut t u.store s p room w;
       anywhere = anywhere (table_verdict t) refl s;
       table-first = λ p n q h e. step-20 t s p u n q h (sym e);
-      table-alone = λ n q h e. answers-last t s u 0 (Refused 20 0) h (step-20 t s 0 u n q h (sym e));
+      table-alone = λ n q h e. answers-last t s u 0 (Some (Err (fault_at 20 0))) h (step-20 t s 0 u n q h (sym e));
       moves = λ p h. let x = onward t s u p h in (x.past, x.within);
       step-by-step = answers-on t s u;
       none_left = answers-end t s u;

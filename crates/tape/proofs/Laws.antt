@@ -1,4 +1,6 @@
 -- A step of the tape, by what the code found.
+use Rattle.schema.specs.declared.Fault.{Fault}
+use Rattle.std.proofs.Common.{Ok, Err, Some, None, Result}
 use Prim.Native.Nat.{ℕ, ◌+◌, ◌-◌, ◌<◌, ◌≤◌}
 use mathlib.Core.Path.{◌≡◌, refl, sym, ap, ◌∙◌}
 use mathlib.Core.Bool.{Bool, true, false, cond}
@@ -8,24 +10,19 @@ use native.Mathlib.Omega.{arith}
 use lib.ListN.{length, take, drop}
 use lib.Dec.{leb}
 use borrow.Author.Tests.{le-leb, lt-leb, leb-true}
-use Rattle.schema.specs.declared.Verdict.TheVariants.{Accepted as Passed, Refused as Failed}
-use Rattle.schema.specs.Faults.{need}
+use Rattle.schema.specs.Faults.{fault_at, need}
 use Rattle.schema.specs.Table.{table_verdict}
 use Rattle.schema.proofs.Depth.{and_both}
-use Rattle.message.specs.declared.Walked.{Walked}
-use Rattle.message.specs.declared.Walked.TheVariants.{Counted, Refused as Stopped}
 use Rattle.opening.specs.Opening.{accepted, Under, message_verdict, scratch_after, Opened}
 use Rattle.opening.proofs.Laws.{scratch-20, verdict-accepted, verdict-refused}
-use Rattle.tape.specs.declared.Answer.{Answer}
-use Rattle.tape.specs.declared.Answer.TheVariants.{Ended, Accepted, Refused}
-use Rattle.tape.specs.Tape.{span_at, whole, end_of, message_at, answer_of, step_to, tape_step, tape_scratch, handed, handed_from}
+use Rattle.tape.specs.Tape.{Answer, span_at, whole, end_of, message_at, answer_of, step_to, tape_step, tape_scratch, handed, handed_from}
 
 -- a message's answer
-pub answer-accepted : (t b k : List ℕ) (u : Under) (w : Walked) (m : ℕ) → w ≡ Counted m → Opened t b u k w → Accepted ≡ answer_of (message_verdict t b u)
+pub answer-accepted : (t b k : List ℕ) (u : Under) (w : Result ℕ Fault) (m : ℕ) → w ≡ Ok m → Opened t b u k w → Some (Ok tt) ≡ answer_of (message_verdict t b u)
 unfolding answer_of
 answer-accepted t b k u w m e o = rw (verdict-accepted t b u _ _ (o.opens m e).means)
 
-pub answer-refused : (t b k : List ℕ) (u : Under) (w : Walked) (x p : ℕ) → w ≡ Stopped x p → Opened t b u k w → Refused x p ≡ answer_of (message_verdict t b u)
+pub answer-refused : (t b k : List ℕ) (u : Under) (w : Result ℕ Fault) (x p : ℕ) → w ≡ Err (fault_at x p) → Opened t b u k w → Some (Err (fault_at x p)) ≡ answer_of (message_verdict t b u)
 unfolding answer_of
 answer-refused t b k u w x p e o = rw (verdict-refused t b u x p (o.refuses x p e))
 
@@ -84,20 +81,20 @@ module _ (s : List ℕ) (p : ℕ) where
 
   -- what is handed out
   module _ (w : whole s p ≡ false) where
-    pub handed-none : [] ≡ handed s p Accepted
+    pub handed-none : [] ≡ handed s p (Some (Ok tt))
     unfolding handed
     handed-none = rw w
 
-    pub from-none : (o : ℕ) → 0 + o ≡ o + handed_from s p Accepted
+    pub from-none : (o : ℕ) → 0 + o ≡ o + handed_from s p (Some (Ok tt))
     unfolding handed_from
     from-none o = rw w (omega arith)
 
   module _ (w : whole s p ≡ true) where
-    pub handed-some : message_at s p ≡ handed s p Accepted
+    pub handed-some : message_at s p ≡ handed s p (Some (Ok tt))
     unfolding handed
     handed-some = rw w
 
-    pub from_some : (o : ℕ) → p + o ≡ o + handed_from s p Accepted
+    pub from_some : (o : ℕ) → p + o ≡ o + handed_from s p (Some (Ok tt))
     unfolding handed_from
     from_some o = rw w (omega arith)
 
@@ -106,31 +103,31 @@ module _ (s : List ℕ) where
   none-there : whole s (length s) ≡ false
   none-there = cut_short s (length s) (omega arith)
 
-  pub nothing-handed : handed s (length s) Accepted ≡ []
+  pub nothing-handed : handed s (length s) (Some (Ok tt)) ≡ []
   nothing-handed = sym (handed-none s (length s) none-there)
 
-  pub nothing-from : (o : ℕ) → o + handed_from s (length s) Accepted ≡ o + 0
+  pub nothing-from : (o : ℕ) → o + handed_from s (length s) (Some (Ok tt)) ≡ o + 0
   nothing-from o = sym (from-none s (length s) none-there o) ∙ omega arith
 
 module _ (t s : List ℕ) (p : ℕ) (u : Under) where
-  pub step-ended : length s ≤ p → tape_step t s p u ≡ step_to Ended p
+  pub step-ended : length s ≤ p → tape_step t s p u ≡ step_to None p
   unfolding tape_step
   step-ended h = rw (le-leb _ _ h)
 
-  pub step-20 : (n q : ℕ) → p < length s → Failed n q ≡ table_verdict t → tape_step t s p u ≡ step_to (Refused 20 0) (length s)
+  pub step-20 : (n q : ℕ) → p < length s → Err (fault_at n q) ≡ table_verdict t → tape_step t s p u ≡ step_to (Some (Err (fault_at 20 0))) (length s)
   unfolding tape_step accepted need
   step-20 n q h e = rw (lt-leb _ _ h, ← e)
 
-  pub step_cut : p < length s → table_verdict t ≡ Passed → whole s p ≡ false → tape_step t s p u ≡ step_to (Refused 22 p) (length s)
+  pub step_cut : p < length s → table_verdict t ≡ Ok tt → whole s p ≡ false → tape_step t s p u ≡ step_to (Some (Err (fault_at 22 p))) (length s)
   unfolding tape_step accepted need
   step_cut h e w = rw (lt-leb _ _ h, e, w)
 
-  pub step-whole : table_verdict t ≡ Passed → whole s p ≡ true → tape_step t s p u ≡ step_to (answer_of (message_verdict t (message_at s p) u)) (p + span_at s p)
+  pub step-whole : table_verdict t ≡ Ok tt → whole s p ≡ true → tape_step t s p u ≡ step_to (answer_of (message_verdict t (message_at s p) u)) (p + span_at s p)
   unfolding tape_step accepted need
   step-whole e w = rw (lt-leb _ _ (whole-left s p w), e, w)
 
   -- as the code has it: the message is the part from p up to n
-  pub step-goes : (n : ℕ) (e : Ends s p n) (a : Answer) → table_verdict t ≡ Passed
+  pub step-goes : (n : ℕ) (e : Ends s p n) (a : Answer) → table_verdict t ≡ Ok tt
       → a ≡ answer_of (message_verdict t (take (n - p) (drop p s)) u) → step_to a n ≡ tape_step t s p u
   step-goes n e a v x = (λ i. step_to ((x ∙ ap (λ m. answer_of (message_verdict t m u)) e.bytes) i) (e.here i)) ∙ sym (step-whole v e.all)
 
@@ -139,7 +136,7 @@ module _ (t st s : List ℕ) (p : ℕ) (room : List ℕ) where
   unfolding tape_scratch
   scratch-cut w = rw w
 
-  pub scratch-refused : (n q : ℕ) → Failed n q ≡ table_verdict t → tape_scratch t st s p room ≡ room
+  pub scratch-refused : (n q : ℕ) → Err (fault_at n q) ≡ table_verdict t → tape_scratch t st s p room ≡ room
   unfolding tape_scratch
   scratch-refused n q e = untouched (whole s p)
     where

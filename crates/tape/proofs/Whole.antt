@@ -1,4 +1,6 @@
 -- The whole tape, step by step, and what a loop over it needs.
+use Rattle.schema.specs.Faults.{Verdict}
+use Rattle.std.proofs.Common.{Ok, Err, Some, None}
 use Prim.Native.Nat.{ℕ, zero, suc, ◌+◌, ◌<◌, ◌≤◌}
 use mathlib.Core.Path.{◌≡◌, refl, sym, ap, ◌∙◌}
 use mathlib.Core.Bool.{Bool, true, false}
@@ -7,32 +9,28 @@ use native.Mathlib.Omega.{arith}
 use lib.ListN.{length}
 use lib.Dec.{leb}
 use borrow.Author.Tests.{leb-true, leb-false}
-use Rattle.schema.specs.declared.Verdict.{Verdict}
-use Rattle.schema.specs.declared.Verdict.TheVariants.{Accepted as Passed, Refused as Failed}
 use Rattle.schema.specs.Table.{table_verdict}
 use Rattle.opening.specs.Opening.{Under, under, message_verdict}
-use Rattle.tape.specs.declared.Answer.{Answer}
-use Rattle.tape.specs.declared.Answer.TheVariants.{Ended, Accepted, Refused}
 use Rattle.tape.specs.declared.Step.{Step}
-use Rattle.tape.specs.Tape.{whole, message_at, answer_of, step_to, tape_step, before, answers_from, answers_at}
+use Rattle.tape.specs.Tape.{Answer, whole, message_at, answer_of, step_to, tape_step, before, answers_from, answers_at}
 use Rattle.tape.proofs.Laws.{whole-inside, step-ended, step-20, step_cut, step-whole}
 
 abbrev pub is_end : Answer → Bool
-is_end Ended = true
-is_end Accepted = false
-is_end (Refused n p) = false
+is_end None = true
+is_end (Some (Ok _)) = false
+is_end (Some (Err f)) = false
 
 -- an answer of a message does not end the tape
 answer-no-end : (v : Verdict) → is_end (answer_of v) ≡ false
 unfolding answer_of
-answer-no-end Passed = refl
-answer-no-end (Failed n p) = refl
+answer-no-end (Ok _) = refl
+answer-no-end (Err f) = refl
 
 pub before-some : (a : Answer) (xs : List Answer) → is_end a ≡ false → before a xs ≡ a ∷ xs
 unfolding before
-before-some Ended xs e = let z : ◌≡◌ {A = ℕ} 0 1 = cc in absurd (omega arith)
-before-some Accepted xs e = refl
-before-some (Refused n p) xs e = refl
+before-some None xs e = let z : ◌≡◌ {A = ℕ} 0 1 = cc in absurd (omega arith)
+before-some (Some (Ok _)) xs e = refl
+before-some (Some (Err f)) xs e = refl
 
 module _ (t s : List ℕ) (u : Under) where
   -- where bytes are left a step answers, moves on, and stays on the tape
@@ -45,9 +43,9 @@ module _ (t s : List ℕ) (u : Under) where
   onward p h = go (table_verdict t) (whole s p) refl refl
     where
       go : (v : Verdict) (w : Bool) → table_verdict t ≡ v → whole s p ≡ w → Onward p
-      go (Failed n q) w e f = let x = step-20 t s p u n q h (sym e) in record { answers = rw x; past = rw x h; within = rw x (omega arith) }
-      go Passed false e f = let x = step_cut t s p u h e f in record { answers = rw x; past = rw x h; within = rw x (omega arith) }
-      go Passed true e f = let x = step-whole t s p u e f in record { answers = rw x (answer-no-end (message_verdict t (message_at s p) u)); past = rw x (omega arith); within = rw x (whole-inside s p f) }
+      go (Err f) w e f = let x = step-20 t s p u f.number f.place h (sym e) in record { answers = rw x; past = rw x h; within = rw x (omega arith) }
+      go (Ok _) false e f = let x = step_cut t s p u h e f in record { answers = rw x; past = rw x h; within = rw x (omega arith) }
+      go (Ok _) true e f = let x = step-whole t s p u e f in record { answers = rw x (answer-no-end (message_verdict t (message_at s p) u)); past = rw x (omega arith); within = rw x (whole-inside s p f) }
 
   -- as many steps as bytes are left, or more, read all of them
   none_left : (n p : ℕ) → length s ≤ p → answers_from n t s u p ≡ []
@@ -86,7 +84,7 @@ module _ (t s : List ℕ) (u : Under) where
   pub step-within : (p : ℕ) → p < length s → (tape_step t s p u).next ≤ length s
   step-within p h = (onward p h).within
 
-  pub only_end : (p : ℕ) → (tape_step t s p u).answer ≡ Ended → length s ≤ p
+  pub only_end : (p : ℕ) → (tape_step t s p u).answer ≡ None → length s ≤ p
   only_end p e = by-test (leb (length s) p) refl
     where
       by-test : (b : Bool) → leb (length s) p ≡ b → length s ≤ p

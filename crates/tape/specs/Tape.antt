@@ -1,14 +1,14 @@
 -- A tape: "The stations store messages end to end." What its reader answers at a place of it, and of the whole tape.
-use Rattle.std.specs.Prelude.{◌≡◌, Bool, cond, ◌&&◌, List, [], ◌∷◌, ◌++◌, ℕ, zero, suc, ◌+◌, length, leb}
+use Rattle.std.specs.Prelude.{Ok, Err, Some, None, Option, ◌≡◌, Bool, cond, ◌&&◌, List, [], ◌∷◌, ◌++◌, ℕ, zero, suc, ◌+◌, length, leb}
 use Rattle.wire.specs.Bytes.{part, le}
-use Rattle.schema.specs.declared.Verdict.{Verdict}
-use Rattle.schema.specs.declared.Verdict.TheVariants.{Accepted as Passed, Refused as Failed}
-use Rattle.schema.specs.Faults.{need}
+use Rattle.schema.specs.Faults.{Verdict, fault_at, need}
 use Rattle.schema.specs.Table.{table_verdict}
 use Rattle.opening.specs.Opening.{accepted, Under, message_verdict, scratch_after}
-use Rattle.tape.specs.declared.Answer.{Answer}
-use Rattle.tape.specs.declared.Answer.TheVariants.{Ended, Accepted, Refused}
 use Rattle.tape.specs.declared.Step.{Step}
+
+-- What the reader says of the next message; nothing at the tape's end.
+abbrev pub Answer : Type 0
+Answer = Option Verdict
 
 -- ONE STEP
 
@@ -30,8 +30,8 @@ message_at tape at = part (span_at tape at) at tape
 
 -- A message's check answer, as the tape's reader gives it.
 unfoldable pub answer_of : Verdict → Answer
-answer_of Passed = Accepted
-answer_of (Failed n p) = Refused n p
+answer_of (Ok _) = Some (Ok tt)
+answer_of (Err f) = Some (Err f)
 
 abbrev pub step_to : Answer → ℕ → Step
 step_to answer next = record { answer = answer; next = next }
@@ -42,9 +42,9 @@ step_to answer next = record { answer = answer; next = next }
 -- "A refused message is passed over by its size word." "Other places count from the message's start."
 unfoldable pub tape_step : List ℕ → List ℕ → ℕ → Under → Step
 tape_step t tape at u =
-    cond (leb (length tape) at) (step_to Ended at)
-    (need (accepted (table_verdict t)) (step_to (Refused 20 0) (length tape))
-    (need (whole tape at) (step_to (Refused 22 at) (length tape))
+    cond (leb (length tape) at) (step_to None at)
+    (need (accepted (table_verdict t)) (step_to (Some (Err (fault_at 20 0))) (length tape))
+    (need (whole tape at) (step_to (Some (Err (fault_at 22 at))) (length tape))
     (step_to (answer_of (message_verdict t (message_at tape at) u)) (at + span_at tape at))))
 
 -- The scratch s afterwards: as the message's check leaves it, where there is a whole message.
@@ -53,22 +53,22 @@ tape_scratch t store tape at s = cond (whole tape at) (scratch_after t store (me
 
 -- "hands out the next message's own bytes (the empty part if refused)", and where in the tape that part starts.
 unfoldable pub handed : List ℕ → ℕ → Answer → List ℕ
-handed tape at Ended = []
-handed tape at Accepted = cond (whole tape at) (message_at tape at) []
-handed tape at (Refused n p) = []
+handed tape at None = []
+handed tape at (Some (Ok _)) = cond (whole tape at) (message_at tape at) []
+handed tape at (Some (Err f)) = []
 
 unfoldable pub handed_from : List ℕ → ℕ → Answer → ℕ
-handed_from tape at Ended = 0
-handed_from tape at Accepted = cond (whole tape at) at 0
-handed_from tape at (Refused n p) = 0
+handed_from tape at None = 0
+handed_from tape at (Some (Ok _)) = cond (whole tape at) at 0
+handed_from tape at (Some (Err f)) = 0
 
 -- THE WHOLE TAPE
 
 -- An answer of a message, before those of the rest; none where the tape ended.
 unfoldable pub before : Answer → List Answer → List Answer
-before Ended xs = []
-before Accepted xs = Accepted ∷ xs
-before (Refused n p) xs = Refused n p ∷ xs
+before None xs = []
+before (Some (Ok _)) xs = Some (Ok tt) ∷ xs
+before (Some (Err f)) xs = Some (Err f) ∷ xs
 
 -- The answers from a place on, of at most n messages.
 unfoldable pub answers_from : ℕ → List ℕ → List ℕ → Under → ℕ → List Answer
@@ -103,4 +103,4 @@ own_answers t u (b ∷ bs) = answer_of (message_verdict t b u) ∷ own_answers t
 -- The answer of a cut tail that starts at a place; none where there is no tail.
 unfoldable pub tail_answer : ℕ → List ℕ → List Answer
 tail_answer at [] = []
-tail_answer at (x ∷ rest) = Refused 22 at ∷ []
+tail_answer at (x ∷ rest) = Some (Err (fault_at 22 at)) ∷ []

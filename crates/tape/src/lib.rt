@@ -1,22 +1,17 @@
 // A whole tape of messages, stored end to end, read one by one past those that are refused.
 #![tactic(auto)]
 
-ghost use Rattle.std.specs.Prelude.{◌≡◌, ℕ, ◌+◌, ◌<◌, List, length};
+ghost use Rattle.std.specs.Prelude.{Ok, Err, Some, ◌≡◌, ℕ, ◌+◌, ◌<◌, List, length};
+ghost use Rattle.schema.specs.Faults.{fault_at};
 ghost use Rattle.table.specs.Index.{Checked};
 ghost use Rattle.tape.specs.Tape.{end_of, answer_of, step_to, tape_step, tape_scratch, handed, handed_from};
 ghost use Rattle.tape.specs.Hands.{Hands};
 ghost use Rattle.opening.specs.Opening.{Under, under, message_verdict, Opened};
 
-use message::Walked;
-use schema::Verdict;
+use schema::Fault;
 
-// What the reader says of the next message.
-#[derive(Clone, Copy)]
-pub enum Answer {
-    Ended,
-    Accepted,
-    Refused { number: u8, place: usize },
-}
+// What the reader says of the next message: `None` at the tape's end.
+pub type Answer = Option<Result<(), Fault>>;
 
 // An answer, and the place on the tape where the reader goes on.
 #[derive(Clone, Copy)]
@@ -59,7 +54,7 @@ fn end_of(tape: &[u8], at: usize) -> usize
     at + (4 + size)
 }
 
-fn answer_of(walked: Walked) -> Answer
+fn answer_of(walked: Result<usize, Fault>) -> Answer
     ensures { (t b k : List ℕ) (u : Under) → Opened t b u k walked → result ≡ answer_of (message_verdict t b u) }
 {
     match walked {
@@ -70,7 +65,7 @@ fn answer_of(walked: Walked) -> Answer
 
 // An answer that ends the tape.
 fn last(number: u8, place: usize, end: usize) -> Step
-    ensures { result ≡ step_to (Answer.Refused number place) end }
+    ensures { result ≡ step_to (Some (Err (fault_at number place))) end }
 {
     Step {
         answer: Answer::Refused { number, place },
@@ -88,7 +83,7 @@ pub fn step_under(
     at: usize,
     scratch: &mut [u8],
 ) -> Step
-    requires { (Checked table.now index.now Verdict.Accepted) × (at < length tape.now) }
+    requires { (Checked table.now index.now (Ok tt)) × (at < length tape.now) }
     ensures value { result ≡ tape_step table.now tape.now at (under store.now customer (length scratch.old)) }
     ensures scratch_after { scratch.new ≡ tape_scratch table.now store.now tape.now at scratch.old }
 {
@@ -131,9 +126,9 @@ pub fn step_at(
 
 // The bytes of the message at a place; the empty part where none stands there whole.
 fn message_at<'a>(tape: &'a [u8], at: usize) -> &'a [u8]
-    ensures what { result.now ≡ handed tape.now at Answer.Accepted }
+    ensures what { result.now ≡ handed tape.now at (Some (Ok tt)) }
     ensures block { result.ref_ptr.0 ≡ tape.entry.ref_ptr.0 }
-    ensures offset { result.ref_ptr.1 ≡ tape.entry.ref_ptr.1 + handed_from tape.now at Answer.Accepted }
+    ensures offset { result.ref_ptr.1 ≡ tape.entry.ref_ptr.1 + handed_from tape.now at (Some (Ok tt)) }
 {
     let end = end_of(tape, at);
     if end <= at {

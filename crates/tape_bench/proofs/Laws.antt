@@ -1,24 +1,23 @@
 -- Counting step by step.
+use Rattle.schema.specs.Faults.{fault_at}
+use Rattle.std.proofs.Common.{Ok, Err, Some, None}
 use Prim.Native.Nat.{ℕ, ◌+◌, ◌<◌, ◌≤◌}
 use mathlib.Core.Path.{◌≡◌, ap}
 use mathlib.Core.List.{List, [], ◌∷◌}
 use native.Mathlib.Omega.{arith}
 use lib.ListN.{length}
-use Rattle.schema.specs.declared.Verdict.TheVariants.{Refused as Failed}
 use Rattle.schema.specs.Table.{table_verdict}
 use Rattle.opening.specs.Opening.{Under}
-use Rattle.tape.specs.declared.Answer.{Answer}
-use Rattle.tape.specs.declared.Answer.TheVariants.{Ended, Accepted, Refused}
 use Rattle.tape.specs.declared.Step.{Step}
-use Rattle.tape.specs.Tape.{answers_at, tape_answers}
+use Rattle.tape.specs.Tape.{Answer, answers_at, tape_answers}
 use Rattle.tape.proofs.Laws.{step-20}
 use Rattle.tape.proofs.Whole.{Turn, answers-end, answers-last}
 use Rattle.tape_bench.specs.Count.{one, count_accepted}
 
 pub one_at_most : (a : Answer) → one a ≤ 1
-one_at_most Ended = omega arith
-one_at_most Accepted = omega arith
-one_at_most (Refused n p) = omega arith
+one_at_most None = omega arith
+one_at_most (Some (Ok _)) = omega arith
+one_at_most (Some (Err f)) = omega arith
 
 -- What holds before each turn: so many are accepted of those before a place, and there are no more of them than bytes.
 pub record Counted (t s : List ℕ) (u : Under) (at accepted : ℕ) : Type 0 where
@@ -40,7 +39,7 @@ module _ (t s : List ℕ) (u : Under) where
       record { few = omega (arith, c.few, r.past, one_at_most x.answer, e); rest = omega (arith, c.rest, a, e) }
 
 -- a refused table's one answer is 20
-pub none : (t s : List ℕ) (u : Under) (n q : ℕ) → Failed n q ≡ table_verdict t → ◌≡◌ {A = ℕ} 0 (count_accepted (tape_answers t s u))
+pub none : (t s : List ℕ) (u : Under) (n q : ℕ) → Err (fault_at n q) ≡ table_verdict t → ◌≡◌ {A = ℕ} 0 (count_accepted (tape_answers t s u))
 unfolding count_accepted
 none t [] u n q e = rw (answers-end t [] u 0 (omega arith))
 none t (x ∷ s) u n q e = let h : 0 < length (x ∷ s) = omega arith in rw (answers-last t (x ∷ s) u 0 _ h (step-20 t (x ∷ s) 0 u n q h e))

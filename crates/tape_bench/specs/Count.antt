@@ -1,12 +1,11 @@
 -- How many messages are accepted.
-use Rattle.std.specs.Prelude.{List, [], ◌∷◌, ℕ, ◌+◌}
-use Rattle.tape.specs.declared.Answer.{Answer}
-use Rattle.tape.specs.declared.Answer.TheVariants.{Ended, Accepted, Refused}
+use Rattle.tape.specs.Tape.{Answer}
+use Rattle.std.specs.Prelude.{Ok, Err, Some, None, List, [], ◌∷◌, ℕ, ◌+◌}
 
 abbrev pub one : Answer → ℕ
-one Ended = 0
-one Accepted = 1
-one (Refused n p) = 0
+one None = 0
+one (Some (Ok _)) = 1
+one (Some (Err f)) = 0
 
 unfoldable pub count_accepted : List Answer → ℕ
 count_accepted [] = 0

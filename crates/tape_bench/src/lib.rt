@@ -2,7 +2,7 @@
 // scratch holds afterwards is not stated.
 #![tactic(auto)]
 
-ghost use Rattle.std.specs.Prelude.{◌≡◌, length};
+ghost use Rattle.std.specs.Prelude.{Ok, ◌≡◌, length};
 ghost use Rattle.table.specs.Index.{Checked};
 ghost use Rattle.opening.specs.Opening.{under};
 ghost use Rattle.tape.specs.Tape.{tape_answers};
@@ -29,7 +29,7 @@ fn count_under(
     tape: &[u8],
     scratch: &mut [u8],
 ) -> usize
-    requires { Checked table.now index.now Verdict.Accepted }
+    requires { Checked table.now index.now (Ok tt) }
     ensures { result ≡ count_accepted (tape_answers table.now tape.now (under store.now customer (length scratch.old))) }
 {
     let mut accepted = 0;

@@ -1,4 +1,6 @@
 -- Laws of the worst of several outcomes, and of a tape's.
+use Rattle.schema.specs.Faults.{fault_at}
+use Rattle.std.proofs.Common.{Err}
 use Prim.Native.Nat.{ℕ, ◌<◌, ◌≤◌}
 use mathlib.Core.Path.{◌≡◌, refl, sym, ap, ◌∙◌}
 use mathlib.Core.Bool.{cond}
@@ -7,8 +9,6 @@ use native.Mathlib.Omega.{arith}
 use lib.ListN.{length}
 use lib.Dec.{eqb}
 use borrow.Author.Tests.{ne_eqb}
-use Rattle.schema.specs.declared.Verdict.{Verdict}
-use Rattle.schema.specs.declared.Verdict.TheVariants.{Refused as RefusedAt}
 use Rattle.schema.specs.Table.{table_verdict}
 use Rattle.opening.specs.Opening.{Under}
 use Rattle.tape.specs.declared.Step.{Step}
@@ -54,7 +54,7 @@ module _ (t s : List ℕ) (u : Under) where
   outcome-end w p h = rw (answers-end t s u p h) (worse-none w)
 
 -- a refused table is one refusal, where a byte is left
-pub outcome-20 : (t s : List ℕ) (u : Under) (n p : ℕ) → RefusedAt n p ≡ table_verdict t → cond (eqb (length s) 0) Answered Refused ≡ tape_outcome (answers_at t s u 0)
+pub outcome-20 : (t s : List ℕ) (u : Under) (n p : ℕ) → Err (fault_at n p) ≡ table_verdict t → cond (eqb (length s) 0) Answered Refused ≡ tape_outcome (answers_at t s u 0)
 unfolding tape_outcome answer_outcome worse_of
 outcome-20 t [] u n p e = rw (answers-end t [] u 0 (omega arith))
 outcome-20 t (x ∷ s) u n p e =

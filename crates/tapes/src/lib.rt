@@ -1,7 +1,7 @@
 // The messages of a tape: a line for each, with its place on the tape, and how many there are.
 #![tactic(auto)]
 
-ghost use Rattle.std.specs.Prelude.{◌≡◌, ◌≤◌, cond, length, eqb};
+ghost use Rattle.std.specs.Prelude.{Ok, ◌≡◌, ◌≤◌, cond, length, eqb};
 ghost use Rattle.table.specs.Index.{Checked};
 ghost use Rattle.opening.specs.Opening.{under};
 ghost use Rattle.tape.specs.Tape.{tape_answers};
@@ -118,7 +118,7 @@ fn check_under(
     tape: &[u8],
     scratch: &mut [u8],
 ) -> Outcome
-    requires { Checked table.now index.now Verdict.Accepted }
+    requires { Checked table.now index.now (Ok tt) }
     ensures { result ≡ tape_outcome (tape_answers table.now tape.now (under store.now customer (length scratch.old))) }
 {
     let mut worst = Outcome::Answered;

@@ -1,13 +1,13 @@
+use Rattle.std.proofs.Common.{Ok}
 use mathlib.Core.Path.{◌≡◌, sym, ap, ◌∙◌}
 use mir.Val.{bool_byte}
 use Rattle.settings.specs.declared.Ignored.{Ignored}
-use Rattle.settings.specs.declared.Setting.TheVariants.{Ignores}
 use Rattle.blink_native.specs.declared.BlinkSettings.{BlinkSettings}
 use Rattle.blink_native.specs.Boundary.{exported_settings}
 use Rattle.blink_native.proofs.Flag.{flag-bits}
 use Rattle.blink_native.proofs.export_settings.Goals as goal
 
-flags : (x : Ignored) → ◌≡◌ {A = BlinkSettings} (record { number = 0; place = 0; absent = bool_byte x.absent; pads = bool_byte x.pads; unused = bool_byte x.unused }) (exported_settings (Ignores x))
+flags : (x : Ignored) → ◌≡◌ {A = BlinkSettings} (record { number = 0; place = 0; absent = bool_byte x.absent; pads = bool_byte x.pads; unused = bool_byte x.unused }) (exported_settings (Ok x))
 unfolding exported_settings
 flags x = rw (flag-bits x.absent, flag-bits x.pads, flag-bits x.unused)
 

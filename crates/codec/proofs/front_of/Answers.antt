@@ -1,7 +1,7 @@
+use Rattle.std.proofs.Common.{Ok, Some}
 use mathlib.Core.Path.{sym, ◌∙◌}
 use native.Mathlib.Omega.{arith}
 use Rattle.reading.proofs.Found.{message-long}
-use Rattle.codec.specs.declared.Front.TheVariants.{Read}
 use Rattle.codec.proofs.Laws.{other-type, other-fields, front-is}
 use Rattle.codec.proofs.front_of.Goals as goal
 
@@ -15,4 +15,4 @@ pub returns-then-not-has_fields_under : goal.returns-then-not-has_fields_under
 returns-then-not-has_fields_under c = other-fields _ _ _ _ _ c.read_u64.ensures (sym c.has_fields_under.ensures ∙ c.if-not-has_fields_under.true)
 
 pub returns : goal.returns
-returns c = (λ i. Read (c.find_part.ensures i) (c.read_number.ensures i) (c.read_number-2.ensures i) (c.read_number-3.ensures i)) ∙ front-is _ _ _ _ _ c.read_u64.ensures c.if-read_u64-id.false (sym c.has_fields_under.ensures ∙ c.if-not-has_fields_under.false)
+returns c = (λ i. Ok (Some (record { first = c.find_part.ensures i; second = c.read_number.ensures i; third = c.read_number-2.ensures i; fourth = c.read_number-3.ensures i }))) ∙ front-is _ _ _ _ _ c.read_u64.ensures c.if-read_u64-id.false (sym c.has_fields_under.ensures ∙ c.if-not-has_fields_under.false)

@@ -1,3 +1,5 @@
+use Rattle.schema.specs.declared.Fault.{Fault}
+use Rattle.std.proofs.Common.{Result}
 use native.Mathlib.Omega.{arith}
 use mathlib.Core.Path.{◌≡◌, refl, sym, ap, ◌∙◌}
 use mathlib.Core.List.{[]}
@@ -15,10 +17,10 @@ read_bytes-requires c = let K = c.open_message-walked.ensures.opened.opens _ c.i
 pub returns-in-Counted : goal.returns-in-Counted
 unfolding bytes_in start_of
 returns-in-Counted c = let a = c.args in
-    let e = part-read a.table.now a.message.now (under a.store.now a.customer (length a.scratch.now)) a.field a.item _ _ (c.open_message-walked.ensures.opened.opens _ c.in-Counted.is).means in record { what = c.read_bytes.ensures.what ∙ sym (ap (bytes_in a.message.now) e); block = c.read_bytes.ensures.block; offset = c.read_bytes.ensures.offset ∙ sym (ap (λ (q : Part). a.message.ref_ptr.1 + start_of q) e); scratch_after = c.open_message-walked.ensures.scratch_after }
+    let e = part-read a.table.now a.message.now (under a.store.now a.customer (length a.scratch.now)) a.field a.item _ _ (c.open_message-walked.ensures.opened.opens _ c.in-Counted.is).means in record { what = c.read_bytes.ensures.what ∙ sym (ap (bytes_in a.message.now) e); block = c.read_bytes.ensures.block; offset = c.read_bytes.ensures.offset ∙ sym (ap (λ (q : Result Part Fault). a.message.ref_ptr.1 + start_of q) e); scratch_after = c.open_message-walked.ensures.scratch_after }
 
 pub returns-in-Refused : goal.returns-in-Refused
 unfolding bytes_in start_of
 returns-in-Refused c = let a = c.args in
     let e = part-refused a.table.now a.message.now (under a.store.now a.customer (length a.scratch.now)) a.field a.item _ _ (c.open_message-walked.ensures.opened.refuses _ _ c.in-Refused.is) in
-    let z : 0 + a.message.ref_ptr.1 ≡ a.message.ref_ptr.1 + 0 = omega arith in record { what = sym (ap (bytes_in a.message.now) e); block = refl; offset = z ∙ sym (ap (λ (q : Part). a.message.ref_ptr.1 + start_of q) e); scratch_after = c.open_message-walked.ensures.scratch_after }
+    let z : 0 + a.message.ref_ptr.1 ≡ a.message.ref_ptr.1 + 0 = omega arith in record { what = sym (ap (bytes_in a.message.now) e); block = refl; offset = z ∙ sym (ap (λ (q : Result Part Fault). a.message.ref_ptr.1 + start_of q) e); scratch_after = c.open_message-walked.ensures.scratch_after }

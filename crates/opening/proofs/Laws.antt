@@ -27,14 +27,14 @@ use Rattle.reading.proofs.Alike.{Laxer, walk-laxer, laxest}
 use Rattle.opening.specs.Opening.{accepted, Under, under, message_reading, verdict_of, message_verdict, scratch_after, Opened}
 
 -- a refusal opens nothing
-pub opens-nothing : (t b : List ℕ) (u : Under) (k : List ℕ) (w : Result ℕ Fault) (n p : ℕ) → w ≡ Err (fault_at n p) → message_reading t b u ≡ refused n p → Opened t b u k w
-opens-nothing t b u k w n p e r = record {
-  refuses = λ n' p' f. let a : n ≡ n' = cc in let c : p ≡ p' = cc in rw (a, c) at r;
-  opens = λ n' f. let z : ◌≡◌ {A = ℕ} 0 1 = cc in absurd (omega arith);
+pub opens-nothing : (t b : List ℕ) (u : Under) (k : List ℕ) (f : Fault) → message_reading t b u ≡ refused f.number f.place → Opened t b u k (Err f)
+opens-nothing t b u k f r = record {
+  refuses = λ g e. let a : f ≡ g = cc in rw a at r;
+  opens = λ n e. (cc);
 }
 
 -- 20
-module _ (t st b s : List ℕ) (n p : ℕ) (e : Err (fault_at n p) ≡ table_verdict t) where
+module _ (t st b s : List ℕ) (f : Fault) (e : Err f ≡ table_verdict t) where
   pub reading-20 : (u : Under) → message_reading t b u ≡ refused 20 0
   unfolding message_reading accepted need
   reading-20 u = rw (← e)
@@ -81,25 +81,25 @@ module _ (st : List ℕ) (c : ℕ) where
     where
       go : (b : Bool) → Ok x ≡ need b (Err (fault_at 50 (9 * records st))) (Ok (governing st c)) → (b ≡ true) × (x ≡ governing st c)
       go true e = unfold need in let q : x ≡ governing st c = cc in (refl, q)
-      go false e = unfold need in let z : ◌≡◌ {A = ℕ} 0 1 = cc in absurd (omega arith)
+      go false e = unfold need in absurd (cc)
 
-  pub unsettled : (n p : ℕ) → Err (fault_at n p) ≡ setting_of st c → (sound st ≡ false) × (refused 50 (9 * records st) ≡ refused n p)
+  pub unsettled : (f : Fault) → Err f ≡ setting_of st c → (sound st ≡ false) × (f ≡ fault_at 50 (9 * records st))
   unfolding setting_of
-  unsettled n p e = go (sound st) e
+  unsettled f e = go (sound st) e
     where
-      go : (b : Bool) → Err (fault_at n p) ≡ need b (Err (fault_at 50 (9 * records st))) (Ok (governing st c)) → (b ≡ false) × (refused 50 (9 * records st) ≡ refused n p)
-      go true e = unfold need in let z : ◌≡◌ {A = ℕ} 0 1 = cc in absurd (omega arith)
-      go false e = unfold need in let q : n ≡ 50 = cc in let r : p ≡ 9 * records st = cc in (refl, rw (q, r))
+      go : (b : Bool) → Err f ≡ need b (Err (fault_at 50 (9 * records st))) (Ok (governing st c)) → (b ≡ false) × (f ≡ fault_at 50 (9 * records st))
+      go true e = unfold need in absurd (cc)
+      go false e = unfold need in let q : f ≡ fault_at 50 (9 * records st) = cc in (refl, q)
 
 -- what a check says of the walk
-walked-refuses : (x : Reading) (n p : ℕ) → count_of (Err (fault_at n p)) [] ≡ count x → x ≡ refused n p
+walked-refuses : (x : Reading) (f : Fault) → count_of (Err f) [] ≡ count x → x ≡ refused f.number f.place
 unfolding count_of count
-walked-refuses (refused n' p') n p e = cc
-walked-refuses (done s m) n p e = let z : ◌≡◌ {A = ℕ} 0 1 = cc in absurd (omega arith)
+walked-refuses (refused n p) f e = cc
+walked-refuses (done s m) f e = absurd (cc)
 
 walked-means : (x : Reading) (n : ℕ) → count_of (Ok n) [] ≡ count x → (s : List ℕ) × (x ≡ done s []) × (length s ≡ n)
 unfolding count_of count
-walked-means (refused n' p) n e = let z : ◌≡◌ {A = ℕ} 0 1 = cc in absurd (omega arith)
+walked-means (refused k p) n e = absurd (cc)
 walked-means (done s m) n e = let l : length s ≡ n = cc in let i : m ≡ [] = cc in (s, ap (done s) i, l)
 
 module _ (t st : List ℕ) (c : ℕ) (b s : List ℕ) (e : Ok tt ≡ table_verdict t) where
@@ -125,14 +125,14 @@ module _ (t st : List ℕ) (c : ℕ) (b s : List ℕ) (e : Ok tt ≡ table_verdi
     scratch-21 = rw (← e, le-leb _ _ fits, lt-leb _ _ short)
 
   module _ (fits : length b ≤ 65536) (room : length b ≤ length s) where
-    module _ (n p : ℕ) (f : Err (fault_at n p) ≡ setting_of st c) where
-      pub reading-50 : message_reading t b asked ≡ refused n p
+    module _ (f : Fault) (g : Err f ≡ setting_of st c) where
+      pub reading-50 : message_reading t b asked ≡ refused f.number f.place
       unfolding message_reading accepted need
-      reading-50 = let u = unsettled st c n p f in rw (← e, le-leb _ _ fits, le-leb _ _ room, u.0) u.1
+      reading-50 = let u = unsettled st c f g in rw (← e, le-leb _ _ fits, le-leb _ _ room, u.0, u.1)
 
       pub scratch-50 : scratch_after t st b s ≡ s
       unfolding scratch_after accepted
-      scratch-50 = rw (← e, le-leb _ _ fits, le-leb _ _ room, (unsettled st c n p f).0)
+      scratch-50 = rw (← e, le-leb _ _ fits, le-leb _ _ room, (unsettled st c f g).0)
 
     module _ (x : Ignored) (f : Ok x ≡ setting_of st c) where
       walked : message_reading t b asked ≡ walk x (schema t) b
@@ -143,7 +143,7 @@ module _ (t st : List ℕ) (c : ℕ) (b s : List ℕ) (e : Ok tt ≡ table_verdi
       opened k l w d =
           let exact : count_of w [] ≡ count (walk x (schema t) b) = d ∙ after-exact x (schema t) (sized t (sym e)) b fits in
           record {
-            refuses = λ n p g. walked ∙ walked-refuses _ n p (ap (λ (v : Result ℕ Fault). count_of v []) (sym g) ∙ exact);
+            refuses = λ r g. walked ∙ walked-refuses _ r (ap (λ (v : Result ℕ Fault). count_of v []) (sym g) ∙ exact);
             opens = λ n g.
                 let r = walked-means _ n (ap (λ (v : Result ℕ Fault). count_of v []) (sym g) ∙ exact) in
                 record {

@@ -60,5 +60,5 @@ pub record Known (t b : List ℕ) (u : Under) (k : List ℕ) (n : ℕ) : Type 0 
 
 -- What a question that goes on from the check's answer w learns.
 pub record Opened (t b : List ℕ) (u : Under) (k : List ℕ) (w : Result ℕ Fault) : Type 0 where
-  pub refuses : (n p : ℕ) → w ≡ Err (fault_at n p) → message_reading t b u ≡ refused n p
+  pub refuses : (f : Fault) → w ≡ Err f → message_reading t b u ≡ refused f.number f.place
   pub opens : (n : ℕ) → w ≡ Ok n → Known t b u k n

@@ -1,8 +1,7 @@
 // What every question about a message begins with: "20, 23, 21, 50, 22", and the walk.
 #![tactic(auto)]
 
-ghost use Rattle.std.specs.Prelude.{Ok, Err, ◌≡◌, length, replicate};
-ghost use Rattle.schema.specs.Faults.{fault_at};
+ghost use Rattle.std.specs.Prelude.{Ok, ◌≡◌, length, replicate};
 ghost use Rattle.table.specs.Index.{Checked};
 ghost use Rattle.opening.specs.Opening.{under, scratch_after, Opened};
 
@@ -21,17 +20,13 @@ pub fn open_message(
     ensures opened { Opened table.now message.now (under store.now customer (length scratch.old)) index.new result }
     ensures scratch_after { scratch.new ≡ scratch_after table.now store.now message.now scratch.old }
 {
-    let v = table::index_table(table, index);
-    match v {
-        Verdict::Accepted => open_under(table, index, store, customer, message, scratch),
-        Verdict::Refused { number, place } => refused(20),
-    }
-}
-
-fn refused(number: u8) -> Result<usize, Fault>
-    ensures { result ≡ Err (fault_at number 0) }
-{
-    Walked::Refused { number, place: 0 }
+    let Ok(()) = table::index_table(table, index) else {
+        return Err(Fault {
+            number: 20,
+            place: 0,
+        });
+    };
+    open_under(table, index, store, customer, message, scratch)
 }
 
 // "23, 21, 50, 22", and the walk, under an accepted table.
@@ -48,14 +43,17 @@ pub fn open_under(
     ensures scratch_after { scratch.new ≡ scratch_after table.now store.now message.now scratch.old }
 {
     if 65536 < message.len() {
-        return refused(23);
+        return Err(Fault {
+            number: 23,
+            place: 0,
+        });
     }
     if scratch.len() < message.len() {
-        return refused(21);
+        return Err(Fault {
+            number: 21,
+            place: 0,
+        });
     }
-    let setting = store::find_settings(store, customer);
-    match setting {
-        Setting::Ignores { ignored } => message::check(table, index, message, ignored, scratch),
-        Setting::Refused { number, place } => Walked::Refused { number, place },
-    }
+    let ignored = store::find_settings(store, customer)?;
+    message::check(table, index, message, ignored, scratch)
 }

@@ -12,7 +12,7 @@ use Rattle.wire.specs.Bytes.{part, le}
 use Rattle.wire.proofs.Laws.{length_part}
 use Rattle.schema.specs.Table.{table_verdict}
 use Rattle.opening.specs.Opening.{Under, message_verdict}
-use Rattle.tape.specs.Tape.{Answer, span_at, whole, answer_of, tape_step, handed, answers_at, joined, Measured, own_answers, tail_answer}
+use Rattle.tape.specs.Tape.{Answer, span_at, whole, tape_step, handed, answers_at, joined, Measured, own_answers, tail_answer}
 use Rattle.tape.specs.Claims.{Stands, Stored, TapeClaims}
 use Rattle.tape.proofs.Laws.{cut_short, stands, whole-inside, whole-left, handed-some, step-ended, step-20, step_cut, step-whole, scratch-cut}
 use Rattle.tape.proofs.Whole.{onward, answers-end, answers-on, answers-last, only_end}
@@ -84,7 +84,7 @@ split_from (suc n) s h = by-test (whole s 0) refl (split_from n (drop (span_at s
 own-append : (t : List ℕ) (u : Under) (fs bs : List (List ℕ)) → own_answers t u (fs ++ bs) ≡ own_answers t u fs ++ own_answers t u bs
 unfolding own_answers
 own-append t u [] bs = refl
-own-append t u (f ∷ fs) bs = ap (λ (x : List Answer). answer_of (message_verdict t f u) ∷ x) (own-append t u fs bs)
+own-append t u (f ∷ fs) bs = ap (λ (x : List Answer). Some (message_verdict t f u) ∷ x) (own-append t u fs bs)
 
 module _ (t : List ℕ) (u : Under) where
   stands-long : (s : List ℕ) (p : ℕ) (b : List ℕ) → Stands s p b → span_at s p ≡ length b
@@ -93,12 +93,12 @@ module _ (t : List ℕ) (u : Under) where
   passes : (s : List ℕ) (p : ℕ) (b : List ℕ) → Stands s p b → table_verdict t ≡ Ok tt → (tape_step t s p u).next ≡ p + length b
   passes s p b d e = rw (step-whole t s p u e d.all) (ap (λ n. p + n) (stands-long s p b d))
 
-  answers : (s : List ℕ) (p : ℕ) (b : List ℕ) → Stands s p b → table_verdict t ≡ Ok tt → (tape_step t s p u).answer ≡ answer_of (message_verdict t b u)
-  answers s p b d e = rw (step-whole t s p u e d.all) (ap (λ x. answer_of (message_verdict t x u)) d.bytes)
+  answers : (s : List ℕ) (p : ℕ) (b : List ℕ) → Stands s p b → table_verdict t ≡ Ok tt → (tape_step t s p u).answer ≡ Some (message_verdict t b u)
+  answers s p b d e = rw (step-whole t s p u e d.all) (ap (λ x. Some (message_verdict t x u)) d.bytes)
 
   anywhere : (v : Verdict) → table_verdict t ≡ v → (s s' : List ℕ) (p p' : ℕ) (b : List ℕ) → Stands s p b → Stands s' p' b → (tape_step t s p u).answer ≡ (tape_step t s' p' u).answer
   anywhere (Ok _) e s s' p p' b d d' = answers s p b d e ∙ sym (answers s' p' b d' e)
-  anywhere (Err f) e s s' p p' b d d' = rw (step-20 t s p u f.number f.place (whole-left s p d.all) (sym e), step-20 t s' p' u f.number f.place (whole-left s' p' d'.all) (sym e))
+  anywhere (Err f) e s s' p p' b d d' = rw (step-20 t s p u f (whole-left s p d.all) (sym e), step-20 t s' p' u f (whole-left s' p' d'.all) (sym e))
 
   -- from behind the bytes a on, the answers are those of a tail c
   tail-answer : table_verdict t ≡ Ok tt → (a c : List ℕ) → whole c 0 ≡ false → answers_at t (a ++ c) u (length a) ≡ tail_answer (length a) c
@@ -136,8 +136,8 @@ module _ (t : List ℕ) (u : Under) where
       cut = λ p h e w. step_cut t s p u h e w;
       cut-untouched = λ p room w. scratch-cut t u.store s p room w;
       anywhere = anywhere (table_verdict t) refl s;
-      table-first = λ p n q h e. step-20 t s p u n q h (sym e);
-      table-alone = λ n q h e. answers-last t s u 0 (Some (Err (fault_at 20 0))) h (step-20 t s 0 u n q h (sym e));
+      table-first = λ p n q h e. step-20 t s p u (fault_at n q) h (sym e);
+      table-alone = λ n q h e. answers-last t s u 0 (Some (Err (fault_at 20 0))) h (step-20 t s 0 u (fault_at n q) h (sym e));
       moves = λ p h. let x = onward t s u p h in (x.past, x.within);
       step-by-step = answers-on t s u;
       none_left = answers-end t s u;

@@ -1,5 +1,6 @@
 -- A step of the tape, by what the code found.
 use Rattle.schema.specs.declared.Fault.{Fault}
+use Rattle.std.specs.Result.{result_and}
 use Rattle.std.proofs.Common.{Ok, Err, Some, None, Result}
 use Prim.Native.Nat.{ℕ, ◌+◌, ◌-◌, ◌<◌, ◌≤◌}
 use mathlib.Core.Path.{◌≡◌, refl, sym, ap, ◌∙◌}
@@ -10,21 +11,17 @@ use native.Mathlib.Omega.{arith}
 use lib.ListN.{length, take, drop}
 use lib.Dec.{leb}
 use borrow.Author.Tests.{le-leb, lt-leb, leb-true}
-use Rattle.schema.specs.Faults.{fault_at, need}
+use Rattle.schema.specs.Faults.{Verdict, fault_at, need}
 use Rattle.schema.specs.Table.{table_verdict}
 use Rattle.schema.proofs.Depth.{and_both}
 use Rattle.opening.specs.Opening.{accepted, Under, message_verdict, scratch_after, Opened}
 use Rattle.opening.proofs.Laws.{scratch-20, verdict-accepted, verdict-refused}
-use Rattle.tape.specs.Tape.{Answer, span_at, whole, end_of, message_at, answer_of, step_to, tape_step, tape_scratch, handed, handed_from}
+use Rattle.tape.specs.Tape.{span_at, whole, end_of, message_at, step_to, tape_step, tape_scratch, handed, handed_from}
 
--- a message's answer
-pub answer-accepted : (t b k : List ℕ) (u : Under) (w : Result ℕ Fault) (m : ℕ) → w ≡ Ok m → Opened t b u k w → Some (Ok tt) ≡ answer_of (message_verdict t b u)
-unfolding answer_of
-answer-accepted t b k u w m e o = rw (verdict-accepted t b u _ _ (o.opens m e).means)
-
-pub answer-refused : (t b k : List ℕ) (u : Under) (w : Result ℕ Fault) (x p : ℕ) → w ≡ Err (fault_at x p) → Opened t b u k w → Some (Err (fault_at x p)) ≡ answer_of (message_verdict t b u)
-unfolding answer_of
-answer-refused t b k u w x p e o = rw (verdict-refused t b u x p (o.refuses x p e))
+-- a message's verdict
+pub verdict : (t b k : List ℕ) (u : Under) (w : Result ℕ Fault) → Opened t b u k w → result_and w (Ok tt) ≡ message_verdict t b u
+verdict t b k u (Ok n) o = sym (verdict-accepted t b u _ _ (o.opens n refl).means)
+verdict t b k u (Err f) o = sym (verdict-refused t b u f.number f.place (o.refuses f refl))
 
 module _ (s : List ℕ) (p : ℕ) where
   -- whether a whole message stands there
@@ -48,20 +45,20 @@ module _ (s : List ℕ) (p : ℕ) where
   whole-left w = omega (arith, whole-inside w)
 
   -- where it ends, and what is found by that
-  pub end-cut : whole s p ≡ false → p ≡ end_of s p
+  pub end-cut : whole s p ≡ false → None ≡ end_of s p
   unfolding end_of
   end-cut w = rw w
 
-  pub end_whole : whole s p ≡ true → p + span_at s p ≡ end_of s p
+  pub end_whole : whole s p ≡ true → Some (p + span_at s p) ≡ end_of s p
   unfolding end_of
   end_whole w = rw w
 
-  pub no_end : (n : ℕ) → n ≡ end_of s p → n ≤ p → whole s p ≡ false
+  pub no_end : None ≡ end_of s p → whole s p ≡ false
   unfolding end_of
-  no_end n e h = go (whole s p) refl e
+  no_end e = go (whole s p) refl e
     where
-      go : (w : Bool) → whole s p ≡ w → n ≡ cond w (p + span_at s p) p → whole s p ≡ false
-      go true f e = absurd (omega (arith, e, h))
+      go : (w : Bool) → whole s p ≡ w → None ≡ cond w (Some (p + span_at s p)) None → whole s p ≡ false
+      go true f e = absurd (cc)
       go false f e = f
 
   -- the message of the part from p up to n
@@ -71,13 +68,13 @@ module _ (s : List ℕ) (p : ℕ) where
     pub inside : n ≤ length s
     pub bytes : take (n - p) (drop p s) ≡ message_at s p
 
-  pub an-end : (n : ℕ) → n ≡ end_of s p → p < n → Ends n
+  pub an-end : (n : ℕ) → Some n ≡ end_of s p → Ends n
   unfolding end_of
-  an-end n e h = go (whole s p) refl e
+  an-end n e = go (whole s p) refl e
     where
-      go : (w : Bool) → whole s p ≡ w → n ≡ cond w (p + span_at s p) p → Ends n
-      go true f e = record { all = f; here = e; inside = rw e (whole-inside f); bytes = rw (e, add-sub_cancel_left p (span_at s p)) }
-      go false f e = absurd (omega (arith, e, h))
+      go : (w : Bool) → whole s p ≡ w → Some n ≡ cond w (Some (p + span_at s p)) None → Ends n
+      go true f e = let q : n ≡ p + span_at s p = cc in record { all = f; here = q; inside = rw q (whole-inside f); bytes = rw (q, add-sub_cancel_left p (span_at s p)) }
+      go false f e = absurd (cc)
 
   -- what is handed out
   module _ (w : whole s p ≡ false) where
@@ -98,50 +95,39 @@ module _ (s : List ℕ) (p : ℕ) where
     unfolding handed_from
     from_some o = rw w (omega arith)
 
--- at its end a tape has no message
-module _ (s : List ℕ) where
-  none-there : whole s (length s) ≡ false
-  none-there = cut_short s (length s) (omega arith)
-
-  pub nothing-handed : handed s (length s) (Some (Ok tt)) ≡ []
-  nothing-handed = sym (handed-none s (length s) none-there)
-
-  pub nothing-from : (o : ℕ) → o + handed_from s (length s) (Some (Ok tt)) ≡ o + 0
-  nothing-from o = sym (from-none s (length s) none-there o) ∙ omega arith
-
 module _ (t s : List ℕ) (p : ℕ) (u : Under) where
   pub step-ended : length s ≤ p → tape_step t s p u ≡ step_to None p
   unfolding tape_step
   step-ended h = rw (le-leb _ _ h)
 
-  pub step-20 : (n q : ℕ) → p < length s → Err (fault_at n q) ≡ table_verdict t → tape_step t s p u ≡ step_to (Some (Err (fault_at 20 0))) (length s)
+  pub step-20 : (f : Fault) → p < length s → Err f ≡ table_verdict t → tape_step t s p u ≡ step_to (Some (Err (fault_at 20 0))) (length s)
   unfolding tape_step accepted need
-  step-20 n q h e = rw (lt-leb _ _ h, ← e)
+  step-20 f h e = rw (lt-leb _ _ h, ← e)
 
   pub step_cut : p < length s → table_verdict t ≡ Ok tt → whole s p ≡ false → tape_step t s p u ≡ step_to (Some (Err (fault_at 22 p))) (length s)
   unfolding tape_step accepted need
   step_cut h e w = rw (lt-leb _ _ h, e, w)
 
-  pub step-whole : table_verdict t ≡ Ok tt → whole s p ≡ true → tape_step t s p u ≡ step_to (answer_of (message_verdict t (message_at s p) u)) (p + span_at s p)
+  pub step-whole : table_verdict t ≡ Ok tt → whole s p ≡ true → tape_step t s p u ≡ step_to (Some (message_verdict t (message_at s p) u)) (p + span_at s p)
   unfolding tape_step accepted need
   step-whole e w = rw (lt-leb _ _ (whole-left s p w), e, w)
 
   -- as the code has it: the message is the part from p up to n
-  pub step-goes : (n : ℕ) (e : Ends s p n) (a : Answer) → table_verdict t ≡ Ok tt
-      → a ≡ answer_of (message_verdict t (take (n - p) (drop p s)) u) → step_to a n ≡ tape_step t s p u
-  step-goes n e a v x = (λ i. step_to ((x ∙ ap (λ m. answer_of (message_verdict t m u)) e.bytes) i) (e.here i)) ∙ sym (step-whole v e.all)
+  pub step-goes : (n : ℕ) (e : Ends s p n) (v : Verdict) → table_verdict t ≡ Ok tt
+      → v ≡ message_verdict t (take (n - p) (drop p s)) u → step_to (Some v) n ≡ tape_step t s p u
+  step-goes n e v a x = (λ i. step_to (Some ((x ∙ ap (λ m. message_verdict t m u) e.bytes) i)) (e.here i)) ∙ sym (step-whole a e.all)
 
 module _ (t st s : List ℕ) (p : ℕ) (room : List ℕ) where
   pub scratch-cut : whole s p ≡ false → tape_scratch t st s p room ≡ room
   unfolding tape_scratch
   scratch-cut w = rw w
 
-  pub scratch-refused : (n q : ℕ) → Err (fault_at n q) ≡ table_verdict t → tape_scratch t st s p room ≡ room
+  pub scratch-refused : (f : Fault) → Err f ≡ table_verdict t → tape_scratch t st s p room ≡ room
   unfolding tape_scratch
-  scratch-refused n q e = untouched (whole s p)
+  scratch-refused f e = untouched (whole s p)
     where
       untouched : (w : Bool) → cond w (scratch_after t st (message_at s p) room) room ≡ room
-      untouched true = scratch-20 t st (message_at s p) room n q e
+      untouched true = scratch-20 t st (message_at s p) room f e
       untouched false = refl
 
   pub scratch-goes : (n : ℕ) → Ends s p n → tape_scratch t st s p room ≡ scratch_after t st (take (n - p) (drop p s)) room

@@ -10,27 +10,19 @@ use lib.ListN.{length}
 use lib.Dec.{leb}
 use borrow.Author.Tests.{leb-true, leb-false}
 use Rattle.schema.specs.Table.{table_verdict}
-use Rattle.opening.specs.Opening.{Under, under, message_verdict}
+use Rattle.opening.specs.Opening.{Under, under}
 use Rattle.tape.specs.declared.Step.{Step}
-use Rattle.tape.specs.Tape.{Answer, whole, message_at, answer_of, step_to, tape_step, before, answers_from, answers_at}
+use Rattle.tape.specs.Tape.{Answer, whole, step_to, tape_step, before, answers_from, answers_at}
 use Rattle.tape.proofs.Laws.{whole-inside, step-ended, step-20, step_cut, step-whole}
 
 abbrev pub is_end : Answer → Bool
 is_end None = true
-is_end (Some (Ok _)) = false
-is_end (Some (Err f)) = false
-
--- an answer of a message does not end the tape
-answer-no-end : (v : Verdict) → is_end (answer_of v) ≡ false
-unfolding answer_of
-answer-no-end (Ok _) = refl
-answer-no-end (Err f) = refl
+is_end (Some v) = false
 
 pub before-some : (a : Answer) (xs : List Answer) → is_end a ≡ false → before a xs ≡ a ∷ xs
 unfolding before
 before-some None xs e = let z : ◌≡◌ {A = ℕ} 0 1 = cc in absurd (omega arith)
-before-some (Some (Ok _)) xs e = refl
-before-some (Some (Err f)) xs e = refl
+before-some (Some v) xs e = refl
 
 module _ (t s : List ℕ) (u : Under) where
   -- where bytes are left a step answers, moves on, and stays on the tape
@@ -43,9 +35,9 @@ module _ (t s : List ℕ) (u : Under) where
   onward p h = go (table_verdict t) (whole s p) refl refl
     where
       go : (v : Verdict) (w : Bool) → table_verdict t ≡ v → whole s p ≡ w → Onward p
-      go (Err f) w e f = let x = step-20 t s p u f.number f.place h (sym e) in record { answers = rw x; past = rw x h; within = rw x (omega arith) }
+      go (Err r) w e f = let x = step-20 t s p u r h (sym e) in record { answers = rw x; past = rw x h; within = rw x (omega arith) }
       go (Ok _) false e f = let x = step_cut t s p u h e f in record { answers = rw x; past = rw x h; within = rw x (omega arith) }
-      go (Ok _) true e f = let x = step-whole t s p u e f in record { answers = rw x (answer-no-end (message_verdict t (message_at s p) u)); past = rw x (omega arith); within = rw x (whole-inside s p f) }
+      go (Ok _) true e f = let x = step-whole t s p u e f in record { answers = rw x; past = rw x (omega arith); within = rw x (whole-inside s p f) }
 
   -- as many steps as bytes are left, or more, read all of them
   none_left : (n p : ℕ) → length s ≤ p → answers_from n t s u p ≡ []

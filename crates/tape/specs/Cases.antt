@@ -12,7 +12,7 @@ use Rattle.message.specs.Sheet.{mark_bytes, kind_mark, field_mark}
 use Rattle.message.specs.Walk.{prefixed, next, none_r, then_r, marked_r, optional_r, plain_r, inline_r, in_area, locate, onward, indirect_r, text_r, inner_r, items_r, list_r, kind_r, value_r, field_r, fields_r, static_r, extending_r, groups_r, extension_r, extension_in, behind_r, padded, body_r, head_r, group_r, walk}
 use Rattle.settings.specs.Store.{last_of, run, records, sound, ignored_by, governing}
 use Rattle.opening.specs.Opening.{accepted, Under, message_reading, verdict_of, message_verdict}
-use Rattle.tape.specs.Tape.{whole, answer_of, tape_step, before, answers_from, answers_at, tape_answers}
+use Rattle.tape.specs.Tape.{whole, tape_step, before, answers_from, answers_at, tape_answers}
 
 -- Type 5 is u32.
 abbrev bill_table : List ℕ
@@ -41,5 +41,5 @@ pub record Cases : Type 0 where
   pub empty : tape_answers (take 32 bill_table) [] (plainly 25) ≡ []
 
 pub cases : Cases
-unfolding le bytes_of same all_zero zeros after begins follow lowest highest text_from is_valid utf8 need also member passes test_fault text_ok kind_width value_width field_width fields_width fields_of super_of width shallow_kind shallow_fields shallow find known under allows group_marked scalar_width kind_of field_at fields_at values_at group_at enums_from groups_from places_from enums schema places is_enum is_group is_due due_after shape_from shape_verdict rank enum_verdict symbol_verdict group_verdict size_ok reference_ok field_verdict record_verdict records_from records_verdict any_id id_verdict each_group in_bounds widths_verdict begins_with inherits supers_verdict stores_own stored_verdict table_verdict free occupy pads_zero pads_before mark_bytes kind_mark field_mark prefixed next none_r then_r marked_r optional_r plain_r inline_r in_area locate onward indirect_r text_r inner_r items_r list_r kind_r value_r field_r fields_r static_r extending_r groups_r extension_r extension_in behind_r padded body_r head_r group_r walk last_of run records sound ignored_by governing accepted message_reading verdict_of message_verdict whole answer_of tape_step before answers_from answers_at
+unfolding le bytes_of same all_zero zeros after begins follow lowest highest text_from is_valid utf8 need also member passes test_fault text_ok kind_width value_width field_width fields_width fields_of super_of width shallow_kind shallow_fields shallow find known under allows group_marked scalar_width kind_of field_at fields_at values_at group_at enums_from groups_from places_from enums schema places is_enum is_group is_due due_after shape_from shape_verdict rank enum_verdict symbol_verdict group_verdict size_ok reference_ok field_verdict record_verdict records_from records_verdict any_id id_verdict each_group in_bounds widths_verdict begins_with inherits supers_verdict stores_own stored_verdict table_verdict free occupy pads_zero pads_before mark_bytes kind_mark field_mark prefixed next none_r then_r marked_r optional_r plain_r inline_r in_area locate onward indirect_r text_r inner_r items_r list_r kind_r value_r field_r fields_r static_r extending_r groups_r extension_r extension_in behind_r padded body_r head_r group_r walk last_of run records sound ignored_by governing accepted message_reading verdict_of message_verdict whole tape_step before answers_from answers_at
 cases = record { past-the-bad = refl; short-scratch = refl; bad-table = refl; empty = refl }

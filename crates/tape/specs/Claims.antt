@@ -4,7 +4,7 @@ use Rattle.schema.specs.Faults.{fault_at}
 use Rattle.std.specs.Prelude.{Ok, Err, Some, None, ◌≡◌, true, false, List, [], ◌∷◌, ◌++◌, ℕ, ◌+◌, ◌<◌, ◌≤◌, length}
 use Rattle.schema.specs.Table.{table_verdict}
 use Rattle.opening.specs.Opening.{Under, message_verdict}
-use Rattle.tape.specs.Tape.{whole, message_at, answer_of, step_to, tape_step, tape_scratch, handed, answers_at, tape_answers, joined, Measured, own_answers, tail_answer}
+use Rattle.tape.specs.Tape.{whole, message_at, step_to, tape_step, tape_scratch, handed, answers_at, tape_answers, joined, Measured, own_answers, tail_answer}
 
 -- The message b stands at p of the tape s.
 pub record Stands (s : List ℕ) (p : ℕ) (b : List ℕ) : Type 0 where
@@ -22,7 +22,7 @@ pub record TapeClaims (t s : List ℕ) (u : Under) : Type 0 where
   pub own-bytes : (p : ℕ) (b : List ℕ) → Stands s p b → (tape_step t s p u).answer ≡ Some (Ok tt) → handed s p (tape_step t s p u).answer ≡ b
   pub nothing : (p n q : ℕ) → (tape_step t s p u).answer ≡ Some (Err (fault_at n q)) → handed s p (tape_step t s p u).answer ≡ []
   -- "with its check answer"
-  pub answer : (p : ℕ) (b : List ℕ) → Stands s p b → table_verdict t ≡ Ok tt → (tape_step t s p u).answer ≡ answer_of (message_verdict t b u)
+  pub answer : (p : ℕ) (b : List ℕ) → Stands s p b → table_verdict t ≡ Ok tt → (tape_step t s p u).answer ≡ Some (message_verdict t b u)
   -- "A refused message is passed over by its size word", and so is an accepted one.
   pub passes : (p : ℕ) (b : List ℕ) → Stands s p b → table_verdict t ≡ Ok tt → (tape_step t s p u).next ≡ p + length b
   -- "With no bytes left the tape ends without a refusal; once ended, none are left": the reader stays where it is.
@@ -46,4 +46,4 @@ pub record TapeClaims (t s : List ℕ) (u : Under) : Type 0 where
   pub end_to_end : (bs : List (List ℕ)) (c : List ℕ) → Stored s bs c → table_verdict t ≡ Ok tt → tape_answers t s u ≡ own_answers t u bs ++ tail_answer (length (joined bs)) c
   -- So one bad message b changes nothing of the others.
   pub others : (fs : List (List ℕ)) (b : List ℕ) (bs : List (List ℕ)) (c : List ℕ) → Stored s (fs ++ (b ∷ bs)) c → table_verdict t ≡ Ok tt
-      → tape_answers t s u ≡ own_answers t u fs ++ (answer_of (message_verdict t b u) ∷ (own_answers t u bs ++ tail_answer (length (joined (fs ++ (b ∷ bs)))) c))
+      → tape_answers t s u ≡ own_answers t u fs ++ (Some (message_verdict t b u) ∷ (own_answers t u bs ++ tail_answer (length (joined (fs ++ (b ∷ bs)))) c))

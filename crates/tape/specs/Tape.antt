@@ -20,18 +20,13 @@ span_at tape at = 4 + le (part 4 at tape)
 unfoldable pub whole : List ℕ → ℕ → Bool
 whole tape at = leb (at + 4) (length tape) && leb (at + span_at tape at) (length tape)
 
--- Where it ends; the place itself where it is cut off.
-unfoldable pub end_of : List ℕ → ℕ → ℕ
-end_of tape at = cond (whole tape at) (at + span_at tape at) at
+-- Where it ends; nothing where it is cut off.
+unfoldable pub end_of : List ℕ → ℕ → Option ℕ
+end_of tape at = cond (whole tape at) (Some (at + span_at tape at)) None
 
 -- Its bytes.
 abbrev pub message_at : List ℕ → ℕ → List ℕ
 message_at tape at = part (span_at tape at) at tape
-
--- A message's check answer, as the tape's reader gives it.
-unfoldable pub answer_of : Verdict → Answer
-answer_of (Ok _) = Some (Ok tt)
-answer_of (Err f) = Some (Err f)
 
 abbrev pub step_to : Answer → ℕ → Step
 step_to answer next = record { answer = answer; next = next }
@@ -45,7 +40,7 @@ tape_step t tape at u =
     cond (leb (length tape) at) (step_to None at)
     (need (accepted (table_verdict t)) (step_to (Some (Err (fault_at 20 0))) (length tape))
     (need (whole tape at) (step_to (Some (Err (fault_at 22 at))) (length tape))
-    (step_to (answer_of (message_verdict t (message_at tape at) u)) (at + span_at tape at))))
+    (step_to (Some (message_verdict t (message_at tape at) u)) (at + span_at tape at))))
 
 -- The scratch s afterwards: as the message's check leaves it, where there is a whole message.
 unfoldable pub tape_scratch : List ℕ → List ℕ → List ℕ → ℕ → List ℕ → List ℕ
@@ -67,8 +62,7 @@ handed_from tape at (Some (Err f)) = 0
 -- An answer of a message, before those of the rest; none where the tape ended.
 unfoldable pub before : Answer → List Answer → List Answer
 before None xs = []
-before (Some (Ok _)) xs = Some (Ok tt) ∷ xs
-before (Some (Err f)) xs = Some (Err f) ∷ xs
+before (Some v) xs = Some v ∷ xs
 
 -- The answers from a place on, of at most n messages.
 unfoldable pub answers_from : ℕ → List ℕ → List ℕ → Under → ℕ → List Answer
@@ -98,7 +92,7 @@ Measured (b ∷ bs) = (length b ≡ span_at b 0) × Measured bs
 -- Each message's own check answer.
 unfoldable pub own_answers : List ℕ → Under → List (List ℕ) → List Answer
 own_answers t u [] = []
-own_answers t u (b ∷ bs) = answer_of (message_verdict t b u) ∷ own_answers t u bs
+own_answers t u (b ∷ bs) = Some (message_verdict t b u) ∷ own_answers t u bs
 
 -- The answer of a cut tail that starts at a place; none where there is no tail.
 unfoldable pub tail_answer : ℕ → List ℕ → List Answer

@@ -1,10 +1,9 @@
 // A whole tape of messages, stored end to end, read one by one past those that are refused.
 #![tactic(auto)]
 
-ghost use Rattle.std.specs.Prelude.{Ok, Err, Some, ◌≡◌, ℕ, ◌+◌, ◌<◌, List, length};
-ghost use Rattle.schema.specs.Faults.{fault_at};
+ghost use Rattle.std.specs.Prelude.{IfSome, Ok, Err, Some, ◌≤◌, ◌≡◌, ℕ, ◌+◌, ◌<◌, List, length};
 ghost use Rattle.table.specs.Index.{Checked};
-ghost use Rattle.tape.specs.Tape.{end_of, answer_of, step_to, tape_step, tape_scratch, handed, handed_from};
+ghost use Rattle.tape.specs.Tape.{end_of, step_to, tape_step, tape_scratch, handed, handed_from};
 ghost use Rattle.tape.specs.Hands.{Hands};
 ghost use Rattle.opening.specs.Opening.{Under, under, message_verdict, Opened};
 
@@ -14,21 +13,21 @@ use schema::Fault;
 pub type Answer = Option<Result<(), Fault>>;
 
 // An answer, and the place on the tape where the reader goes on.
-#[derive(Clone, Copy)]
+#[derive(Clone, Copy, Debug)]
 pub struct Step {
     pub answer: Answer,
     pub next: usize,
 }
 
 // The tape, and the place on it that the reader has come to. At or behind its end the tape has ended.
-#[derive(Clone, Copy)]
+#[derive(Clone, Copy, Debug)]
 pub struct TapeReader<'a> {
     pub tape: &'a [u8],
     pub at: usize,
 }
 
 // A message's own bytes, the empty part if it is refused, with its answer.
-#[derive(Clone, Copy)]
+#[derive(Clone, Copy, Debug)]
 pub struct TapeMessage<'a> {
     pub bytes: &'a [u8],
     pub answer: Answer,
@@ -36,39 +35,31 @@ pub struct TapeMessage<'a> {
 
 // THE TAPE AND A PLACE
 
-// Where the message at a place ends, by its size word; the place itself where none stands there whole.
-fn end_of(tape: &[u8], at: usize) -> usize
-    ensures { result ≡ end_of tape.now at }
+// Where the message at a place ends, by its size word; none where no message stands there whole.
+fn end_of(tape: &[u8], at: usize) -> Option<usize>
+    ensures value { result ≡ end_of tape.now at }
+    ensures inside { IfSome result (λ end. (at ≤ end) × (end ≤ length tape.now)) }
 {
     if tape.len() < at {
-        return at;
+        return None;
     }
     let left = tape.len() - at;
     if left < 4 {
-        return at;
+        return None;
     }
     let size = wire::read_u32(tape, at);
     if left - 4 < size {
-        return at;
+        return None;
     }
-    at + (4 + size)
+    Some(at + (4 + size))
 }
 
-fn answer_of(walked: Result<usize, Fault>) -> Answer
-    ensures { (t b k : List ℕ) (u : Under) → Opened t b u k walked → result ≡ answer_of (message_verdict t b u) }
-{
-    match walked {
-        Walked::Counted { length } => Answer::Accepted,
-        Walked::Refused { number, place } => Answer::Refused { number, place },
-    }
-}
-
-// An answer that ends the tape.
-fn last(number: u8, place: usize, end: usize) -> Step
-    ensures { result ≡ step_to (Some (Err (fault_at number place))) end }
+// A refusal that ends the tape.
+fn last(fault: Fault, end: usize) -> Step
+    ensures { result ≡ step_to (Some (Err fault)) end }
 {
     Step {
-        answer: Answer::Refused { number, place },
+        answer: Some(Err(fault)),
         next: end,
     }
 }
@@ -87,13 +78,16 @@ pub fn step_under(
     ensures value { result ≡ tape_step table.now tape.now at (under store.now customer (length scratch.old)) }
     ensures scratch_after { scratch.new ≡ tape_scratch table.now store.now tape.now at scratch.old }
 {
-    let next = end_of(tape, at);
-    if next <= at {
-        return last(22, at, tape.len());
-    }
-    let walked = opening::open_under(table, index, store, customer, &tape[at..next], scratch);
+    let Some(next) = end_of(tape, at) else {
+        let cut = Fault {
+            number: 22,
+            place: at,
+        };
+        return last(cut, tape.len());
+    };
+    let opened = opening::open_under(table, index, store, customer, &tape[at..next], scratch);
     Step {
-        answer: answer_of(walked),
+        answer: Some(opened.and(Ok(()))),
         next,
     }
 }
@@ -112,16 +106,19 @@ pub fn step_at(
 {
     if tape.len() <= at {
         return Step {
-            answer: Answer::Ended,
+            answer: None,
             next: at,
         };
     }
     let mut index = [0u16; 322];
-    let v = table::index_table(table, &mut index);
-    match v {
-        Verdict::Accepted => step_under(table, &index, store, customer, tape, at, scratch),
-        Verdict::Refused { number, place } => last(20, 0, tape.len()),
-    }
+    let Ok(()) = table::index_table(table, &mut index) else {
+        let refused = Fault {
+            number: 20,
+            place: 0,
+        };
+        return last(refused, tape.len());
+    };
+    step_under(table, &index, store, customer, tape, at, scratch)
 }
 
 // The bytes of the message at a place; the empty part where none stands there whole.
@@ -130,55 +127,52 @@ fn message_at<'a>(tape: &'a [u8], at: usize) -> &'a [u8]
     ensures block { result.ref_ptr.0 ≡ tape.entry.ref_ptr.0 }
     ensures offset { result.ref_ptr.1 ≡ tape.entry.ref_ptr.1 + handed_from tape.now at (Some (Ok tt)) }
 {
-    let end = end_of(tape, at);
-    if end <= at {
+    let Some(end) = end_of(tape, at) else {
         return &tape[0..0];
-    }
+    };
     &tape[at..end]
 }
 
-// What is handed out with an answer: at its end a tape has no message.
+// What is handed out with an answer: the message where it is accepted.
 pub fn part_at<'a>(tape: &'a [u8], at: usize, answer: Answer) -> &'a [u8]
     ensures what { result.now ≡ handed tape.now at answer }
     ensures block { result.ref_ptr.0 ≡ tape.entry.ref_ptr.0 }
     ensures offset { result.ref_ptr.1 ≡ tape.entry.ref_ptr.1 + handed_from tape.now at answer }
 {
-    let end = tape.len();
     match answer {
-        Answer::Ended => message_at(tape, end),
-        Answer::Accepted => message_at(tape, at),
-        Answer::Refused { number, place } => message_at(tape, end),
+        Some(Ok(())) => message_at(tape, at),
+        Some(Err(_)) => &tape[0..0],
+        None => &tape[0..0],
     }
 }
 
 // THE READER
 
-// A reader at the tape's start.
-pub fn new<'a>(tape: &'a [u8]) -> TapeReader<'a>
-    ensures { (result.tape ≡ tape.entry) × (result.at ≡ 0) }
-{
-    TapeReader { tape, at: 0 }
-}
+impl<'a> TapeReader<'a> {
+    // A reader at the tape's start.
+    pub fn new(tape: &'a [u8]) -> Self
+        ensures { (result.tape ≡ tape.entry) × (result.at ≡ 0) }
+    {
+        TapeReader { tape, at: 0 }
+    }
 
-fn message_of<'a>(bytes: &'a [u8], answer: Answer) -> TapeMessage<'a>
-    ensures { (result.bytes ≡ bytes.entry) × (result.answer ≡ answer) }
-{
-    TapeMessage { bytes, answer }
-}
-
-// Hands out the next message's own bytes, the empty part if it is refused, with its answer, and moves on.
-pub fn next_message<'s, 'a>(
-    reader: &'s mut TapeReader<'a>,
-    table: &[u8],
-    store: &[u8],
-    customer: u16,
-    scratch: &mut [u8],
-) -> TapeMessage<'a>
-    ensures { Hands (tape_step table.now reader.old.tape.now reader.old.at (under store.now customer (length scratch.old))) reader.old result reader.new × (scratch.new ≡ tape_scratch table.now store.now reader.old.tape.now reader.old.at scratch.old) }
-{
-    let tape = reader.tape;
-    let at = reader.at;
-    let step = step_at(table, store, customer, tape, at, scratch);
-    reader.at = step.next;
-    message_of(part_at(tape, at, step.answer), step.answer)
+    // Hands out the next message's own bytes, the empty part if it is refused, with its answer, and moves on.
+    pub fn next_message(
+        &mut self,
+        table: &[u8],
+        store: &[u8],
+        customer: u16,
+        scratch: &mut [u8],
+    ) -> TapeMessage<'a>
+        ensures { Hands (tape_step table.now self.old.tape.now self.old.at (under store.now customer (length scratch.old))) self.old result self.new × (scratch.new ≡ tape_scratch table.now store.now self.old.tape.now self.old.at scratch.old) }
+    {
+        let tape = self.tape;
+        let at = self.at;
+        let Step { answer, next } = step_at(table, store, customer, tape, at, scratch);
+        self.at = next;
+        TapeMessage {
+            bytes: part_at(tape, at, answer),
+            answer,
+        }
+    }
 }

@@ -34,7 +34,7 @@ pub struct Part {
 }
 
 // An item's number. A float's bits may be a NaN's, of which a float keeps no more than that it is one.
-#[derive(Clone, Copy)]
+#[derive(Clone, Copy, Debug, PartialEq)]
 pub enum Number {
     Signed(i64),
     Unsigned(u64),

@@ -37,7 +37,7 @@ not-zero (refuses f l) p e = let z : f ≡ fault_at 0 p = cc in let k : 1 ≤ 0 
 pub tested : {A : Type 0} (c : Bool) (n p : ℕ) {v : Result A Fault} → 1 ≤ n → Numbered v → Numbered (need c (Err (fault_at n p)) v)
 tested c n p l x = in-need Numbered c (refuses (fault_at n p) l) x
 
-pub numbered-also : {v w : Verdict} → Numbered v → Numbered w → Numbered (also v w)
+pub numbered-also : {A : Type 0} {v : Verdict} {w : Result A Fault} → Numbered v → Numbered w → Numbered (also v w)
 unfolding also
 numbered-also (accepts x) y = y
 numbered-also (refuses f l) y = refuses f l

@@ -20,7 +20,7 @@ unfoldable pub need : {X : Type 0} → Bool → X → X → X
 need true fault k = k
 need false fault k = fault
 
--- One check and then another.
-unfoldable pub also : Verdict → Verdict → Verdict
-also (Ok _) v = v
-also (Err f) v = Err f
+-- One check, and then another or an answer.
+unfoldable pub also : {A : Type 0} → Verdict → Result A Fault → Result A Fault
+also (Ok _) x = x
+also (Err f) x = Err f

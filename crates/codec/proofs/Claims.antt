@@ -3,7 +3,6 @@ use Rattle.std.proofs.Common.{Ok}
 use Prim.Native.Nat.{ℕ, ◌+◌, ◌<◌, ◌≤◌}
 use mathlib.Core.Path.{◌≡◌, refl, sym, ap, ◌∙◌, subst}
 use mathlib.Core.List.{List, []}
-use native.Mathlib.Omega.{arith}
 use lib.ListN.{length}
 use Rattle.schema.specs.Schema.{fields_of, width, find}
 use Rattle.schema.specs.Table.{schema, table_verdict}
@@ -25,7 +24,7 @@ use Rattle.reading.proofs.Listed as lists
 use Rattle.reading.proofs.Opened.{OwnRead, item-read}
 use Rattle.sheet.proofs.RoundTrip.{means-walk}
 use Rattle.opening.specs.Opening.{Under, under, message_reading, message_verdict, verdict_of, scratch_after}
-use Rattle.codec.specs.Answers.{to_sheet, to_message, rewriting, number_answer, part_answer, bytes_verdict, span_answer, message_type, front_answer}
+use Rattle.codec.specs.Answers.{to_sheet, to_message, rewriting, number_answer, part_answer, bytes_verdict, message_type, front_answer}
 use Rattle.codec.specs.Demands.{Means}
 use Rattle.opening.proofs.Laws.{reading-under}
 use Rattle.codec.specs.Claims.{Below, SameAnswers, Reads, Claims}
@@ -74,7 +73,6 @@ module _ (t u : List ℕ) (a : table_verdict t ≡ Ok tt) (b : table_verdict u �
     number = λ m x f i. unfold number_answer in rw (same-verdict m x, s);
     bytes = λ m x f i. unfold part_answer in rw (same-verdict m x, s);
     bytes-verdict = λ m x f i. unfold bytes_verdict in rw (same-verdict m x, s);
-    span = λ m x f i. unfold span_answer in rw (same-verdict m x, s);
     shape = λ id n. unfold field_shape in rw (a, b, s);
     fields = same-fields;
     type = same-type;
@@ -108,7 +106,7 @@ part-inside t b u f i p n e = go (message_reading t b u) refl
   where
     go : (r : Reading) → message_reading t b u ≡ r → p + n ≤ length b
     go (done s m) d = found.part-inside (setting u) t b (s, m, walks t b u s m d) f i (part_answer t b u f i) (part-read t b u f i s m d) p n e
-    go (refused k q) d = let x = part-refused t b u f i k q d in let z : ◌≡◌ {A = ℕ} 0 1 = cc in absurd (omega arith)
+    go (refused k q) d = let x = part-refused t b u f i k q d in absurd (cc)
 
 pub claims : Claims
 claims = record {

@@ -41,7 +41,7 @@ use Rattle.sheet.specs.Rewritten.{Rooms, Enough, sheet_in, onward, rewritten}
 use Rattle.sheet.specs.Canonical as canonical
 use Rattle.sheet.proofs.RoundTrip as trip
 use Rattle.opening.specs.Opening.{accepted, Under, under, message_reading, verdict_of, message_verdict}
-use Rattle.codec.specs.Answers.{room_after, to_sheet, to_message, rewriting, number_under, number_answer, part_under, part_answer, bytes_verdict}
+use Rattle.codec.specs.Answers.{room_after, to_sheet, to_message, rewriting, number_answer, part_answer, bytes_verdict}
 use Rattle.codec.specs.Demands.{Demand1, Means, Makes, Demand2, OneForm, Demand3, Demands}
 use Rattle.codec.proofs.Numbered.{numbered}
 use Rattle.opening.proofs.Laws.{sized, reading-under, strictest}
@@ -53,11 +53,11 @@ refused-room : (x : Writing) (n p : ℕ) (room : List ℕ) → x ≡ stopped n p
 unfolding room_after
 refused-room x n p room e = rw e
 
-no_part : (v : Verdict) (x : Result Part Fault) (b : List ℕ) (n p : ℕ) → also v (part.verdict_of x) ≡ Err (fault_at n p) → bytes_in b (part_under v x) ≡ []
-unfolding also part.verdict_of bytes_in part_under
-no_part (Ok _) (Err f) b n p e = refl
-no_part (Ok _) (Ok x) b n p e = let z : ◌≡◌ {A = ℕ} 0 1 = cc in absurd (omega arith)
-no_part (Err f) x b n p e = refl
+no_part : (v : Verdict) (x : Result Part Fault) (b : List ℕ) (f : Fault) → also v (part.verdict_of x) ≡ Err f → bytes_in b (also v x) ≡ []
+unfolding also part.verdict_of bytes_in
+no_part (Ok _) (Err g) b f e = refl
+no_part (Ok _) (Ok x) b f e = absurd (cc)
+no_part (Err g) x b f e = refl
 
 -- a message that was read: its table passes, and so does the store
 pub opened : (t b : List ℕ) (u : Under) (s m : List ℕ) → message_reading t b u ≡ done s m → (table_verdict t ≡ Ok tt) × (sound u.store ≡ true)
@@ -69,16 +69,16 @@ opened t b u s m e =
   where
     is-accepted : (v : Verdict) → accepted v ≡ true → v ≡ Ok tt
     is-accepted (Ok _) e = refl
-    is-accepted (Err f) e = unfold accepted in let z : ◌≡◌ {A = ℕ} 0 1 = cc in absurd (omega arith)
+    is-accepted (Err f) e = unfold accepted in absurd (cc)
 
 sheet-done : (room : ℕ) (x : Reading) (s D r : List ℕ) → sheet_in room x ≡ wrote s D r → (m : List ℕ) × (x ≡ done s m)
 unfolding sheet_in
-sheet-done room (refused n p) s D r e = let z : ◌≡◌ {A = ℕ} 0 1 = cc in absurd (omega arith)
+sheet-done room (refused n p) s D r e = absurd (cc)
 sheet-done room (done s' m) s D r e = go (leb (length s') room) e
   where
     go : (c : Bool) → need c (stopped 46 0) (wrote s' [] []) ≡ wrote s D r → (m' : List ℕ) × (done s' m ≡ done s m')
     go true e = unfold need in let q : s' ≡ s = cc in (m, ap (λ (y : List ℕ). done y m) q)
-    go false e = unfold need in let z : ◌≡◌ {A = ℕ} 0 1 = cc in absurd (omega arith)
+    go false e = unfold need in absurd (cc)
 
 -- an allowed sheet is refused for room alone
 only-47 : (gs : List Group) (s X : List ℕ) → sheet_w gs s ≡ wrote X [] [] → (room n p : ℕ) → written gs room s ≡ stopped n p → (n ≡ 47) × (p ≡ 0)
@@ -86,7 +86,7 @@ unfolding written fitted
 only-47 gs s X m room n p w = go (leb (length X) room && leb (length X) 65536) (rw m at w)
   where
     go : (c : Bool) → need c (stopped 47 0) (wrote X [] []) ≡ stopped n p → (n ≡ 47) × (p ≡ 0)
-    go true q = unfold need in let z : ◌≡◌ {A = ℕ} 0 1 = cc in absurd (omega arith)
+    go true q = unfold need in absurd (cc)
     go false q = unfold need in let a : n ≡ 47 = cc in let b : p ≡ 0 = cc in (a, b)
 
 then-room : (t b st : List ℕ) (c n p : ℕ) (rooms : Rooms) (s D r : List ℕ) → to_sheet t b (under st c rooms.scratch) rooms.sheet ≡ wrote s D r
@@ -102,10 +102,10 @@ then-room t b st c n p rooms s D r e f =
     only-47 (schema t) s X made rooms.output n p (rw e at f)
 
 demand1 : (t b s : List ℕ) (u : Under) → Demand1 t b s u
-unfolding number_answer number_under bytes_verdict part_answer
+unfolding number_answer also bytes_verdict part_answer
 demand1 t b s u = record {
   no_number = λ n p e field item. rw e;
-  no_bytes = λ field item n p e. no_part (message_verdict t b u) _ b n p e;
+  no_bytes = λ field item n p e. no_part (message_verdict t b u) _ b (fault_at n p) e;
   no-sheet = λ n p room e. refused-room _ n p room e;
   no-message = λ n p output e. refused-room _ n p output e;
   no-rewriting = λ st c n p rooms output e. refused-room _ n p output e;
@@ -123,7 +123,7 @@ proper t e =
 
 done-is : (x : Reading) → verdict_of x ≡ Ok tt → (s : List ℕ) × (m : List ℕ) × (x ≡ done s m)
 unfolding verdict_of
-done-is (refused n p) e = let z : ◌≡◌ {A = ℕ} 0 1 = cc in absurd (omega arith)
+done-is (refused n p) e = absurd (cc)
 done-is (done s m) e = (s, m, refl)
 
 is-done : (x : Reading) → (s : List ℕ) × (m : List ℕ) × (x ≡ done s m) → verdict_of x ≡ Ok tt
@@ -173,7 +173,7 @@ module _ (t st : List ℕ) (c : ℕ) (e : table_verdict t ≡ Ok tt) (pass : sto
 
   answers : (b s : List ℕ) → Means t st c b s → (scratch : ℕ) → length b ≤ scratch → (n i : ℕ)
       → (number_answer t b (under st c scratch) n i ≡ number_at b (item_of gs b n i)) × (part_answer t b (under st c scratch) n i ≡ part_at b (item_of gs b n i))
-  unfolding number_answer part_answer message_verdict verdict_of number_under part_under
+  unfolding number_answer part_answer message_verdict verdict_of also
   answers b s M scratch h n i = rw (M scratch h) (refl, refl)
 
   reads-back : (s X Y r : List ℕ) (room : ℕ) → to_message t s room ≡ wrote X Y r → (length X ≤ room) × Means t st c X s

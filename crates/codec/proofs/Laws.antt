@@ -31,14 +31,14 @@ use Rattle.reading.specs.Part.{part_at}
 use Rattle.reading.specs.Part as parts
 use Rattle.opening.specs.Opening.{accepted, Under, message_reading, Known}
 use Rattle.opening.proofs.Laws.{sized, reading-under, verdict-accepted, verdict-refused}
-use Rattle.codec.specs.Answers.{written_of, room_after, Writes, to_sheet, to_message, Allowed, Within, number_under, number_answer, part_under, part_answer, bytes_verdict, span_of, span_under, span_answer, type_under, message_type, front_under, front_answer, front_in}
+use Rattle.codec.specs.Answers.{written_of, room_after, Writes, to_sheet, to_message, Allowed, Within, number_answer, part_answer, bytes_verdict, message_type, front_under, front_answer, front_in}
 
 -- MESSAGE TO SHEET
 
 -- what a question that writes answers, and what it leaves in its room
-pub writes_nothing : (x : Writing) (n p : ℕ) (room : List ℕ) → x ≡ stopped n p → Writes x (Err (fault_at n p)) room room
+pub writes_nothing : (x : Writing) (f : Fault) (room : List ℕ) → x ≡ stopped f.number f.place → Writes x (Err f) room room
 unfolding written_of room_after
-writes_nothing x n p room e = (rw e, rw e)
+writes_nothing x f room e = (rw e, rw e)
 
 pub writes-it : (x : Writing) (X : List ℕ) (n : ℕ) (before left : List ℕ) → x ≡ wrote X [] [] → n ≡ length X → left ≡ splice (length X) 0 X before → Writes x (Ok n) before left
 unfolding written_of room_after
@@ -61,26 +61,26 @@ module _ (t b : List ℕ) (u : Under) (room : ℕ) where
 -- SHEET TO MESSAGE
 
 module _ (gs : List Group) (ok : Sized gs) (s : List ℕ) where
-  pub parsed-refuses : (n p : ℕ) → Err (fault_at n p) ≡ parsed_of (sheet_w gs s) → sheet_w gs s ≡ stopped n p
-  parsed-refuses n p = go (sheet_w gs s)
+  pub parsed-refuses : (f : Fault) → Err f ≡ parsed_of (sheet_w gs s) → sheet_w gs s ≡ stopped f.number f.place
+  parsed-refuses f = go (sheet_w gs s)
     where
-      go : (x : Writing) → Err (fault_at n p) ≡ parsed_of x → x ≡ stopped n p
-      go (stopped n' p') e = unfold parsed_of in cc
-      go (wrote X D r) e = unfold parsed_of in let z : ◌≡◌ {A = ℕ} 0 1 = cc in absurd (omega arith)
+      go : (x : Writing) → Err f ≡ parsed_of x → x ≡ stopped f.number f.place
+      go (stopped n p) e = unfold parsed_of in cc
+      go (wrote X D r) e = unfold parsed_of in absurd (cc)
 
   pub parsed-allows : (n : ℕ) → Ok n ≡ parsed_of (sheet_w gs s) → Allowed gs s n
   parsed-allows n e = go (sheet_w gs s) refl e
     where
       go : (x : Writing) → sheet_w gs s ≡ x → Ok n ≡ parsed_of x → Allowed gs s n
-      go (stopped n' p) w e = unfold parsed_of in let z : ◌≡◌ {A = ℕ} 0 1 = cc in absurd (omega arith)
+      go (stopped k p) w e = unfold parsed_of in absurd (cc)
       go (wrote X D r) w e = unfold parsed_of in
           let g = trip.write_read gs ok strict s X D r w in
           let l : capped (length X) ≡ n = cc in
           record { message = X; makes = w ∙ let a = g.alone in let b = g.whole in cc; long = l }
 
-pub message-20 : (t : List ℕ) (n p : ℕ) → Err (fault_at n p) ≡ table_verdict t → (s : List ℕ) (room : ℕ) → to_message t s room ≡ stopped 20 0
+pub message-20 : (t : List ℕ) (f : Fault) → Err f ≡ table_verdict t → (s : List ℕ) (room : ℕ) → to_message t s room ≡ stopped 20 0
 unfolding to_message accepted need
-message-20 t n p e s room = rw (← e)
+message-20 t f e s room = rw (← e)
 
 pub message-under : (t : List ℕ) → table_verdict t ≡ Ok tt → (s : List ℕ) (room : ℕ) → to_message t s room ≡ written (schema t) room s
 unfolding to_message accepted need
@@ -130,10 +130,10 @@ known-within t b u k n K =
     let x = trip.read-write (schema t) (sized t K.table) _ b K.sheet M in
     record { message = x.0; makes = x.1; most = x.2; small = K.small }
 
-pub unwritten : (x : Writing) (n p : ℕ) → Err (fault_at n p) ≡ written_of x → x ≡ stopped n p
+pub unwritten : (x : Writing) (f : Fault) → Err f ≡ written_of x → x ≡ stopped f.number f.place
 unfolding written_of
-unwritten (stopped n' p') n p e = cc
-unwritten (wrote X D r) n p e = let z : ◌≡◌ {A = ℕ} 0 1 = cc in absurd (omega arith)
+unwritten (stopped n p) f e = cc
+unwritten (wrote X D r) f e = absurd (cc)
 
 -- what message to sheet has written, as a part of the room
 pub record Shown (t b : List ℕ) (u : Under) (s before left : List ℕ) (n : ℕ) : Type 0 where
@@ -157,7 +157,7 @@ shown t b u s e n before left r is (w, l) = go (leb (length s) (length before)) 
           inside = omega (arith, k, fits, ap length l, length-splice (length s) 0 s before room refl);
           here = rw (k, l) (part-splice (length s) 0 s before room refl);
         }
-    go false q w l = unfold need written_of in let z : ◌≡◌ {A = ℕ} 0 1 = cc in absurd (omega arith)
+    go false q w l = unfold need written_of in absurd (cc)
 
 module _ (t b : List ℕ) (u : Under) (room output : ℕ) where
   pub onward-refused : (n p : ℕ) → to_sheet t b u room ≡ stopped n p → onward (schema t) output (to_sheet t b u room) ≡ stopped n p
@@ -173,47 +173,39 @@ module _ (t b : List ℕ) (u : Under) (room output : ℕ) where
 module _ (t b : List ℕ) (u : Under) (f i : ℕ) where
   module _ (s m : List ℕ) (e : message_reading t b u ≡ done s m) where
     pub number_read : number_answer t b u f i ≡ number_at b (item_of (schema t) b f i)
-    unfolding number_answer number_under
+    unfolding number_answer also
     number_read = rw (verdict-accepted t b u s m e)
 
     pub part-read : part_answer t b u f i ≡ part_at b (item_of (schema t) b f i)
-    unfolding part_answer part_under
+    unfolding part_answer also
     part-read = rw (verdict-accepted t b u s m e)
 
     pub bytes_read : bytes_verdict t b u f i ≡ parts.verdict_of (part_at b (item_of (schema t) b f i))
     unfolding bytes_verdict also
     bytes_read = rw (verdict-accepted t b u s m e)
 
-    pub span-read : span_answer t b u f i ≡ span_of (part_at b (item_of (schema t) b f i))
-    unfolding span_answer span_under
-    span-read = rw (verdict-accepted t b u s m e)
-
   module _ (n p : ℕ) (e : message_reading t b u ≡ refused n p) where
     pub number-refused : number_answer t b u f i ≡ Err (fault_at n p)
-    unfolding number_answer number_under
+    unfolding number_answer also
     number-refused = rw (verdict-refused t b u n p e)
 
-    pub part-refused : part_answer t b u f i ≡ Err (fault_at n 0)
-    unfolding part_answer part_under
+    pub part-refused : part_answer t b u f i ≡ Err (fault_at n p)
+    unfolding part_answer also
     part-refused = rw (verdict-refused t b u n p e)
 
     pub bytes-refused : bytes_verdict t b u f i ≡ Err (fault_at n p)
     unfolding bytes_verdict also
     bytes-refused = rw (verdict-refused t b u n p e)
 
-    pub span-refused : span_answer t b u f i ≡ Err (fault_at n p)
-    unfolding span_answer span_under
-    span-refused = rw (verdict-refused t b u n p e)
-
 -- THE TYPE OF A MESSAGE, AND ITS FIRST FIELDS
 
 module _ (t b : List ℕ) (u : Under) where
   pub type-read : (s m : List ℕ) → message_reading t b u ≡ done s m → message_type t b u ≡ Ok (type_id b)
-  unfolding message_type type_under
+  unfolding message_type also
   type-read s m e = rw (verdict-accepted t b u s m e)
 
   pub type-refused : (n p : ℕ) → message_reading t b u ≡ refused n p → message_type t b u ≡ Err (fault_at n p)
-  unfolding message_type type_under
+  unfolding message_type also
   type-refused n p e = rw (verdict-refused t b u n p e)
 
   pub front_read : (id : ℕ) (x s m : List ℕ) → table_verdict t ≡ Ok tt → message_reading t b u ≡ done s m → front_answer t b u id x ≡ front_in (schema t) b id x
@@ -234,6 +226,6 @@ module _ (gs : List Group) (b : List ℕ) (id k : ℕ) (x : List ℕ) (own : k �
   unfolding front_in need
   other-fields n = rw (n, and-false)
 
-  pub front-is : k ≡ id → has_under gs id x ≡ true → Ok (Some (record { first = (part_at b (item_of gs b 0 0)); second = (number_at b (item_of gs b 1 0)); third = (number_at b (item_of gs b 2 0)); fourth = (number_at b (item_of gs b 3 0)) })) ≡ front_in gs b id x
+  pub front-is : k ≡ id → has_under gs id x ≡ true → Ok (Some (record { first = part_at b (item_of gs b 0 0); second = number_at b (item_of gs b 1 0); third = number_at b (item_of gs b 2 0); fourth = number_at b (item_of gs b 3 0) })) ≡ front_in gs b id x
   unfolding front_in need
   front-is e h = rw (← own, eq-eqb k id e, h)

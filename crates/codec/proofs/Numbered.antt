@@ -1,15 +1,13 @@
 -- No refusal of a public question has the number 0.
-use Rattle.settings.specs.declared.Ignored.{Ignored}
 use Rattle.schema.specs.declared.Fault.{Fault}
-use Rattle.schema.specs.Faults.{Verdict}
-use Rattle.std.proofs.Common.{Ok, Err, Some, None, Result, Option}
+use Rattle.schema.specs.Faults.{Verdict, fault_at}
+use Rattle.std.proofs.Common.{Ok, Err, Result}
 use Prim.Native.Nat.{ℕ, zero, suc, ◌≤◌}
-use mathlib.Core.Path.{◌≡◌, subst}
+use mathlib.Core.Path.{◌≡◌}
 use mathlib.Core.Bool.{Bool, ◌&&◌}
 use mathlib.Core.List.{List, [], ◌∷◌}
 use native.Mathlib.Omega.{arith}
 use lib.Dec.{eqb}
-use lib.Ieee.{nan_bits, binary64}
 use Rattle.schema.specs.Schema.{member, Kind, plain, inline, indirect, static, dynamic, Field, Group}
 use Rattle.schema.specs.Table.{schema}
 use Rattle.fields.specs.declared.FieldShape.{FieldShape}
@@ -20,15 +18,13 @@ use Rattle.sheet.specs.Written.{Writing, stopped}
 use Rattle.sheet.specs.Rewritten.{sheet_in}
 use Rattle.sheet.specs.Rewritten as rewritten
 use Rattle.reading.specs.declared.Number.{Number}
-use Rattle.reading.specs.declared.Number.TheVariants.{Signed, Unsigned, Bool as Flag, Decimal, Float, NanBits}
 use Rattle.reading.specs.declared.Part.{Part}
 use Rattle.reading.specs.Item.{Item, missing, item, sequence_item, value_item, field_item, item_from, item_of}
-use Rattle.reading.specs.Number.{unsigned_types, signed_types, float_of, decimal_of, number_of, number_at}
+use Rattle.reading.specs.Number.{unsigned_types, signed_types, number_of, number_at}
 use Rattle.reading.specs.Part.{part_of, part_at}
 use Rattle.reading.specs.Part as parts
-use Rattle.codec.specs.declared.Front.{Front}
 use Rattle.opening.specs.Opening.{Under, message_reading, verdict_of, message_verdict}
-use Rattle.codec.specs.Answers.{to_sheet, to_message, rewriting, number_under, number_answer, bytes_verdict, span_of, span_under, span_answer, type_under, message_type, front_under, front_answer}
+use Rattle.codec.specs.Answers.{to_sheet, to_message, rewriting, number_answer, part_answer, bytes_verdict, message_type, front_under, front_answer}
 use Rattle.codec.specs.Demands.{Numbered as AllNumbered}
 use Rattle.schema.proofs.Numbered.{in-need, in-cond, Numbered, accepts, refuses, not-zero, tested, numbered-also, table}
 use Rattle.meaning.proofs.Numbered.{NumberedR, reads, refuses_r, read, message}
@@ -46,104 +42,54 @@ item-from sw [] b at n i = omega arith
 item-from sw (f ∷ fs) b at zero i = in-need NumberedI _ (omega arith) (in-cond NumberedI f.sequence (in-need NumberedI _ (omega arith) tt) (in-need NumberedI _ (omega arith) tt))
 item-from sw (f ∷ fs) b at (suc n) i = item-from sw fs b _ n i
 
-abbrev NumberedN : Result Number Fault → Type 0
-NumberedN (Signed x) = Unit
-NumberedN (Unsigned x) = Unit
-NumberedN (Flag x) = Unit
-NumberedN (Decimal e x) = Unit
-NumberedN (Float x) = Unit
-NumberedN (NanBits x) = Unit
-NumberedN (Err f) = 1 ≤ f.number
-
-float : (n : ℕ) → NumberedN (float_of n)
-unfolding float_of
-float n = in-cond NumberedN (nan_bits binary64 n) tt tt
-
-number-at : (b : List ℕ) (x : Item) → NumberedI x → NumberedN (number_at b x)
-unfolding number_at number_of decimal_of
-number-at b (missing n) l = l
+number-at : (b : List ℕ) (x : Item) → NumberedI x → Numbered (number_at b x)
+unfolding number_at number_of
+number-at b (missing n) l = refuses _ l
 number-at b (item f p) l =
-    in-cond NumberedN (member f.type unsigned_types) tt (in-cond NumberedN (member f.type signed_types) tt (in-cond NumberedN (eqb f.type 9) (float _)
-    (in-cond NumberedN (eqb f.type 10) tt (in-cond NumberedN (eqb f.type 11) tt (omega arith)))))
+    in-cond Numbered (member f.type unsigned_types) (accepts _) (in-cond Numbered (member f.type signed_types) (accepts _) (in-cond Numbered (eqb f.type 9) (accepts _)
+    (in-cond Numbered (eqb f.type 10) (accepts _) (in-cond Numbered (eqb f.type 11) (accepts _) (refuses _ (omega arith))))))
 
-number-under : (v : Verdict) (x : Result Number Fault) → Numbered v → NumberedN x → NumberedN (number_under v x)
-unfolding number_under
-number-under (Ok _) x a l = l
-number-under (Err f) x (refuses a) l = a
-
-abbrev NumberedP : Result Part Fault → Type 0
-NumberedP (Err f) = 1 ≤ f.number
-NumberedP (Ok x) = Unit
-
-part-at : (b : List ℕ) (x : Item) → NumberedI x → NumberedP (part_at b x)
+part-at : (b : List ℕ) (x : Item) → NumberedI x → Numbered (part_at b x)
 unfolding part_at
-part-at b (missing n) l = l
+part-at b (missing n) l = refuses _ l
 part-at b (item f p) l = go f.kind
   where
-    go : (k : Kind) → NumberedP (part_of f.type k b p)
-    go (plain w x) = unfold part_of in in-cond NumberedP (eqb f.type 19) tt (omega arith)
-    go (inline u c) = unfold part_of in tt
-    go (indirect u) = unfold part_of in tt
-    go (static g) = unfold part_of in omega arith
-    go (dynamic g) = unfold part_of in tt
+    go : (k : Kind) → Numbered (part_of f.type k b p)
+    go (plain w x) = unfold part_of in in-cond Numbered (eqb f.type 19) (accepts _) (refuses (fault_at 48 0) (omega arith))
+    go (inline u c) = unfold part_of in accepts _
+    go (indirect u) = unfold part_of in accepts _
+    go (static g) = unfold part_of in refuses (fault_at 48 0) (omega arith)
+    go (dynamic g) = unfold part_of in accepts _
 
-part-verdict : (x : Result Part Fault) → NumberedP x → Numbered (parts.verdict_of x)
+part-verdict : {x : Result Part Fault} → Numbered x → Numbered (parts.verdict_of x)
 unfolding parts.verdict_of
-part-verdict (Err f) l = refuses l
-part-verdict (Ok x) l = accepts
-
-abbrev NumberedS : Result Part Fault → Type 0
-NumberedS (Ok x) = Unit
-NumberedS (Err f) = 1 ≤ f.number
-
-span-under : (v : Verdict) (x : Result Part Fault) → Numbered v → NumberedP x → NumberedS (span_under v x)
-unfolding span_under span_of
-span-under (Ok _) (Err f) a l = l
-span-under (Ok _) (Ok x) a l = tt
-span-under (Err f) x (refuses a) l = a
+part-verdict (accepts x) = accepts tt
+part-verdict (refuses f l) = refuses f l
 
 -- A GROUP'S FIELDS, AND A MESSAGE'S FIRST
 
-abbrev NumberedF : Result FieldShape Fault → Type 0
-NumberedF (Ok x) = Unit
-NumberedF (Err f) = 1 ≤ f.number
-
-shape-in : (fs : List Field) (n : ℕ) → NumberedF (shape_in fs n)
+shape-in : (fs : List Field) (n : ℕ) → Numbered (shape_in fs n)
 unfolding shape_in
-shape-in [] n = omega arith
-shape-in (f ∷ fs) zero = tt
+shape-in [] n = refuses _ (omega arith)
+shape-in (f ∷ fs) zero = accepts _
 shape-in (f ∷ fs) (suc n) = shape-in fs n
 
-shape-after : (v : Verdict) (x : Result FieldShape Fault) → NumberedF x → NumberedF (shape_after v x)
+shape-after : (v : Verdict) {x : Result FieldShape Fault} → Numbered x → Numbered (shape_after v x)
 unfolding shape_after
-shape-after (Ok _) x l = l
-shape-after (Err f) x l = omega arith
+shape-after (Ok _) a = a
+shape-after (Err f) a = refuses _ (omega arith)
 
-abbrev NumberedT : Result ℕ Fault → Type 0
-NumberedT (Ok k) = Unit
-NumberedT (Err f) = 1 ≤ f.number
-
-type-under : (v : Verdict) (b : List ℕ) → Numbered v → NumberedT (type_under v b)
-unfolding type_under
-type-under (Ok _) b a = tt
-type-under (Err f) b (refuses a) = a
-
-abbrev NumberedO : Result (Option Front) Fault → Type 0
-NumberedO (Ok (Some x)) = Unit
-NumberedO (Ok None) = Unit
-NumberedO (Err f) = 1 ≤ f.number
-
-front-under : (a : Result ℕ Fault) (id : ℕ) (has : Bool) (x : Result Part Fault) (y z w : Result Number Fault) → NumberedT a → NumberedO (front_under a id has x y z w)
+front-under : {a : Result ℕ Fault} (id : ℕ) (has : Bool) (x : Result Part Fault) (y z w : Result Number Fault) → Numbered a → Numbered (front_under a id has x y z w)
 unfolding front_under
-front-under (Ok k) id has x y z w l = in-need NumberedO (eqb k id && has) tt tt
-front-under (Err f) id has x y z w l = l
+front-under id has x y z w (accepts k) = in-need Numbered (eqb k id && has) (accepts _) (accepts _)
+front-under id has x y z w (refuses f l) = refuses f l
 
 -- THE QUESTIONS
 
 of-reading : {r : Reading} → NumberedR r → Numbered (verdict_of r)
 unfolding verdict_of
-of-reading reads = accepts
-of-reading (refuses_r l) = refuses l
+of-reading reads = accepts tt
+of-reading (refuses_r l) = refuses _ l
 
 sheet-in : (room : ℕ) {r : Reading} → NumberedR r → NumberedW (sheet_in room r)
 unfolding sheet_in
@@ -155,14 +101,10 @@ unfolding rewritten.onward
 onto gs room (writes {F = s}) = sheet gs room s
 onto gs room (stops l) = stops l
 
-abbrev NumberedC : Result Ignored Fault → Type 0
-NumberedC (Ok x) = Unit
-NumberedC (Err f) = 1 ≤ f.number
-
-version-by : (st : List ℕ) (n : ℕ) → NumberedC (version_by st n)
+version-by : (st : List ℕ) (n : ℕ) → Numbered (version_by st n)
 unfolding version_by
-version-by st zero = omega arith
-version-by st (suc k) = tt
+version-by st zero = refuses _ (omega arith)
+version-by st (suc k) = accepts _
 
 not_stopped : {x : Writing} → NumberedW x → (p : ℕ) → x ≡ stopped 0 p → ⊥
 not_stopped writes p e = let z : ◌≡◌ {A = ℕ} 0 1 = cc in omega (arith, z)
@@ -177,9 +119,9 @@ module _ (t b s : List ℕ) (u : Under) where
   unfolding message_verdict
   verdict = of-reading (reading u)
 
-  type : NumberedT (message_type t b u)
+  type : Numbered (message_type t b u)
   unfolding message_type
-  type = type-under _ b verdict
+  type = numbered-also verdict (accepts _)
 
   it : (field i : ℕ) → NumberedI (item_of (schema t) b field i)
   unfolding item_of
@@ -188,16 +130,16 @@ module _ (t b s : List ℕ) (u : Under) where
   pub numbered : AllNumbered t b s u
   numbered = record {
     table = not-zero (table t);
-    store = unfold store_verdict in not-zero (tested _ 50 _ (omega arith) accepts);
-    settings = λ c v p e. omega (arith, subst NumberedC e (unfold setting_at in in-need NumberedC _ (omega arith) (version-by _ _)));
-    addition = λ c v absent pads unused. unfold add_verdict in not-zero (tested _ 50 _ (omega arith) (tested _ 51 _ (omega arith) accepts));
+    store = unfold store_verdict in not-zero (tested _ 50 _ (omega arith) (accepts tt));
+    settings = λ c v. unfold setting_at in not-zero (tested _ 50 _ (omega arith) (version-by _ _));
+    addition = λ c v absent pads unused. unfold add_verdict in not-zero (tested _ 50 _ (omega arith) (tested _ 51 _ (omega arith) (accepts tt)));
     message = not-zero verdict;
-    number = λ field i p e. omega (arith, subst NumberedN e (unfold number_answer in number-under _ _ verdict (number-at b _ (it field i))));
-    bytes = λ field i. unfold bytes_verdict in not-zero (numbered-also verdict (part-verdict _ (part-at b _ (it field i))));
-    span = λ field i p e. omega (arith, subst NumberedS e (unfold span_answer in span-under _ _ verdict (part-at b _ (it field i))));
-    shape = λ id n p e. omega (arith, subst NumberedF e (unfold field_shape shape_under in shape-after _ _ (in-need NumberedF _ (omega arith) (shape-in _ n))));
-    type = λ p e. omega (arith, subst NumberedT e type);
-    front = λ id g p e. omega (arith, subst NumberedO e (unfold front_answer in front-under _ id _ _ _ _ _ type));
+    number = λ field i. unfold number_answer in not-zero (numbered-also verdict (number-at b _ (it field i)));
+    bytes = λ field i. unfold bytes_verdict in not-zero (numbered-also verdict (part-verdict (part-at b _ (it field i))));
+    span = λ field i. unfold part_answer in not-zero (numbered-also verdict (part-at b _ (it field i)));
+    shape = λ id n. unfold field_shape shape_under in not-zero (shape-after _ (in-need Numbered _ (refuses _ (omega arith)) (shape-in _ n)));
+    type = not-zero type;
+    front = λ id g. unfold front_answer in not-zero (front-under id _ _ _ _ _ type);
     to-sheet = λ room. unfold to_sheet in not_stopped (sheet-in room (reading u));
     to-message = λ room. unfold to_message in not_stopped (write _ 20 _ (omega arith) (sheet _ room s));
     rewrite = λ rooms. unfold rewriting to_sheet in not_stopped (onto _ _ (sheet-in _ (reading _)));

@@ -68,21 +68,13 @@ rewriting t b st c r = onward (schema t) r.output (to_sheet t b (under st c r.sc
 -- READING ONE FIELD
 -- "After the message's own faults: 28 no such field, 29 absent, 28 no such item, 48 other kind (each at place 0)."
 
-unfoldable pub number_under : Verdict → Result Number Fault → Result Number Fault
-number_under (Ok _) x = x
-number_under (Err f) x = Err f
-
 -- Item i of field f, as a number.
 unfoldable pub number_answer : List ℕ → List ℕ → Under → ℕ → ℕ → Result Number Fault
-number_answer t b u f i = number_under (message_verdict t b u) (number_at b (item_of (schema t) b f i))
+number_answer t b u f i = also (message_verdict t b u) (number_at b (item_of (schema t) b f i))
 
-unfoldable pub part_under : Verdict → Result Part Fault → Result Part Fault
-part_under (Ok _) x = x
-part_under (Err f) x = Err f
-
--- "On any refusal it is the empty part, and a twin question gives the number."
+-- Item i of field f, as a part of the message: where it lies. "On any refusal it is the empty part, and a twin question gives the number."
 unfoldable pub part_answer : List ℕ → List ℕ → Under → ℕ → ℕ → Result Part Fault
-part_answer t b u f i = part_under (message_verdict t b u) (part_at b (item_of (schema t) b f i))
+part_answer t b u f i = also (message_verdict t b u) (part_at b (item_of (schema t) b f i))
 
 unfoldable pub bytes_verdict : List ℕ → List ℕ → Under → ℕ → ℕ → Verdict
 bytes_verdict t b u f i = also (message_verdict t b u) (part.verdict_of (part_at b (item_of (schema t) b f i)))
@@ -90,13 +82,9 @@ bytes_verdict t b u f i = also (message_verdict t b u) (part.verdict_of (part_at
 -- THE TYPE OF A MESSAGE, AND ITS FIRST FIELDS
 -- For crates above: document 02, request 10, "The crate sees only what the lower one states."
 
-unfoldable pub type_under : Verdict → List ℕ → Result ℕ Fault
-type_under (Ok _) b = Ok (type_id b)
-type_under (Err f) b = Err f
-
 -- The type id of the message b, or its first fault.
 unfoldable pub message_type : List ℕ → List ℕ → Under → Result ℕ Fault
-message_type t b u = type_under (message_verdict t b u) b
+message_type t b u = also (message_verdict t b u) (Ok (type_id b))
 
 -- What the separate questions answer of a message of this type whose group has these fields (`has`): its first field as bytes, the next three as numbers.
 unfoldable pub front_under : Result ℕ Fault → ℕ → Bool → Result Part Fault → Result Number Fault → Result Number Fault → Result Number Fault → Result (Option Front) Fault
@@ -111,4 +99,4 @@ front_answer t b u id signature =
 unfoldable pub front_in : List Group → List ℕ → ℕ → List ℕ → Result (Option Front) Fault
 front_in gs b id signature =
     need (eqb (type_id b) id && has_under gs id signature) (Ok None)
-    (Ok (Some (record { first = (part_at b (item_of gs b 0 0)); second = (number_at b (item_of gs b 1 0)); third = (number_at b (item_of gs b 2 0)); fourth = (number_at b (item_of gs b 3 0)) })))
+    (Ok (Some (record { first = part_at b (item_of gs b 0 0); second = number_at b (item_of gs b 1 0); third = number_at b (item_of gs b 2 0); fourth = number_at b (item_of gs b 3 0) })))

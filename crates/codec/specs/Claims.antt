@@ -37,7 +37,6 @@ pub record SameAnswers (t u : List ℕ) : Type 0 where
   pub number : (b : List ℕ) (x : Under) (f i : ℕ) → number_answer t b x f i ≡ number_answer u b x f i
   pub bytes : (b : List ℕ) (x : Under) (f i : ℕ) → part_answer t b x f i ≡ part_answer u b x f i
   pub bytes-verdict : (b : List ℕ) (x : Under) (f i : ℕ) → bytes_verdict t b x f i ≡ bytes_verdict u b x f i
-  pub span : (b : List ℕ) (x : Under) (f i : ℕ) → part_answer t b x f i ≡ part_answer u b x f i
   pub shape : (id n : ℕ) → field_shape t id n ≡ field_shape u id n
   pub fields : (id : ℕ) (signature : List ℕ) → has_fields t id signature ≡ has_fields u id signature
   pub type : (b : List ℕ) (x : Under) → message_type t b x ≡ message_type u b x

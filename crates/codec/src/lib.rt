@@ -2,7 +2,6 @@
 #![tactic(auto)]
 
 ghost use Rattle.std.specs.Prelude.{Ok, Err, ◌≡◌, ◌+◌, length};
-ghost use Rattle.schema.specs.Faults.{fault_at};
 ghost use Rattle.schema.specs.Table.{schema, table_verdict};
 ghost use Rattle.schema.specs.Layout.{Layout};
 ghost use Rattle.fields.specs.Fields.{field_shape, has_fields};
@@ -89,12 +88,7 @@ pub fn check_message(
     ensures value { result ≡ message_verdict table.now message.now (under store.now customer (length scratch.old)) }
     ensures scratch_after { scratch.new ≡ scratch_after table.now store.now message.now scratch.old }
 {
-    let mut index = [0u16; 322];
-    let walked = opening::open_message(table, &mut index, store, customer, message, scratch);
-    match walked {
-        Walked::Counted { length } => Verdict::Accepted,
-        Walked::Refused { number, place } => Verdict::Refused { number, place },
-    }
+    opening::open_message(table, &mut [0u16; 322], store, customer, message, scratch).and(Ok(()))
 }
 
 // The sheet of a message, at the start of the room `sheet`.
@@ -111,11 +105,8 @@ pub fn message_to_sheet(
     ensures sheet_after { sheet.new ≡ room_after (to_sheet table.now message.now (under store.now customer (length scratch.old)) (length sheet.old)) sheet.old }
 {
     let mut index = [0u16; 322];
-    let walked = opening::open_message(table, &mut index, store, customer, message, scratch);
-    match walked {
-        Walked::Counted { length } => sheet_of(table, &index, message, length, sheet),
-        Walked::Refused { number, place } => Written::Refused { number, place },
-    }
+    let length = opening::open_message(table, &mut index, store, customer, message, scratch)?;
+    sheet_of(table, &index, message, length, sheet)
 }
 
 // The message of a sheet, at the start of `output`.
@@ -124,14 +115,13 @@ pub fn sheet_to_message(table: &[u8], sheet: &[u8], output: &mut [u8]) -> Result
     ensures output_after { output.new ≡ room_after (to_message table.now sheet.now (length output.old)) output.old }
 {
     let mut index = [0u16; 322];
-    let v = table::index_table(table, &mut index);
-    match v {
-        Verdict::Accepted => message_of(table, &index, sheet, output),
-        Verdict::Refused { number, place } => Written::Refused {
+    let Ok(()) = table::index_table(table, &mut index) else {
+        return Err(Fault {
             number: 20,
             place: 0,
-        },
-    }
+        });
+    };
+    message_of(table, &index, sheet, output)
 }
 
 // A message with the same sheet, as short as can be, at the start of `output`. The sheet goes into the room `sheet`.
@@ -150,13 +140,8 @@ pub fn rewrite(
     ensures output_after { output.new ≡ room_after (rewriting table.now message.now store.now customer (rooms scratch.old sheet.old output.old)) output.old }
 {
     let mut index = [0u16; 322];
-    let walked = opening::open_message(table, &mut index, store, customer, message, scratch);
-    match walked {
-        Walked::Counted { length } => {
-            rewrite_under(table, &index, message, length, sheet, output)
-        }
-        Walked::Refused { number, place } => Written::Refused { number, place },
-    }
+    let length = opening::open_message(table, &mut index, store, customer, message, scratch)?;
+    rewrite_under(table, &index, message, length, sheet, output)
 }
 
 // Item `item` of the field `field` of the message's group, as a number.
@@ -173,11 +158,8 @@ pub fn read_number(
     ensures scratch_after { scratch.new ≡ scratch_after table.now store.now message.now scratch.old }
 {
     let mut index = [0u16; 322];
-    let walked = opening::open_message(table, &mut index, store, customer, message, scratch);
-    match walked {
-        Walked::Counted { length } => reading::read_number(table, &index, message, field, item),
-        Walked::Refused { number, place } => Number::Refused { number, place },
-    }
+    opening::open_message(table, &mut index, store, customer, message, scratch)?;
+    reading::read_number(table, &index, message, field, item)
 }
 
 // The bytes of item `item` of the field `field`: a part of the message itself, empty on any refusal.
@@ -196,11 +178,10 @@ pub fn read_bytes<'a>(
     ensures scratch_after { scratch.new ≡ scratch_after table.now store.now message.now scratch.old }
 {
     let mut index = [0u16; 322];
-    let walked = opening::open_message(table, &mut index, store, customer, message, scratch);
-    match walked {
-        Walked::Counted { length } => reading::read_bytes(table, &index, message, field, item),
-        Walked::Refused { number, place } => &message[0..0],
-    }
+    let Ok(_) = opening::open_message(table, &mut index, store, customer, message, scratch) else {
+        return &message[0..0];
+    };
+    reading::read_bytes(table, &index, message, field, item)
 }
 
 // Whether `read_bytes` hands out a part, and if not, why.
@@ -217,13 +198,8 @@ pub fn read_bytes_verdict(
     ensures scratch_after { scratch.new ≡ scratch_after table.now store.now message.now scratch.old }
 {
     let mut index = [0u16; 322];
-    let walked = opening::open_message(table, &mut index, store, customer, message, scratch);
-    match walked {
-        Walked::Counted { length } => reading::read_bytes_verdict(
-            table, &index, message, field, item,
-        ),
-        Walked::Refused { number, place } => Verdict::Refused { number, place },
-    }
+    opening::open_message(table, &mut index, store, customer, message, scratch)?;
+    reading::read_bytes_verdict(table, &index, message, field, item)
 }
 
 // Where in the message the part of `read_bytes` lies, for callers to whom no part can be lent.
@@ -240,13 +216,8 @@ pub fn find_bytes(
     ensures scratch_after { scratch.new ≡ scratch_after table.now store.now message.now scratch.old }
 {
     let mut index = [0u16; 322];
-    let walked = opening::open_message(table, &mut index, store, customer, message, scratch);
-    match walked {
-        Walked::Counted { length } => {
-            span_of(reading::find_part(table, &index, message, field, item))
-        }
-        Walked::Refused { number, place } => Span::Refused { number, place },
-    }
+    opening::open_message(table, &mut index, store, customer, message, scratch)?;
+    reading::find_part(table, &index, message, field, item)
 }
 
 // The type id of a message.
@@ -260,12 +231,8 @@ pub fn message_type(
     ensures value { result ≡ message_type table.now message.now (under store.now customer (length scratch.old)) }
     ensures scratch_after { scratch.new ≡ scratch_after table.now store.now message.now scratch.old }
 {
-    let mut index = [0u16; 322];
-    let walked = opening::open_message(table, &mut index, store, customer, message, scratch);
-    match walked {
-        Walked::Counted { length } => TypeAnswer::Id(wire::read_u64(message, 4)),
-        Walked::Refused { number, place } => TypeAnswer::Refused { number, place },
-    }
+    opening::open_message(table, &mut [0u16; 322], store, customer, message, scratch)?;
+    Ok(wire::read_u64(message, 4))
 }
 
 // The first four fields of a message of this type id, whose group has the fields of this signature, from one opening.
@@ -282,44 +249,47 @@ pub fn read_front(
     ensures scratch_after { scratch.new ≡ scratch_after table.now store.now message.now scratch.old }
 {
     let mut index = [0u16; 322];
-    let walked = opening::open_message(table, &mut index, store, customer, message, scratch);
-    match walked {
-        Walked::Counted { length } => front_of(table, &index, message, id, signature),
-        Walked::Refused { number, place } => Front::Refused { number, place },
-    }
+    opening::open_message(table, &mut index, store, customer, message, scratch)?;
+    Ok(front_of(table, &index, message, id, signature))
 }
 
 // The first four fields of an accepted message.
-fn front_of(table: &[u8], index: &[u16], message: &[u8], id: u64, signature: &[u8]) -> Result<Option<Front>, Fault>
+fn front_of(table: &[u8], index: &[u16], message: &[u8], id: u64, signature: &[u8]) -> Option<Front>
     requires { (Layout table.now index.now) × (Accepted lax table.now message.now) }
-    ensures { result ≡ front_in (schema table.now) message.now id signature.now }
+    ensures { Ok result ≡ front_in (schema table.now) message.now id signature.now }
 {
     if wire::read_u64(message, 4) != id {
-        return Front::Other;
+        return None;
     }
     if !fields::has_fields_under(table, index, id, signature) {
-        return Front::Other;
+        return None;
     }
-    Front::Read {
+    Some(Front {
         first: reading::find_part(table, index, message, 0, 0),
         second: reading::read_number(table, index, message, 1, 0),
         third: reading::read_number(table, index, message, 2, 0),
         fourth: reading::read_number(table, index, message, 3, 0),
-    }
+    })
 }
 
 // The sheet, of `size` bytes, of an accepted message: 46 where it does not fit the room.
-fn sheet_of(table: &[u8], index: &[u16], message: &[u8], size: usize, sheet: &mut [u8]) -> Result<usize, Fault>
+fn sheet_of(
+    table: &[u8],
+    index: &[u16],
+    message: &[u8],
+    size: usize,
+    sheet: &mut [u8],
+) -> Result<usize, Fault>
     requires { (u : Under) × Known table.now message.now u index.now size }
     ensures { (u : Under) → Known table.now message.now u index.now size → Writes (to_sheet table.now message.now u (length sheet.old)) result sheet.old sheet.new }
 {
     if sheet.len() < size {
-        return Written::Refused {
+        return Err(Fault {
             number: 46,
             place: 0,
-        };
+        });
     }
-    Written::Bytes(sheet::write_sheet(table, index, message, sheet))
+    Ok(sheet::write_sheet(table, index, message, sheet))
 }
 
 // The message of a sheet, under an accepted table.
@@ -327,34 +297,28 @@ fn message_of(table: &[u8], index: &[u16], sheet: &[u8], output: &mut [u8]) -> R
     requires { (table_verdict table.now ≡ Ok tt) × (Layout table.now index.now) }
     ensures { Writes (written (schema table.now) (length output.old) sheet.now) result output.old output.new }
 {
-    let parsed = parsing::check_sheet(table, index, sheet);
-    match parsed {
-        Parsed::Counted { length } => fit_message(table, index, sheet, length, output),
-        Parsed::Refused { number, place } => Written::Refused { number, place },
-    }
+    let length = parsing::check_sheet(table, index, sheet)?;
+    fit_message(table, index, sheet, length, output)
 }
 
 // The message of an allowed sheet, of `size` bytes: 47 where it does not fit the output, or is too long.
-fn fit_message(table: &[u8], index: &[u16], sheet: &[u8], size: usize, output: &mut [u8]) -> Result<usize, Fault>
+fn fit_message(
+    table: &[u8],
+    index: &[u16],
+    sheet: &[u8],
+    size: usize,
+    output: &mut [u8],
+) -> Result<usize, Fault>
     requires { (Layout table.now index.now) × (Allowed (schema table.now) sheet.now size) }
     ensures { Writes (written (schema table.now) (length output.old) sheet.now) result output.old output.new }
 {
-    if output.len() < size {
-        return too_long();
+    if output.len() < size || 65536 < size {
+        return Err(Fault {
+            number: 47,
+            place: 0,
+        });
     }
-    if 65536 < size {
-        return too_long();
-    }
-    Written::Bytes(writing::write_message(table, index, sheet, output))
-}
-
-fn too_long() -> Result<usize, Fault>
-    ensures { result ≡ Err (fault_at 47 0) }
-{
-    Written::Refused {
-        number: 47,
-        place: 0,
-    }
+    Ok(writing::write_message(table, index, sheet, output))
 }
 
 // "Rewriting checks the message, then 46, then 47": what follows the message's faults.
@@ -369,21 +333,24 @@ fn rewrite_under(
     requires { (u : Under) × Known table.now message.now u index.now size }
     ensures { (u : Under) → Known table.now message.now u index.now size → (Writes (onward (schema table.now) (length output.old) (to_sheet table.now message.now u (length sheet.old))) result output.old output.new) × (sheet.new ≡ room_after (to_sheet table.now message.now u (length sheet.old)) sheet.old) }
 {
-    let shown = sheet_of(table, index, message, size, sheet);
-    match shown {
-        Written::Bytes(n) => shorten(table, index, message.len(), &sheet[0..n], output),
-        Written::Refused { number, place } => Written::Refused { number, place },
-    }
+    let length = sheet_of(table, index, message, size, sheet)?;
+    shorten(table, index, message.len(), &sheet[0..length], output)
 }
 
 // The message of an accepted message's sheet. Of all messages with that sheet it is a shortest one, so that an output as
 // long as the message that there was, of `most` bytes, needs no count.
-fn shorten(table: &[u8], index: &[u16], most: usize, sheet: &[u8], output: &mut [u8]) -> Result<usize, Fault>
+fn shorten(
+    table: &[u8],
+    index: &[u16],
+    most: usize,
+    sheet: &[u8],
+    output: &mut [u8],
+) -> Result<usize, Fault>
     requires { (table_verdict table.now ≡ Ok tt) × (Layout table.now index.now) × (Within (schema table.now) sheet.now most) }
     ensures { Writes (written (schema table.now) (length output.old) sheet.now) result output.old output.new }
 {
     if output.len() < most {
         return message_of(table, index, sheet, output);
     }
-    Written::Bytes(writing::write_message(table, index, sheet, output))
+    Ok(writing::write_message(table, index, sheet, output))
 }

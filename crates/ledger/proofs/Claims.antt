@@ -24,7 +24,7 @@ use Rattle.message.specs.Walk.{done}
 use Rattle.message.specs.Sheet.{VA, ST, GB, mark_bytes}
 use Rattle.meaning.specs.Conforms.{type_id}
 use Rattle.opening.specs.Opening.{Under, message_reading, message_verdict}
-use Rattle.codec.specs.Answers.{type_under, message_type}
+use Rattle.codec.specs.Answers.{message_type}
 use Rattle.codec.specs.Claims.{SameAnswers}
 use Rattle.codec.proofs.Claims.{claims}
 use Rattle.codec.proofs.Demands.{demands}
@@ -73,8 +73,8 @@ line-64 : (c : Call) (x : List ℕ) → line_of c ≡ line x → length x ≡ 64
 line-64 c x e = let m = made c x e in ap length m.is ∙ long-line (barcode_of c) (field_of c 1) (field_of c 2) (field_of c 3) m.short (length-bytes 4 _) (length-bytes 4 _) (length-bytes 4 _)
 
 -- an accepted message has its type, and a refused one its number
-type-by : (v : Verdict) (b : List ℕ) (id : ℕ) → type_under v b ≡ Ok id → (v ≡ Ok tt) × (id ≡ type_id b)
-unfolding type_under
+type-by : (v : Verdict) (b : List ℕ) (id : ℕ) → also v (Ok (type_id b)) ≡ Ok id → (v ≡ Ok tt) × (id ≡ type_id b)
+unfolding also
 type-by (Ok _) b id e = let q : type_id b ≡ id = cc in (refl, sym q)
 type-by (Err f) b id e = let z : ◌≡◌ {A = ℕ} 0 1 = cc in absurd (omega arith)
 
@@ -86,11 +86,11 @@ fit c x e =
     record { accepted = a; type = sym i ∙ m.type; fields = m.fields; some = m.some; short = m.short }
 
 fits : (c : Call) → Fit c → (x : List ℕ) × (line_of c ≡ line x)
-unfolding line_of line_under line_from message_type type_under need
+unfolding line_of line_under line_from message_type also need
 fits c F = (line_with (barcode_of c) (field_of c 1) (field_of c 2) (field_of c 3), rw (F.accepted, eq-eqb (type_id c.message) c.blank F.type, F.fields, le-leb 1 (length (barcode_of c)) F.some, le-leb (length (barcode_of c)) 40 F.short))
 
 own-number : (c : Call) (n p : ℕ) → message_verdict c.table c.message c.reads ≡ Err (fault_at n p) → line_of c ≡ unfit n p
-unfolding line_of line_under message_type type_under
+unfolding line_of line_under message_type also
 own-number c n p e = rw e
 
 -- ITS BYTES

@@ -19,7 +19,7 @@ use Rattle.reading.specs.Part.{bytes_in}
 use Rattle.codec.specs.declared.Front.{Front}
 use Rattle.codec.proofs.Claims.{claims}
 use Rattle.codec.specs.Answers.{number_answer, part_answer, message_type, front_under, front_answer}
-use Rattle.ledger.specs.Ledger.{Blank, word_of, LB, barcode_with, line_with, Call, barcode_of, field_of, Inside, Line, unfit, line, line_from, line_under, line_of, lines, enters, entered, Enters}
+use Rattle.ledger.specs.Ledger.{Blank, word_of, LB, barcode_with, line_with, Call, barcode_of, field_of, Line, unfit, line, line_from, line_under, line_of, lines, enters, entered, Enters}
 
 -- THE LINE, BY THE MESSAGE'S FRONT
 
@@ -48,39 +48,43 @@ module _ (c : Call) where
       go true = unfold need in refl
       go false = unfold need in refl
 
-  front-text : (a : Result ℕ Fault) (x : Result Part Fault) (d v g : Result Number Fault) → front_under a c.blank has text (number 1) (number 2) (number 3) ≡ Ok (Some (record { first = x; second = d; third = v; fourth = g })) → text ≡ x
+  front-text : (a : Result ℕ Fault) (x : Front) → front_under a c.blank has text (number 1) (number 2) (number 3) ≡ Ok (Some x) → text ≡ x.first
   unfolding front_under
-  front-text (Err f) x d v g e = let z : ◌≡◌ {A = ℕ} 0 1 = cc in absurd (omega arith)
-  front-text (Ok k) x d v g e = go (eqb k c.blank && has) e
+  front-text (Err f) x e = absurd (cc)
+  front-text (Ok k) x e = go (eqb k c.blank && has) e
     where
-      go : (w : Bool) → need w (Ok None) (Ok (Some (record { first = text; second = number 1; third = number 2; fourth = number 3 }))) ≡ Ok (Some (record { first = x; second = d; third = v; fourth = g })) → text ≡ x
-      go true e = unfold need in cc
-      go false e = unfold need in let z : ◌≡◌ {A = ℕ} 0 1 = cc in absurd (omega arith)
+      go : (w : Bool) → ◌≡◌ {A = Result (Option Front) Fault} (need w (Ok None) (Ok (Some (record { first = text; second = number 1; third = number 2; fourth = number 3 })))) (Ok (Some x)) → text ≡ x.first
+      go true e = unfold need in let q : ◌≡◌ {A = Front} (record { first = text; second = number 1; third = number 2; fourth = number 3 }) x = cc in ap (λ (y : Front). y.first) q
+      go false e = unfold need in absurd (cc)
 
   module _ (r : Result (Option Front) Fault) (e : r ≡ front_answer c.table c.message c.reads c.blank Blank) where
     line-by : line_of c ≡ line_by r
     unfolding line_of front_answer
     line-by = by_front (message_type c.table c.message c.reads) ∙ ap line_by (sym e)
 
-    module _ (x : Result Part Fault) (d v g : Result Number Fault) (f : r ≡ Ok (Some (record { first = x; second = d; third = v; fourth = g }))) where
+    module _ (x : Front) (f : r ≡ Ok (Some x)) where
       -- the barcode lies in the message
-      pub read-inside : Inside c.message x
+      pub read-inside : (p : Part) → x.first ≡ Ok p → p.start + p.length ≤ length c.message
       unfolding front_answer
-      read-inside p n l = claims.part-inside c.table c.message c.reads 0 0 p n (front-text (message_type c.table c.message c.reads) x d v g (sym e ∙ f) ∙ l)
+      read-inside p l = claims.part-inside c.table c.message c.reads 0 0 p.start p.length (front-text (message_type c.table c.message c.reads) x (sym e ∙ f) ∙ l)
 
       -- and the line is that of the values read
-      pub enters-read : (k l m : ℕ) → k ≡ word_of d → l ≡ word_of v → m ≡ word_of g → (s : List ℕ) (fill : ℕ) (y : Result ℕ Fault) (left : List ℕ)
-          → Enters (lines s fill) (line_from (bytes_in c.message x) (bytes_of 4 k) (bytes_of 4 l) (bytes_of 4 m)) y left → Enters (lines s fill) (line_of c) y left
-      unfolding line_by
-      enters-read k l m i j h s fill y left E = rw (line-by, f, ← i, ← j, ← h) E
+      module _ (k l m : ℕ) (i : k ≡ word_of x.second) (j : l ≡ word_of x.third) (h : m ≡ word_of x.fourth) (s : List ℕ) (fill : ℕ) (y : Result ℕ Fault) (left : List ℕ) where
+        pub enters-read : (p : Part) → x.first ≡ Ok p → Enters (lines s fill) (line_from (part p.length p.start c.message) (bytes_of 4 k) (bytes_of 4 l) (bytes_of 4 m)) y left → Enters (lines s fill) (line_of c) y left
+        unfolding line_by bytes_in
+        enters-read p b E = rw (line-by, f, b, ← i, ← j, ← h) E
+
+        pub enters-no-part : (g : Fault) → x.first ≡ Err g → Enters (lines s fill) (line_from [] (bytes_of 4 k) (bytes_of 4 l) (bytes_of 4 m)) y left → Enters (lines s fill) (line_of c) y left
+        unfolding line_by bytes_in
+        enters-no-part g b E = rw (line-by, f, b, ← i, ← j, ← h) E
 
     pub line_other : r ≡ Ok None → line_of c ≡ unfit 54 0
     unfolding line_by
     line_other f = line-by ∙ ap line_by f
 
-    pub line_refused : (n p : ℕ) → r ≡ Err (fault_at n p) → line_of c ≡ unfit n p
+    pub line_refused : (g : Fault) → r ≡ Err g → line_of c ≡ unfit g.number g.place
     unfolding line_by
-    line_refused n p f = line-by ∙ ap line_by f
+    line_refused g f = line-by ∙ ap line_by f
 
 -- 55
 
@@ -100,46 +104,35 @@ module _ (x d v g : List ℕ) where
 -- THE LEDGER
 
 module _ (s : List ℕ) (fill : ℕ) (x : Line) where
-  pub enters-nothing : (n p : ℕ) (r : Result ℕ Fault) → r ≡ Err (fault_at n p) → x ≡ unfit n p → Enters (lines s fill) x r s
+  pub enters-nothing : (f : Fault) → x ≡ unfit f.number f.place → Enters (lines s fill) x (Err f) s
   unfolding enters entered
-  enters-nothing n p r f e = (rw (e, f), rw e)
+  enters-nothing f e = (rw e, rw e)
 
-  enters-full : (y : List ℕ) (r : Result ℕ Fault) → r ≡ Err (fault_at 56 0) → x ≡ line y → length s < fill + 64 → Enters (lines s fill) x r s
+  enters-full : (y : List ℕ) → x ≡ line y → length s < fill + 64 → Enters (lines s fill) x (Err (fault_at 56 0)) s
   unfolding enters entered need
-  enters-full y r f e h = (rw (e, f, lt-leb _ _ h), rw (e, lt-leb _ _ h))
+  enters-full y e h = (rw (e, lt-leb _ _ h), rw (e, lt-leb _ _ h))
 
   enters-line : (y left : List ℕ) → x ≡ line y → fill + 64 ≤ length s → left ≡ splice 64 fill y s → Enters (lines s fill) x (Ok (fill + 64)) left
   unfolding enters entered need
   enters-line y left e h f = (rw (e, le-leb _ _ h), rw (e, le-leb _ _ h, f))
 
--- a barcode of n bytes, at p in the message
-module _ (b : List ℕ) (p n : ℕ) (inside : p + n ≤ length b) (d v g s : List ℕ) (fill : ℕ) where
+-- a barcode x
+module _ (x d v g s : List ℕ) (fill : ℕ) where
   abbrev this : Line
-  this = line_from (part n p b) d v g
+  this = line_from x d v g
 
-  counts : length (part n p b) ≡ n
-  counts = length_part n p b inside
+  pub enters-55-none : length x < 1 → Enters (lines s fill) this (Err (fault_at 55 0)) s
+  enters-55-none h = enters-nothing s fill this (fault_at 55 0) (no-barcode x d v g h)
 
-  pub enters-55-none : (r : Result ℕ Fault) → r ≡ Err (fault_at 55 0) → n < 1 → Enters (lines s fill) this r s
-  enters-55-none r e h = enters-nothing s fill this 55 0 r e (no-barcode (part n p b) d v g (omega (arith, counts, h)))
+  pub enters-55-long : 40 < length x → Enters (lines s fill) this (Err (fault_at 55 0)) s
+  enters-55-long h = enters-nothing s fill this (fault_at 55 0) (long-barcode x d v g h)
 
-  pub enters-55-long : (r : Result ℕ Fault) → r ≡ Err (fault_at 55 0) → 40 < n → Enters (lines s fill) this r s
-  enters-55-long r e h = enters-nothing s fill this 55 0 r e (long-barcode (part n p b) d v g (omega (arith, counts, h)))
+  module _ (some : 1 ≤ length x) (short : length x ≤ 40) where
+    pub enters-56 : length s < fill + 64 → Enters (lines s fill) this (Err (fault_at 56 0)) s
+    enters-56 h = enters-full s fill this (line_with x d v g) (line_made x d v g some short) h
 
-  module _ (some : 1 ≤ n) (short : n ≤ 40) where
-    made : this ≡ line (line_with (part n p b) d v g)
-    made = line_made (part n p b) d v g (omega (arith, counts, some)) (omega (arith, counts, short))
-
-    pub enters-56 : (r : Result ℕ Fault) → r ≡ Err (fault_at 56 0) → length s < fill + 64 → Enters (lines s fill) this r s
-    enters-56 r e h = enters-full s fill this (line_with (part n p b) d v g) r e made h
-
-    pub enters-it : (left : List ℕ) → fill + 64 ≤ length s → left ≡ splice 64 fill (line_with (part n p b) d v g) s → Enters (lines s fill) this (Ok (fill + 64)) left
-    enters-it left h e = enters-line s fill this (line_with (part n p b) d v g) left made h e
-
--- no part, no barcode
-pub enters-no-part : (b : List ℕ) (k : ℕ) (d v g s : List ℕ) (fill : ℕ) (r : Result ℕ Fault) → r ≡ Err (fault_at 55 0) → Enters (lines s fill) (line_from (bytes_in b (Err (fault_at k 0))) d v g) r s
-unfolding bytes_in
-enters-no-part b k d v g s fill r e = enters-nothing s fill (line_from [] d v g) 55 0 r e (no-barcode [] d v g (omega arith))
+    pub enters-it : (left : List ℕ) → fill + 64 ≤ length s → left ≡ splice 64 fill (line_with x d v g) s → Enters (lines s fill) this (Ok (fill + 64)) left
+    enters-it left h e = enters-line s fill this (line_with x d v g) left (line_made x d v g some short) h e
 
 -- WRITING
 
@@ -147,19 +140,16 @@ enters-no-part b k d v g s fill r e = enters-nothing s fill (line_from [] d v g)
 joined : (m n k at p : ℕ) (xs ys s s' s'' : List ℕ) → length xs ≡ m → p ≡ at + m → k ≡ m + n → at + m ≤ length s → s' ≡ splice m at xs s → s'' ≡ splice n p ys s' → s'' ≡ splice k at (xs ++ ys) s
 joined m n k at p xs ys s s' s'' l q f h e g = g ∙ rw (q, f, e) (splice-append m n at xs ys s l h)
 
--- the barcode, of n bytes at p in the message b
-module _ (at : ℕ) (s : List ℕ) (room : at + 64 ≤ length s) (b : List ℕ) (p n : ℕ) (inside : p + n ≤ length b) (short : n ≤ 40) where
-  abbrev x : List ℕ
-  x = part n p b
-
-  long : length x ≡ n
-  long = length_part n p b inside
+-- the barcode x
+module _ (at : ℕ) (s : List ℕ) (room : at + 64 ≤ length s) (x : List ℕ) (short : length x ≤ 40) where
+  abbrev n : ℕ
+  n = length x
 
   abbrev counted : List ℕ
   counted = LB ++ (n ∷ [])
 
   barcode-is : (counted ++ x) ++ replicate (40 - n) 0 ≡ barcode_with x
-  barcode-is = rw long (append_assoc counted x (replicate (40 - n) 0))
+  barcode-is = append_assoc counted x (replicate (40 - n) 0)
 
   module _ (s₁ s₂ s₃ s₄ : List ℕ)
       (e₁ : s₁ ≡ splice 2 at LB s)
@@ -168,14 +158,14 @@ module _ (at : ℕ) (s : List ℕ) (room : at + 64 ≤ length s) (b : List ℕ) 
       (e₄ : s₄ ≡ splice (40 - n) (at + (3 + n)) (replicate (40 - n) 0) s₃) where
     pub barcode-written : s₄ ≡ splice 43 at (barcode_with x) s
     barcode-written =
-        let l : length (counted ++ x) ≡ 3 + n = rw (length-append counted x, long) in
+        let l : length (counted ++ x) ≡ 3 + n = length-append counted x in
         let j₂ = joined 2 1 3 at (at + 2) LB (n ∷ []) s s₁ s₂ refl refl refl (omega arith) e₁ e₂ in
         let j₃ = joined 3 n (3 + n) at (at + 3) counted x s s₂ s₃ refl refl refl (omega arith) j₂ e₃ in
         let j₄ = joined (3 + n) (40 - n) 43 at (at + (3 + n)) (counted ++ x) (replicate (40 - n) 0) s s₃ s₄ l refl (omega arith) (omega arith) j₃ e₄ in
         j₄ ∙ ap (λ (z : List ℕ). splice 43 at z s) barcode-is
 
   long-barcode-part : length (barcode_with x) ≡ 43
-  long-barcode-part = simp (length-append, length-replicate) (omega (arith, long, short))
+  long-barcode-part = simp (length-append, length-replicate) (omega (arith, short))
 
   module _ (d v g : ℕ) (s₁ s₂ s₃ s₄ s₅ : List ℕ)
       (e₁ : s₁ ≡ splice 43 at (barcode_with x) s)

@@ -16,7 +16,7 @@ use Rattle.fields.specs.Fields.{signature_of, has_under, has_after, has_fields}
 use Rattle.reading.specs.Item.{sequence_item, value_item, absent, value_place, field_item, item_from, item_of}
 use Rattle.reading.specs.Number.{number_width, number_of, number_at}
 use Rattle.reading.specs.Part.{part_of, part_at, bytes_in}
-use Rattle.codec.specs.Answers.{number_under, number_answer, part_under, part_answer, type_under, message_type}
+use Rattle.codec.specs.Answers.{number_answer, part_answer, message_type}
 use Rattle.ledger.specs.Ledger.{word_of, Line, unfit, line, call, line_from, line_under, line_of}
 
 -- An enumeration of the one symbol -2, and a group as Blank is, but for the barcode's size and the type in the grade's place.
@@ -61,5 +61,5 @@ pub record Cases : Type 0 where
   pub no-barcode : line_of_blank (table_of 0 20) no_barcode 1 ≡ unfit 55 0
 
 pub cases : Cases
-unfolding le bytes_of same all_zero zeros after begins follow lowest highest text_from is_valid utf8 need also member passes test_fault text_ok kind_width value_width field_width fields_width fields_of super_of width shallow_kind shallow_fields shallow find known under allows group_marked scalar_width kind_of field_at fields_at values_at group_at enums_from groups_from places_from enums schema places is_enum is_group is_due due_after shape_from shape_verdict rank enum_verdict symbol_verdict group_verdict size_ok reference_ok field_verdict record_verdict records_from records_verdict any_id id_verdict each_group in_bounds widths_verdict begins_with inherits supers_verdict stores_own stored_verdict table_verdict free occupy pads_zero pads_before mark_bytes kind_mark field_mark prefixed next none_r then_r marked_r optional_r plain_r inline_r in_area locate onward indirect_r text_r inner_r items_r list_r kind_r value_r field_r fields_r static_r extending_r groups_r extension_r extension_in behind_r padded body_r head_r group_r walk last_of run records sound ignored_by governing accepted message_reading verdict_of message_verdict pattern signature_of has_under has_after has_fields sequence_item value_item absent value_place field_item item_from item_of number_width number_of number_at part_of part_at bytes_in number_under number_answer part_under part_answer type_under message_type word_of line_from line_under line_of
+unfolding le bytes_of same all_zero zeros after begins follow lowest highest text_from is_valid utf8 need also member passes test_fault text_ok kind_width value_width field_width fields_width fields_of super_of width shallow_kind shallow_fields shallow find known under allows group_marked scalar_width kind_of field_at fields_at values_at group_at enums_from groups_from places_from enums schema places is_enum is_group is_due due_after shape_from shape_verdict rank enum_verdict symbol_verdict group_verdict size_ok reference_ok field_verdict record_verdict records_from records_verdict any_id id_verdict each_group in_bounds widths_verdict begins_with inherits supers_verdict stores_own stored_verdict table_verdict free occupy pads_zero pads_before mark_bytes kind_mark field_mark prefixed next none_r then_r marked_r optional_r plain_r inline_r in_area locate onward indirect_r text_r inner_r items_r list_r kind_r value_r field_r fields_r static_r extending_r groups_r extension_r extension_in behind_r padded body_r head_r group_r walk last_of run records sound ignored_by governing accepted message_reading verdict_of message_verdict pattern signature_of has_under has_after has_fields sequence_item value_item absent value_place field_item item_from item_of number_width number_of number_at part_of part_at bytes_in number_answer part_answer message_type word_of line_from line_under line_of
 cases = record { its-line = refl; inline = refl; own-number = refl; another-type = refl; other-fields = refl; no-barcode = refl }

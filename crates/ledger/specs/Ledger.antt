@@ -25,12 +25,12 @@ Blank =
 
 -- A number whose low four bytes are the wire bytes of a u32 or an enumeration; 0 for what is neither.
 unfoldable pub word_of : Result Number Fault → ℕ
-word_of (Signed z) = pattern 63 z
-word_of (Unsigned n) = n
-word_of (Flag x) = 0
-word_of (Decimal e m) = 0
-word_of (Float x) = 0
-word_of (NanBits n) = 0
+word_of (Ok (Signed z)) = pattern 63 z
+word_of (Ok (Unsigned n)) = n
+word_of (Ok (Flag x)) = 0
+word_of (Ok (Decimal e m)) = 0
+word_of (Ok (Float x)) = 0
+word_of (Ok (NanBits n)) = 0
 word_of (Err f) = 0
 
 abbrev pub LB : List ℕ
@@ -59,10 +59,6 @@ barcode_of c = bytes_in c.message (part_answer c.table c.message c.reads 0 0)
 
 abbrev pub field_of : Call → ℕ → List ℕ
 field_of c n = bytes_of 4 (word_of (number_answer c.table c.message c.reads n 0))
-
--- A part that lies in these bytes, if it is one.
-abbrev pub Inside : List ℕ → Result Part Fault → Type 0
-Inside b x = (p n : ℕ) → x ≡ Ok (record { start = p; length = n }) → p + n ≤ length b
 
 -- A refusal, or the line.
 pub data Line : Type 0 where

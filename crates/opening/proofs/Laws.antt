@@ -1,5 +1,6 @@
 -- What the opening of a message answers, by what the crates below found.
 use Rattle.schema.specs.declared.Fault.{Fault}
+use Rattle.std.specs.Result.{result_and}
 use Rattle.std.proofs.Common.{Ok, Err, Result}
 use Prim.Native.Nat.{ℕ, ◌*◌, ◌<◌, ◌≤◌}
 use mathlib.Core.Path.{◌≡◌, refl, sym, ap, ◌∙◌}
@@ -172,3 +173,8 @@ module _ (t b : List ℕ) (u : Under) where
   pub verdict-refused : (n p : ℕ) → message_reading t b u ≡ refused n p → message_verdict t b u ≡ Err (fault_at n p)
   unfolding message_verdict verdict_of
   verdict-refused n p e = rw e
+
+-- a check's answer without its count
+pub opened-verdict : (t b k : List ℕ) (u : Under) (w : Result ℕ Fault) → Opened t b u k w → result_and w (Ok tt) ≡ message_verdict t b u
+opened-verdict t b k u (Ok n) o = sym (verdict-accepted t b u _ _ (o.opens n refl).means)
+opened-verdict t b k u (Err f) o = sym (verdict-refused t b u f.number f.place (o.refuses f refl))

@@ -1,6 +1,5 @@
 -- A step of the tape, by what the code found.
 use Rattle.schema.specs.declared.Fault.{Fault}
-use Rattle.std.specs.Result.{result_and}
 use Rattle.std.proofs.Common.{Ok, Err, Some, None, Result}
 use Prim.Native.Nat.{ℕ, ◌+◌, ◌-◌, ◌<◌, ◌≤◌}
 use mathlib.Core.Path.{◌≡◌, refl, sym, ap, ◌∙◌}
@@ -17,11 +16,6 @@ use Rattle.schema.proofs.Depth.{and_both}
 use Rattle.opening.specs.Opening.{accepted, Under, message_verdict, scratch_after, Opened}
 use Rattle.opening.proofs.Laws.{scratch-20, verdict-accepted, verdict-refused}
 use Rattle.tape.specs.Tape.{span_at, whole, end_of, message_at, step_to, tape_step, tape_scratch, handed, handed_from}
-
--- a message's verdict
-pub verdict : (t b k : List ℕ) (u : Under) (w : Result ℕ Fault) → Opened t b u k w → result_and w (Ok tt) ≡ message_verdict t b u
-verdict t b k u (Ok n) o = sym (verdict-accepted t b u _ _ (o.opens n refl).means)
-verdict t b k u (Err f) o = sym (verdict-refused t b u f.number f.place (o.refuses f refl))
 
 module _ (s : List ℕ) (p : ℕ) where
   -- whether a whole message stands there

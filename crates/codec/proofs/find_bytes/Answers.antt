@@ -1,14 +1,14 @@
-use mathlib.Core.Path.{sym, ap, ◌∙◌}
-use mathlib.Core.List.{[]}
-use Rattle.codec.specs.Answers.{span_of}
-use Rattle.codec.proofs.Laws.{span-read, span-refused}
+use Rattle.std.proofs.lemmas.Result.{err_from_is_err_and}
+use Rattle.std.proofs.Common.{[], sym, ◌∙◌}
+use Rattle.codec.proofs.Laws.{part-read, part-refused}
 use Rattle.codec.proofs.find_bytes.Goals as goal
 
+pub returns-in_err-open_message : goal.returns-in_err-open_message
+returns-in_err-open_message c = let o = c.open_message.ensures in let p = err_from_is_err_and c.from_residual.result c.from_residual.ensures.1 in
+    record { value = rw (p.1, p.2) (sym (part-refused _ _ _ _ _ _ _ (o.opened.refuses _ c.in_err-open_message.was))); scratch_after = o.scratch_after }
+
 pub find_part-requires : goal.find_part-requires
-find_part-requires c = let K = c.open_message-walked.ensures.opened.opens _ c.in-Counted.is in (K.layout, (K.sheet, [], K.walks))
+find_part-requires c = let K = c.open_message.ensures.opened.opens _ c.in_ok-open_message.was in (K.layout, (K.sheet, [], K.walks))
 
-pub returns-in-Counted : goal.returns-in-Counted
-returns-in-Counted c = record { value = c.span_of.ensures ∙ ap span_of c.find_part.ensures ∙ sym (span-read _ _ _ _ _ _ _ (c.open_message-walked.ensures.opened.opens _ c.in-Counted.is).means); scratch_after = c.open_message-walked.ensures.scratch_after }
-
-pub returns-in-Refused : goal.returns-in-Refused
-returns-in-Refused c = record { value = sym (span-refused _ _ _ _ _ _ _ (c.open_message-walked.ensures.opened.refuses _ _ c.in-Refused.is)); scratch_after = c.open_message-walked.ensures.scratch_after }
+pub returns : goal.returns
+returns c = let o = c.open_message.ensures in record { value = c.find_part.ensures ∙ sym (part-read _ _ _ _ _ _ _ (o.opened.opens _ c.in_ok-open_message.was).means); scratch_after = o.scratch_after }

@@ -1,6 +1,4 @@
-use Rattle.std.proofs.Common.{Ok, Some}
-use mathlib.Core.Path.{sym, ◌∙◌}
-use native.Mathlib.Omega.{arith}
+use Rattle.std.proofs.Common.{Ok, Some, sym, ◌∙◌, arith}
 use Rattle.reading.proofs.Found.{message-long}
 use Rattle.codec.proofs.Laws.{other-type, other-fields, front-is}
 use Rattle.codec.proofs.front_of.Goals as goal

@@ -1,12 +1,14 @@
-use mathlib.Core.Path.{sym, ◌∙◌}
-use lib.ListN.{length}
+use Rattle.std.proofs.lemmas.Result.{err_from_is_err_and}
+use Rattle.std.proofs.Common.{length, sym, ◌∙◌}
 use Rattle.schema.specs.Table.{schema}
 use Rattle.opening.proofs.Laws.{sized}
 use Rattle.codec.proofs.Laws.{writes_nothing, written-refused, parsed-refuses, parsed-allows}
 use Rattle.codec.proofs.message_of.Goals as goal
 
-pub fit_message-requires : goal.fit_message-requires
-fit_message-requires c = (c.requires.1, parsed-allows (schema c.args.table.now) (sized c.args.table.now c.requires.0) c.args.sheet.now _ (sym c.in-Counted.is ∙ c.check_sheet-parsed.ensures))
+pub returns-in_err-length : goal.returns-in_err-length
+returns-in_err-length c = let a = c.args in let gs = schema a.table.now in let p = err_from_is_err_and c.from_residual.result c.from_residual.ensures.1 in
+    let x = writes_nothing _ _ _ (written-refused gs a.sheet.now (length a.output.now) _ _ (parsed-refuses gs (sized a.table.now c.requires.0) a.sheet.now _ (sym c.in_err-length.was ∙ c.check_sheet.ensures))) in
+    (rw (p.1, p.2) x.0, x.1)
 
-pub returns-in-Refused : goal.returns-in-Refused
-returns-in-Refused c = writes_nothing _ _ _ _ (written-refused (schema c.args.table.now) c.args.sheet.now (length c.args.output.now) _ _ (parsed-refuses (schema c.args.table.now) (sized c.args.table.now c.requires.0) c.args.sheet.now _ _ (sym c.in-Refused.is ∙ c.check_sheet-parsed.ensures)))
+pub fit_message-requires : goal.fit_message-requires
+fit_message-requires c = (c.requires.1, parsed-allows (schema c.args.table.now) (sized c.args.table.now c.requires.0) c.args.sheet.now _ (sym c.in_ok-length.was ∙ c.check_sheet.ensures))

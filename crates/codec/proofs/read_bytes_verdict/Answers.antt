@@ -1,13 +1,14 @@
-use mathlib.Core.Path.{sym, ◌∙◌}
-use mathlib.Core.List.{[]}
+use Rattle.std.proofs.lemmas.Result.{err_from_is_err_and}
+use Rattle.std.proofs.Common.{[], sym, ◌∙◌}
 use Rattle.codec.proofs.Laws.{bytes_read, bytes-refused}
 use Rattle.codec.proofs.read_bytes_verdict.Goals as goal
 
+pub returns-in_err-open_message : goal.returns-in_err-open_message
+returns-in_err-open_message c = let o = c.open_message.ensures in let p = err_from_is_err_and c.from_residual.result c.from_residual.ensures.1 in
+    record { value = rw (p.1, p.2) (sym (bytes-refused _ _ _ _ _ _ _ (o.opened.refuses _ c.in_err-open_message.was))); scratch_after = o.scratch_after }
+
 pub read_bytes_verdict-requires : goal.read_bytes_verdict-requires
-read_bytes_verdict-requires c = let K = c.open_message-walked.ensures.opened.opens _ c.in-Counted.is in (K.layout, (K.sheet, [], K.walks))
+read_bytes_verdict-requires c = let K = c.open_message.ensures.opened.opens _ c.in_ok-open_message.was in (K.layout, (K.sheet, [], K.walks))
 
-pub returns-in-Counted : goal.returns-in-Counted
-returns-in-Counted c = record { value = c.read_bytes_verdict.ensures ∙ sym (bytes_read _ _ _ _ _ _ _ (c.open_message-walked.ensures.opened.opens _ c.in-Counted.is).means); scratch_after = c.open_message-walked.ensures.scratch_after }
-
-pub returns-in-Refused : goal.returns-in-Refused
-returns-in-Refused c = record { value = sym (bytes-refused _ _ _ _ _ _ _ (c.open_message-walked.ensures.opened.refuses _ _ c.in-Refused.is)); scratch_after = c.open_message-walked.ensures.scratch_after }
+pub returns : goal.returns
+returns c = let o = c.open_message.ensures in record { value = c.read_bytes_verdict.ensures ∙ sym (bytes_read _ _ _ _ _ _ _ (o.opened.opens _ c.in_ok-open_message.was).means); scratch_after = o.scratch_after }

@@ -1,13 +1,18 @@
-use Rattle.reading.specs.Part.{bytes_in}
-use Rattle.ledger.proofs.Laws.{enters-no-part}
+use Rattle.std.proofs.Common.{refl, arith}
+use Rattle.ledger.proofs.Laws.{enters-55-none, enters-55-long, enters-56, enters-it}
 use Rattle.ledger.proofs.enter.Goals as goal
 
-pub enter_line-requires : goal.enter_line-requires
-enter_line-requires c = c.requires _ _ c.in-Lies.is
+pub returns-then-barcode-lt1 : goal.returns-then-barcode-lt1
+returns-then-barcode-lt1 c = enters-55-none _ _ _ _ _ _ c.if-barcode-lt1.true
 
-pub returns-in-Refusal : goal.returns-in-Refusal
-returns-in-Refusal c = rw c.in-Refusal.is (enters-no-part _ _ _ _ _ _ _ _ c.refused.ensures)
+pub returns-then-barcode-gt40 : goal.returns-then-barcode-gt40
+returns-then-barcode-gt40 c = enters-55-long _ _ _ _ _ _ c.if-barcode-gt40.true
 
-pub returns-in-Lies : goal.returns-in-Lies
-unfolding bytes_in
-returns-in-Lies c = rw c.in-Lies.is c.enter_line.ensures
+pub returns-then-ledger-fill : goal.returns-then-ledger-fill
+returns-then-ledger-fill c = enters-56 _ _ _ _ _ _ (omega arith) (omega arith) (omega arith)
+
+pub returns-then-ledger-fill-lt64 : goal.returns-then-ledger-fill-lt64
+returns-then-ledger-fill-lt64 c = enters-56 _ _ _ _ _ _ (omega arith) (omega arith) (omega arith)
+
+pub returns : goal.returns
+returns c = enters-it _ _ _ _ _ _ (omega arith) (omega arith) _ (omega arith) c.write_line.ensures

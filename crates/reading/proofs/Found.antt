@@ -1,6 +1,7 @@
 -- What the code finds is what the definitions say, and it lies in the message.
 use Rattle.schema.specs.declared.Fault.{Fault}
 use Rattle.schema.specs.Faults.{fault_at}
+use Rattle.std.specs.Result.{result_and}
 use Rattle.std.proofs.Common.{Ok, Err, Result}
 use mathlib.Core.Path.{◌≡◌, refl, sym, ap, ◌∙◌, subst}
 use mathlib.Core.Bool.{Bool, true, false, cond, ◌&&◌, and-eq-true_iff}
@@ -27,7 +28,7 @@ use Rattle.meaning.specs.Conforms.{target, count_at, type_id}
 use Rattle.message.proofs.Tests.{true-false, or_cases}
 use Rattle.reading.specs.Item.{Accepted, Item, missing, item, item_from, item_of, field_in, fields_in, item_in, Recorded}
 use Rattle.reading.specs.Number.{number_types, number_width, number_of, number_at}
-use Rattle.reading.specs.Part.{part_of, part_at, bytes_in, start_of}
+use Rattle.reading.specs.Part.{part_of, part_at, bytes_in, start_of, verdict_of}
 use Rattle.reading.specs.Laid.{Led, Laid, ItemLaid}
 use Rattle.reading.specs.declared.Located.{Located}
 use Rattle.reading.specs.declared.Part.{Part}
@@ -112,18 +113,18 @@ module _ (y : Ignored) (t b : List ℕ) (A : Accepted y t b) (v : Result Located
 
   -- what is said of it
 
-  pub number-missing : (m : ℕ) → v ≡ Err (fault_at m 0) → Err (fault_at m 0) ≡ number_at b (item_of (schema t) b n i)
+  pub number-missing : (f : Fault) → f.place ≡ 0 → v ≡ Err f → Err f ≡ number_at b (item_of (schema t) b n i)
   unfolding item_in number_at
-  number-missing m e = ap (λ (v : Result Located Fault). number_at b (item_in t v)) (sym e) ∙ ap (number_at b) is
+  number-missing f z e = ap (λ (k : ℕ). Err (fault_at f.number k)) z ∙ ap (λ (v : Result Located Fault). number_at b (item_in t v)) (sym e) ∙ ap (number_at b) is
 
   pub number-found : (r p x : ℕ) → v ≡ Ok (record { row = r; place = p }) → x ≡ get_or t (r + 2) 0 → number_of x (part (number_width x) p b) ≡ number_at b (item_of (schema t) b n i)
   unfolding item_in number_at field_at
   number-found r p x e q =
       ap (λ (x : ℕ). number_of x (part (number_width x) p b)) (q ∙ sym (byte_at t r 2)) ∙ ap (λ (v : Result Located Fault). number_at b (item_in t v)) (sym e) ∙ ap (number_at b) is
 
-  pub part-missing : (m : ℕ) → v ≡ Err (fault_at m 0) → Err (fault_at m 0) ≡ part_at b (item_of (schema t) b n i)
+  pub part-missing : (f : Fault) → f.place ≡ 0 → v ≡ Err f → Err f ≡ part_at b (item_of (schema t) b n i)
   unfolding item_in part_at
-  part-missing m e = ap (λ (v : Result Located Fault). part_at b (item_in t v)) (sym e) ∙ ap (part_at b) is
+  part-missing f z e = ap (λ (k : ℕ). Err (fault_at f.number k)) z ∙ ap (λ (v : Result Located Fault). part_at b (item_in t v)) (sym e) ∙ ap (part_at b) is
 
   pub part-found : (r p : ℕ) → v ≡ Ok (record { row = r; place = p }) → part_of (field_in t r).type (field_in t r).kind b p ≡ part_at b (item_of (schema t) b n i)
   unfolding item_in part_at field_at
@@ -131,6 +132,10 @@ module _ (y : Ignored) (t b : List ℕ) (A : Accepted y t b) (v : Result Located
 
 pub row_inside : (t : List ℕ) (v : Result Located Fault) (r p : ℕ) → Recorded t v → v ≡ Ok (record { row = r; place = p }) → r + 16 ≤ length t
 row_inside t v r p h e = subst (Recorded t) e h
+
+-- what is missing is told at place 0
+pub at_none : (t : List ℕ) (v : Result Located Fault) (f : Fault) → Recorded t v → v ≡ Err f → f.place ≡ 0
+at_none t v f h e = subst (Recorded t) e h
 
 -- the part lies in the message
 pub part-inside : (y : Ignored) (t b : List ℕ) → Accepted y t b → (n i : ℕ) (v : Result Part Fault) → v ≡ part_at b (item_of (schema t) b n i) → (p m : ℕ) → v ≡ Ok (record { start = p; length = m }) → p + m ≤ length b
@@ -143,19 +148,24 @@ part-inside y t b A n i v is p m e =
     go (missing n) r = tt
     go (item f p) r = part-laid (inner y (schema t) b) (width (schema t) 4) (statics y (schema t) b) (top y (schema t) b) f.type f.kind p r
 
+pub verdict-and : (x : Result Part Fault) → result_and x (Ok tt) ≡ verdict_of x
+unfolding verdict_of
+verdict-and (Ok x) = refl
+verdict-and (Err f) = refl
+
 -- what is handed out of a part, and where it starts
 module _ (b : List ℕ) (x : Result Part Fault) where
-  pub bytes-none : (n : ℕ) → Err (fault_at n 0) ≡ x → [] ≡ bytes_in b x
+  pub bytes-none : (f : Fault) → Err f ≡ x → [] ≡ bytes_in b x
   unfolding bytes_in
-  bytes-none n e = ap (bytes_in b) e
+  bytes-none f e = ap (bytes_in b) e
 
   pub bytes-some : (p n : ℕ) → Ok (record { start = p; length = n }) ≡ x → part n p b ≡ bytes_in b x
   unfolding bytes_in
   bytes-some p n e = ap (bytes_in b) e
 
-  pub start_none : (q n : ℕ) → Err (fault_at n 0) ≡ x → 0 + q ≡ q + start_of x
+  pub start_none : (q : ℕ) (f : Fault) → Err f ≡ x → 0 + q ≡ q + start_of x
   unfolding start_of
-  start_none q n e = omega (arith, ap start_of e)
+  start_none q f e = omega (arith, ap start_of e)
 
   pub start-some : (q p n : ℕ) → Ok (record { start = p; length = n }) ≡ x → p + q ≡ q + start_of x
   unfolding start_of

@@ -44,6 +44,23 @@ pub enum Number {
     NanBits(u64),
 }
 
+// "28 no such field, 29 absent, 28 no such item, 48 other kind (each at place 0)"
+
+const NO_SUCH: Fault = Fault {
+    number: 28,
+    place: 0,
+};
+
+const ABSENT: Fault = Fault {
+    number: 29,
+    place: 0,
+};
+
+const OTHER_KIND: Fault = Fault {
+    number: 48,
+    place: 0,
+};
+
 // WHERE AN ITEM LIES
 // A group's fields have their records in the table from `row` on. The group's bytes are a message, or
 // a dynamic group in one.
@@ -63,12 +80,12 @@ fn locate_in_sequence(
     let start = at + wire::read_u32(group, at);
     if item < wire::read_u32(group, start) {
         let width = schema::kind_width(index, schema::kind_at(table, row));
-        return Located::At {
+        return Ok(Located {
             row,
             place: start + 4 + item * width,
-        };
+        });
     }
-    Located::Missing { number: 28 }
+    Err(NO_SUCH)
 }
 
 // Item `item` of the field whose value, or offset, stands at `at`.
@@ -87,9 +104,9 @@ fn locate_value(
         return locate_in_sequence(table, index, row, group, at, item);
     }
     if item == 0 {
-        return Located::At { row, place: at };
+        return Ok(Located { row, place: at });
     }
-    Located::Missing { number: 28 }
+    Err(NO_SUCH)
 }
 
 // Item `item` of the field at `at`. "29 absent, 28 no such item"
@@ -107,7 +124,7 @@ fn locate_item(
     let mut place = at;
     if schema::is_optional(table, row) {
         if group[at] == 0 {
-            return Located::Missing { number: 29 };
+            return Err(ABSENT);
         }
         place += 1;
     }
@@ -120,10 +137,8 @@ fn fields_width(table: &[u8], index: &[u16], row: usize, count: usize) -> usize
     ensures { result ≡ fields_width (width_in index.now) (fields_in table.now row count) }
 {
     let mut width = 0;
-    let mut i = 0;
-    while i < count {
+    for i in 0..count {
         width += schema::field_width(table, index, row + 16 * i);
-        i += 1;
     }
     width
 }
@@ -143,14 +158,20 @@ pub fn locate_from(
     ensures { Finds table.now result (item_from (width_in index.now) (fields_in table.now row count) group.now at field item) }
 {
     if count <= field {
-        return Located::Missing { number: 28 };
+        return Err(NO_SUCH);
     }
     let before = fields_width(table, index, row, field);
     locate_item(table, index, row + 16 * field, group, at + before, item)
 }
 
 // Item `item` of the message's field `field`.
-pub fn locate(table: &[u8], index: &[u16], message: &[u8], field: usize, item: usize) -> Result<Located, Fault>
+pub fn locate(
+    table: &[u8],
+    index: &[u16],
+    message: &[u8],
+    field: usize,
+    item: usize,
+) -> Result<Located, Fault>
     requires { (Layout table.now index.now) × (Accepted lax table.now message.now) }
     ensures { Finds table.now result (item_of (schema table.now) message.now field item) }
 {
@@ -227,40 +248,40 @@ pub fn number_at(bytes: &[u8], at: usize, number: u8) -> Result<Number, Fault>
     ensures { result ≡ number_of number (part (number_width number) at bytes.now) }
 {
     match number {
-        1 => unsigned_at(bytes, at, 1),
-        2 => signed_at(bytes, at, 1),
-        3 => unsigned_at(bytes, at, 2),
-        4 => signed_at(bytes, at, 2),
-        5 => unsigned_at(bytes, at, 4),
-        6 => signed_at(bytes, at, 4),
-        7 => unsigned_at(bytes, at, 8),
-        8 => signed_at(bytes, at, 8),
-        9 => float_at(bytes, at),
-        10 => decimal_at(bytes, at),
-        11 => Number::Bool(bytes[at] == 1),
-        12 => signed_at(bytes, at, 4),
-        13 => signed_at(bytes, at, 8),
-        14 => signed_at(bytes, at, 8),
-        15 => unsigned_at(bytes, at, 4),
-        16 => unsigned_at(bytes, at, 8),
-        20 => signed_at(bytes, at, 4),
-        _ => Number::Refused {
-            number: 48,
-            place: 0,
-        },
+        1 => Ok(unsigned_at(bytes, at, 1)),
+        2 => Ok(signed_at(bytes, at, 1)),
+        3 => Ok(unsigned_at(bytes, at, 2)),
+        4 => Ok(signed_at(bytes, at, 2)),
+        5 => Ok(unsigned_at(bytes, at, 4)),
+        6 => Ok(signed_at(bytes, at, 4)),
+        7 => Ok(unsigned_at(bytes, at, 8)),
+        8 => Ok(signed_at(bytes, at, 8)),
+        9 => Ok(float_at(bytes, at)),
+        10 => Ok(decimal_at(bytes, at)),
+        11 => Ok(Number::Bool(bytes[at] == 1)),
+        12 => Ok(signed_at(bytes, at, 4)),
+        13 => Ok(signed_at(bytes, at, 8)),
+        14 => Ok(signed_at(bytes, at, 8)),
+        15 => Ok(unsigned_at(bytes, at, 4)),
+        16 => Ok(unsigned_at(bytes, at, 8)),
+        20 => Ok(signed_at(bytes, at, 4)),
+        _ => Err(OTHER_KIND),
     }
 }
 
 // The number that item `item` of the message's field `field` is.
-pub fn read_number(table: &[u8], index: &[u16], message: &[u8], field: usize, item: usize) -> Result<Number, Fault>
+pub fn read_number(
+    table: &[u8],
+    index: &[u16],
+    message: &[u8],
+    field: usize,
+    item: usize,
+) -> Result<Number, Fault>
     requires { (Layout table.now index.now) × (Accepted lax table.now message.now) }
     ensures { result ≡ number_at message.now (item_of (schema table.now) message.now field item) }
 {
-    let found = locate(table, index, message, field, item);
-    match found {
-        Located::Missing { number } => Number::Refused { number, place: 0 },
-        Located::At { row, place } => number_at(message, place, table[row + 2]),
-    }
+    let found = locate(table, index, message, field, item)?;
+    number_at(message, found.place, table[found.row + 2])
 }
 
 // THE BYTES
@@ -271,47 +292,53 @@ pub fn part_at(table: &[u8], row: usize, bytes: &[u8], at: usize) -> Result<Part
     ensures { result ≡ part_of (field_in table.now row).type (field_in table.now row).kind bytes.now at }
 {
     if table[row + 2] == 19 {
-        return Part::Lies {
+        return Ok(Part {
             start: at,
             length: wire::wide(table[row + 5]),
-        };
+        });
     }
     let kind = schema::kind_at(table, row);
     match kind {
-        FieldKind::Plain { width } => Part::Refusal { number: 48 },
-        FieldKind::Number { tested } => Part::Refusal { number: 48 },
-        FieldKind::Inline { utf8, capacity } => Part::Lies {
+        FieldKind::Plain { width: _ } => Err(OTHER_KIND),
+        FieldKind::Number { tested: _ } => Err(OTHER_KIND),
+        FieldKind::Inline {
+            utf8: _,
+            capacity: _,
+        } => Ok(Part {
             start: at + 1,
             length: wire::wide(bytes[at]),
-        },
-        FieldKind::Indirect { utf8 } => {
+        }),
+        FieldKind::Indirect { utf8: _ } => {
             let start = at + wire::read_u32(bytes, at);
-            Part::Lies {
+            Ok(Part {
                 start: start + 4,
                 length: wire::read_u32(bytes, start),
-            }
+            })
         }
-        FieldKind::Static { group } => Part::Refusal { number: 48 },
-        FieldKind::Dynamic { allowed } => {
+        FieldKind::Static { group: _ } => Err(OTHER_KIND),
+        FieldKind::Dynamic { allowed: _ } => {
             let start = at + wire::read_u32(bytes, at);
-            Part::Lies {
+            Ok(Part {
                 start,
                 length: 4 + wire::read_u32(bytes, start),
-            }
+            })
         }
     }
 }
 
 // The part of item `item` of the message's field `field`.
-pub fn find_part(table: &[u8], index: &[u16], message: &[u8], field: usize, item: usize) -> Result<Part, Fault>
+pub fn find_part(
+    table: &[u8],
+    index: &[u16],
+    message: &[u8],
+    field: usize,
+    item: usize,
+) -> Result<Part, Fault>
     requires { (Layout table.now index.now) × (Accepted lax table.now message.now) }
     ensures { result ≡ part_at message.now (item_of (schema table.now) message.now field item) }
 {
-    let found = locate(table, index, message, field, item);
-    match found {
-        Located::Missing { number } => Part::Refusal { number },
-        Located::At { row, place } => part_at(table, row, message, place),
-    }
+    let found = locate(table, index, message, field, item)?;
+    part_at(table, found.row, message, found.place)
 }
 
 // "the exact part of the caller's message", or the empty part on refusal
@@ -327,11 +354,10 @@ pub fn read_bytes<'a>(
     ensures block { result.ref_ptr.0 ≡ message.entry.ref_ptr.0 }
     ensures offset { result.ref_ptr.1 ≡ message.entry.ref_ptr.1 + start_of (part_at message.now (item_of (schema table.now) message.now field item)) }
 {
-    let part = find_part(table, index, message, field, item);
-    match part {
-        Part::Refusal { number } => &message[0..0],
-        Part::Lies { start, length } => &message[start..start + length],
-    }
+    let Ok(part) = find_part(table, index, message, field, item) else {
+        return &message[0..0];
+    };
+    &message[part.start..part.start + part.length]
 }
 
 // Whether there are bytes to read, and if not, why: "a twin question gives the number".
@@ -345,9 +371,5 @@ pub fn read_bytes_verdict(
     requires { (Layout table.now index.now) × (Accepted lax table.now message.now) }
     ensures { result ≡ verdict_of (part_at message.now (item_of (schema table.now) message.now field item)) }
 {
-    let part = find_part(table, index, message, field, item);
-    match part {
-        Part::Refusal { number } => Verdict::Refused { number, place: 0 },
-        Part::Lies { start, length } => Verdict::Accepted,
-    }
+    find_part(table, index, message, field, item).and(Ok(()))
 }

@@ -1,4 +1,4 @@
-use mathlib.Core.Path.{sym, ◌∙◌}
+use mathlib.Core.Path.{refl, sym, ◌∙◌}
 use native.Mathlib.Omega.{arith}
 use Rattle.schema.specs.Table.{enums}
 use Rattle.schema.specs.Layout.{width_in}
@@ -9,7 +9,7 @@ use Rattle.reading.proofs.locate_from.Goals as goal
 pub returns-then-count-field : goal.returns-then-count-field
 returns-then-count-field c =
     let a = c.args in
-    (unfold item_in in sym (from-none (width_in a.index.now) a.group.now (enums a.table.now) a.table.now a.item a.count a.field a.row a.at c.if-count-field.true), tt)
+    (unfold item_in in sym (from-none (width_in a.index.now) a.group.now (enums a.table.now) a.table.now a.item a.count a.field a.row a.at c.if-count-field.true), refl)
 
 pub overflow_add-at : goal.overflow_add-at
 overflow_add-at c =

@@ -1,4 +1,4 @@
-use mathlib.Core.Path.{ap, ◌∙◌}
+use mathlib.Core.Path.{refl, ap, ◌∙◌}
 use Prim.Native.Nat.{ℕ, ◌+◌}
 use native.Mathlib.Omega.{arith}
 use Rattle.schema.specs.Table.{enums}
@@ -23,4 +23,4 @@ returns-then-item-read_u32 c =
 pub returns : goal.returns
 returns c =
     let a = c.args in
-    (sequence-miss a.table.now a.row (width_in a.index.now) a.group.now a.at a.item (a.at + c.read_u32.result) c.read_u32-2.result (omega (arith, c.read_u32.ensures.0)) (c.read_u32-2.ensures.0 ∙ ap (λ (x : ℕ). le (part 4 (a.at + x) a.group.now)) c.read_u32.ensures.0) c.if-item-read_u32.false, tt)
+    (sequence-miss a.table.now a.row (width_in a.index.now) a.group.now a.at a.item (a.at + c.read_u32.result) c.read_u32-2.result (omega (arith, c.read_u32.ensures.0)) (c.read_u32-2.ensures.0 ∙ ap (λ (x : ℕ). le (part 4 (a.at + x) a.group.now)) c.read_u32.ensures.0) c.if-item-read_u32.false, refl)

@@ -1,4 +1,4 @@
-use mathlib.Core.Path.{◌≡◌, sym, ◌∙◌}
+use mathlib.Core.Path.{refl, ◌≡◌, sym, ◌∙◌}
 use Rattle.schema.specs.Table.{enums}
 use Rattle.schema.specs.Layout.{width_in}
 use Rattle.reading.specs.Item.{field_in, value_item, field_item}
@@ -14,7 +14,7 @@ bounds-group-at c =
 pub returns-then-group-at-eq0 : goal.returns-then-group-at-eq0
 returns-then-group-at-eq0 c =
     let a = c.args in
-    (field-absent a.table.now a.row (width_in a.index.now) a.group.now a.at a.item (sym (c.is_optional.ensures (enums a.table.now)) ∙ c.if-is_optional.true) c.if-group-at-eq0.true, tt)
+    (field-absent a.table.now a.row (width_in a.index.now) a.group.now a.at a.item (sym (c.is_optional.ensures (enums a.table.now)) ∙ c.if-is_optional.true) c.if-group-at-eq0.true, refl)
 
 pub locate_value-requires : goal.locate_value-requires
 locate_value-requires c =

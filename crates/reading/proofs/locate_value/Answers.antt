@@ -1,4 +1,4 @@
-use mathlib.Core.Path.{sym, ◌∙◌}
+use mathlib.Core.Path.{refl, sym, ◌∙◌}
 use Rattle.schema.specs.Table.{enums}
 use Rattle.schema.specs.Layout.{width_in}
 use Rattle.reading.proofs.Items.{value-sequence, value-one, value_none}
@@ -23,4 +23,4 @@ returns-then-item-eq0 c =
 pub returns : goal.returns
 returns c =
     let a = c.args in
-    (value_none a.table.now a.row (width_in a.index.now) a.group.now a.at a.item (sym (c.is_sequence.ensures (enums a.table.now)) ∙ c.if-is_sequence.false) c.if-item-eq0.false, tt)
+    (value_none a.table.now a.row (width_in a.index.now) a.group.now a.at a.item (sym (c.is_sequence.ensures (enums a.table.now)) ∙ c.if-is_sequence.false) c.if-item-eq0.false, refl)

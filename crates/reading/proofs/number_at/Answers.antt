@@ -1,3 +1,4 @@
+use Rattle.std.proofs.Common.{Ok}
 use mathlib.Core.Path.{refl, sym, ap}
 use Prim.Native.Nat.{ℕ}
 use native.Mathlib.Omega.{arith}
@@ -80,71 +81,71 @@ signed_at-requires-in-20 c = (room _ 20 4 _ _ c.in-20.is refl c.requires, refl)
 
 pub returns-in-1 : goal.returns-in-1
 unfolding number_of number_width member scalar_width
-returns-in-1 c = rw c.in-1.is c.unsigned_at.ensures
+returns-in-1 c = rw c.in-1.is (ap Ok c.unsigned_at.ensures)
 
 pub returns-in-2 : goal.returns-in-2
 unfolding number_of number_width member scalar_width
-returns-in-2 c = rw c.in-2.is c.signed_at.ensures
+returns-in-2 c = rw c.in-2.is (ap Ok c.signed_at.ensures)
 
 pub returns-in-3 : goal.returns-in-3
 unfolding number_of number_width member scalar_width
-returns-in-3 c = rw c.in-3.is c.unsigned_at-in-3.ensures
+returns-in-3 c = rw c.in-3.is (ap Ok c.unsigned_at-in-3.ensures)
 
 pub returns-in-4 : goal.returns-in-4
 unfolding number_of number_width member scalar_width
-returns-in-4 c = rw c.in-4.is c.signed_at-in-4.ensures
+returns-in-4 c = rw c.in-4.is (ap Ok c.signed_at-in-4.ensures)
 
 pub returns-in-5 : goal.returns-in-5
 unfolding number_of number_width member scalar_width
-returns-in-5 c = rw c.in-5.is c.unsigned_at-in-5.ensures
+returns-in-5 c = rw c.in-5.is (ap Ok c.unsigned_at-in-5.ensures)
 
 pub returns-in-6 : goal.returns-in-6
 unfolding number_of number_width member scalar_width
-returns-in-6 c = rw c.in-6.is c.signed_at-in-6.ensures
+returns-in-6 c = rw c.in-6.is (ap Ok c.signed_at-in-6.ensures)
 
 pub returns-in-7 : goal.returns-in-7
 unfolding number_of number_width member scalar_width
-returns-in-7 c = rw c.in-7.is c.unsigned_at-in-7.ensures
+returns-in-7 c = rw c.in-7.is (ap Ok c.unsigned_at-in-7.ensures)
 
 pub returns-in-8 : goal.returns-in-8
 unfolding number_of number_width member scalar_width
-returns-in-8 c = rw c.in-8.is c.signed_at-in-8.ensures
+returns-in-8 c = rw c.in-8.is (ap Ok c.signed_at-in-8.ensures)
 
 pub returns-in-9 : goal.returns-in-9
 unfolding number_of number_width member scalar_width
-returns-in-9 c = rw c.in-9.is c.float_at.ensures
+returns-in-9 c = rw c.in-9.is (ap Ok c.float_at.ensures)
 
 pub returns-in-10 : goal.returns-in-10
 unfolding number_of number_width member scalar_width
-returns-in-10 c = rw c.in-10.is c.decimal_at.ensures
+returns-in-10 c = rw c.in-10.is (ap Ok c.decimal_at.ensures)
 
 pub returns-in-11 : goal.returns-in-11
 unfolding number_of number_width member scalar_width
-returns-in-11 c = rw c.in-11.is (ap (λ (x : ℕ). Flag (eqb x 1)) (sym (le-one c.args.bytes.now c.args.at (room _ 11 1 _ _ c.in-11.is refl c.requires))))
+returns-in-11 c = rw c.in-11.is (ap (λ (x : ℕ). Ok (Flag (eqb x 1))) (sym (le-one c.args.bytes.now c.args.at (room _ 11 1 _ _ c.in-11.is refl c.requires))))
 
 pub returns-in-12 : goal.returns-in-12
 unfolding number_of number_width member scalar_width
-returns-in-12 c = rw c.in-12.is c.signed_at-in-12.ensures
+returns-in-12 c = rw c.in-12.is (ap Ok c.signed_at-in-12.ensures)
 
 pub returns-in-13 : goal.returns-in-13
 unfolding number_of number_width member scalar_width
-returns-in-13 c = rw c.in-13.is c.signed_at-in-13.ensures
+returns-in-13 c = rw c.in-13.is (ap Ok c.signed_at-in-13.ensures)
 
 pub returns-in-14 : goal.returns-in-14
 unfolding number_of number_width member scalar_width
-returns-in-14 c = rw c.in-14.is c.signed_at-in-14.ensures
+returns-in-14 c = rw c.in-14.is (ap Ok c.signed_at-in-14.ensures)
 
 pub returns-in-15 : goal.returns-in-15
 unfolding number_of number_width member scalar_width
-returns-in-15 c = rw c.in-15.is c.unsigned_at-in-15.ensures
+returns-in-15 c = rw c.in-15.is (ap Ok c.unsigned_at-in-15.ensures)
 
 pub returns-in-16 : goal.returns-in-16
 unfolding number_of number_width member scalar_width
-returns-in-16 c = rw c.in-16.is c.unsigned_at-in-16.ensures
+returns-in-16 c = rw c.in-16.is (ap Ok c.unsigned_at-in-16.ensures)
 
 pub returns-in-20 : goal.returns-in-20
 unfolding number_of number_width member scalar_width
-returns-in-20 c = rw c.in-20.is c.signed_at-in-20.ensures
+returns-in-20 c = rw c.in-20.is (ap Ok c.signed_at-in-20.ensures)
 
 pub returns-in_default : goal.returns-in_default
 returns-in_default c = let m = c.in_default.in_default-own.rest in other _ _ m.0.0.0.0.0.0.0.0.0.0.0.0.0.0.0.0.1 m.0.0.0.0.0.0.0.0.0.0.0.0.0.0.0.1 m.0.0.0.0.0.0.0.0.0.0.0.0.0.0.1 m.0.0.0.0.0.0.0.0.0.0.0.0.0.1 m.0.0.0.0.0.0.0.0.0.0.0.0.1 m.0.0.0.0.0.0.0.0.0.0.0.1 m.0.0.0.0.0.0.0.0.0.0.1 m.0.0.0.0.0.0.0.0.0.1 m.0.0.0.0.0.0.0.0.1 m.0.0.0.0.0.0.0.1 m.0.0.0.0.0.0.1 m.0.0.0.0.0.1 m.0.0.0.0.1 m.0.0.0.1 m.0.0.1 m.0.1 m.1

@@ -1,7 +1,7 @@
 -- The scan of a text, form by form.
 use Prim.Native.Nat.{ℕ, zero, suc, ◌+◌, ◌-◌, ◌*◌, ◌/◌, ◌^◌, ◌<◌, ◌≤◌}
 use mathlib.Core.Path.{◌≡◌, refl, sym, ap, ◌∙◌}
-use mathlib.Core.Bool.{Bool, true, false, not, cond, ◌&&◌}
+use mathlib.Core.Bool.{Bool, true, false, cond, ◌&&◌}
 use mathlib.Core.List.{List, [], ◌∷◌}
 use native.Mathlib.Omega.{arith}
 use native.Mathlib.Nat.{mod-eq_of_lt}
@@ -9,10 +9,10 @@ use lib.Bits.{bit_and, and_block, and_high}
 use lib.ListN.{length, get_or, drop, replicate, drop_of_length-le}
 use lib.Seq.{get_or-take, get_or-drop}
 use lib.Dec.{leb, ltb}
-use borrow.Author.Tests.{lt-ltb, le-ltb, ltb-true, ltb-false, not-true, not-false}
+use borrow.Author.Tests.{lt-ltb, le-ltb, ltb-true, ltb-false}
 use Rattle.wire.specs.Bytes.{part, le}
 use Rattle.wire.specs.Utf8.{Text, valid, broken, after, begins, follow, lowest, highest, text_from, is_valid, utf8}
-use Rattle.wire.specs.Scan.{Form, Ascii, all_ascii, next}
+use Rattle.wire.specs.Scan.{Form, all_ascii, next}
 use Rattle.wire.proofs.Laws.{drop_more, length_part}
 
 valid-after : (t : Text) → is_valid (after t) ≡ is_valid t
@@ -33,9 +33,9 @@ module _ (s : List ℕ) (at : ℕ) where
   unfolding utf8 text_from
   starts k h b f l u = rw (drop_more s at h, b, f, l, u) (valid-after _)
 
-  pub no_start : at < length s → begins (get_or s at 0) ≡ false → Form s at 0
+  pub no_start : at < length s → begins (get_or s at 0) ≡ false → utf8 (drop at s) ≡ false
   unfolding utf8 text_from is_valid
-  no_start h b = record { inside = omega arith; breaks = λ e. rw (drop_more s at h, b); passes = λ n. absurd (n refl) }
+  no_start h b = rw (drop_more s at h, b)
 
   -- a byte that is due, at p
   pub fits : (k p low high : ℕ) → utf8 (drop at s) ≡ is_valid (text_from (suc k) low high (drop p s)) → next s p low high ≡ true
@@ -48,9 +48,9 @@ module _ (s : List ℕ) (at : ℕ) where
       go true l f = rw (drop_more s p (ltb-true _ _ l), f) (valid-after _)
       go false l f = cc
 
-  pub misfits : (k p low high : ℕ) → at ≤ length s → utf8 (drop at s) ≡ is_valid (text_from (suc k) low high (drop p s)) → next s p low high ≡ false → Form s at 0
+  pub misfits : (k p low high : ℕ) → utf8 (drop at s) ≡ is_valid (text_from (suc k) low high (drop p s)) → next s p low high ≡ false → utf8 (drop at s) ≡ false
   unfolding text_from is_valid
-  misfits k p low high h so e = record { inside = omega arith; breaks = λ z. so ∙ go (ltb p (length s)) refl e; passes = λ n. absurd (n refl) }
+  misfits k p low high so e = so ∙ go (ltb p (length s)) refl e
     where
       go : (b : Bool) → ltb p (length s) ≡ b → b && (leb low (get_or s p 0) && leb (get_or s p 0) high) ≡ false
           → is_valid (text_from (suc k) low high (drop p s)) ≡ false
@@ -59,7 +59,7 @@ module _ (s : List ℕ) (at : ℕ) where
 
   -- no byte is due
   pub ends : (n low high : ℕ) → at + suc n ≤ length s → utf8 (drop at s) ≡ is_valid (text_from 0 low high (drop (at + suc n) s)) → Form s at (suc n)
-  ends n low high h so = record { inside = h; breaks = λ e. absurd (omega arith); passes = λ z. so ∙ any-bounds _ _ _ }
+  ends n low high h so = record { some = omega arith; inside = h; passes = so ∙ any-bounds _ _ _ }
 
   pub inside : (p low high : ℕ) → next s p low high ≡ true → p < length s
   inside p low high e = ltb-true _ _ (first (ltb p (length s)) _ e)
@@ -100,47 +100,41 @@ module _ (b : ℕ) (h : 0x80 ≤ b) where
       go true = refl
       go false = refl
 
--- a form of more than one byte, by the tests of the scan in their order: t is the test of the second byte, u and v of the next two
+-- a form of more than one byte, by the tests of the scan in their order
 module _ (s : List ℕ) (at low high : ℕ) (h : at < length s) (n : 0x80 ≤ get_or s at 0) (g : begins (get_or s at 0) ≡ true) (l : low ≡ lowest (get_or s at 0)) (m : high ≡ highest (get_or s at 0)) where
   so : (k : ℕ) → follow (get_or s at 0) ≡ k → utf8 (drop at s) ≡ is_valid (text_from k low high (drop (at + 1) s))
   so k f = starts s at k h g f l m
 
-  pub bad-second : (t : Bool) → t ≡ next s (at + 1) low high → not t ≡ true → Form s at 0
-  bad-second t e f = misfits s at _ _ low high (omega arith) (so _ (follow-some _ n)) (sym e ∙ not-true t f)
+  pub bad-second : next s (at + 1) low high ≡ false → utf8 (drop at s) ≡ false
+  bad-second e = misfits s at _ _ low high (so _ (follow-some _ n)) e
 
-  module _ (t : Bool) (e : t ≡ next s (at + 1) low high) (f : not t ≡ false) where
-    second : next s (at + 1) low high ≡ true
-    second = sym e ∙ not-false t f
-
+  module _ (second : next s (at + 1) low high ≡ true) where
     after-second : (k : ℕ) → follow (get_or s at 0) ≡ suc k → utf8 (drop at s) ≡ is_valid (text_from k 0x80 0xBF (drop (at + 2) s))
     after-second k d = let p : at + 1 + 1 ≡ at + 2 = omega arith in rw p at (fits s at k (at + 1) low high (so (suc k) d) second)
 
     pub form-two : get_or s at 0 < 0xE0 → Form s at 2
     form-two w = let i = inside s at (at + 1) low high second in ends s at 1 0x80 0xBF (omega arith) (after-second 0 (follow_one _ n w))
 
-    pub bad-third : (u : Bool) → u ≡ next s (at + 2) 0x80 0xBF → not u ≡ true → 0xE0 ≤ get_or s at 0 → Form s at 0
-    bad-third u e' f' w = misfits s at _ _ 0x80 0xBF (omega arith) (after-second _ (follow-more _ n w)) (sym e' ∙ not-true u f')
+    module _ (w : 0xE0 ≤ get_or s at 0) where
+      pub bad-third : next s (at + 2) 0x80 0xBF ≡ false → utf8 (drop at s) ≡ false
+      bad-third e = misfits s at _ _ 0x80 0xBF (after-second _ (follow-more _ n w)) e
 
-    module _ (u : Bool) (e' : u ≡ next s (at + 2) 0x80 0xBF) (f' : not u ≡ false) where
-      third : next s (at + 2) 0x80 0xBF ≡ true
-      third = sym e' ∙ not-false u f'
+      module _ (third : next s (at + 2) 0x80 0xBF ≡ true) where
+        after-third : (k : ℕ) → follow (get_or s at 0) ≡ suc (suc k) → utf8 (drop at s) ≡ is_valid (text_from k 0x80 0xBF (drop (at + 3) s))
+        after-third k d = let p : at + 2 + 1 ≡ at + 3 = omega arith in rw p at (fits s at k (at + 2) 0x80 0xBF (after-second (suc k) d) third)
 
-      after-third : (k : ℕ) → follow (get_or s at 0) ≡ suc (suc k) → utf8 (drop at s) ≡ is_valid (text_from k 0x80 0xBF (drop (at + 3) s))
-      after-third k d = let p : at + 2 + 1 ≡ at + 3 = omega arith in rw p at (fits s at k (at + 2) 0x80 0xBF (after-second (suc k) d) third)
+        pub form-three : get_or s at 0 < 0xF0 → Form s at 3
+        form-three x = let i = inside s at (at + 2) 0x80 0xBF third in ends s at 2 0x80 0xBF (omega arith) (after-third 0 (follow-two _ n w x))
 
-      pub form-three : 0xE0 ≤ get_or s at 0 → get_or s at 0 < 0xF0 → Form s at 3
-      form-three w x = let i = inside s at (at + 2) 0x80 0xBF third in ends s at 2 0x80 0xBF (omega arith) (after-third 0 (follow-two _ n w x))
+        module _ (x : 0xF0 ≤ get_or s at 0) where
+          pub bad-fourth : next s (at + 3) 0x80 0xBF ≡ false → utf8 (drop at s) ≡ false
+          bad-fourth e = misfits s at 0 (at + 3) 0x80 0xBF (after-third 1 (follow-three _ n w x)) e
 
-      module _ (v : Bool) (e'' : v ≡ next s (at + 3) 0x80 0xBF) (w : 0xE0 ≤ get_or s at 0) (x : 0xF0 ≤ get_or s at 0) where
-        pub bad-fourth : not v ≡ true → Form s at 0
-        bad-fourth f'' = misfits s at 0 (at + 3) 0x80 0xBF (omega arith) (after-third 1 (follow-three _ n w x)) (sym e'' ∙ not-true v f'')
-
-        pub form-four : not v ≡ false → Form s at 4
-        form-four f'' =
-            let fourth : next s (at + 3) 0x80 0xBF ≡ true = sym e'' ∙ not-false v f'' in
-            let i = inside s at (at + 3) 0x80 0xBF fourth in
-            let p : at + 3 + 1 ≡ at + 4 = omega arith in
-            ends s at 3 0x80 0xBF (omega arith) (rw p at (fits s at 0 (at + 3) 0x80 0xBF (after-third 1 (follow-three _ n w x)) fourth))
+          pub form-four : next s (at + 3) 0x80 0xBF ≡ true → Form s at 4
+          form-four fourth =
+              let i = inside s at (at + 3) 0x80 0xBF fourth in
+              let p : at + 3 + 1 ≡ at + 4 = omega arith in
+              ends s at 3 0x80 0xBF (omega arith) (rw p at (fits s at 0 (at + 3) 0x80 0xBF (after-third 1 (follow-three _ n w x)) fourth))
 
 -- ASCII
 
@@ -175,35 +169,34 @@ low-bytes (b ∷ s) small e =
     go z r (suc k) h = r k (omega arith)
 
 module _ (s : List ℕ) (at : ℕ) where
-  pub no-ascii : 0x80 ≤ get_or s at 0 → Ascii s at 0
-  no-ascii h = record { none = λ e. h; some = λ n. absurd (n refl) }
+  pub one-ascii : at < length s → get_or s at 0 < 0x80 → Form s at 1
+  one-ascii h l = record { some = omega arith; inside = omega arith; passes = ascii-one s at h l }
 
-  pub one-ascii : at < length s → get_or s at 0 < 0x80 → Ascii s at 1
-  one-ascii h l = record { none = λ e. absurd (omega arith); some = λ n. record { inside = omega arith; breaks = λ e. absurd (omega arith); passes = λ z. ascii-one s at h l } }
-
-  pub eight-ascii : at + 8 ≤ length s → ((k : ℕ) → get_or s k 0 < 0x100) → bit_and (le (part 8 at s)) 0x8080808080808080 ≡ 0 → Ascii s at 8
+  pub eight-ascii : at + 8 ≤ length s → ((k : ℕ) → get_or s k 0 < 0x100) → bit_and (le (part 8 at s)) 0x8080808080808080 ≡ 0 → Form s at 8
   unfolding le
   eight-ascii h small e =
       let l = length_part 8 at s h in
       let same : (k : ℕ) → k < 8 → get_or (part 8 at s) k 0 ≡ get_or s (at + k) 0 = λ k j. get_or-take 8 (drop at s) k 0 j ∙ get_or-drop at s k 0 in
       let low = low-bytes (part 8 at s) (λ k j. rw (same k (omega arith)) (small (at + k))) (rw l e) in
       let run = ascii_run 8 at s h (λ k j. rw (same k j) at (low k (omega arith))) in
-      record { none = λ e. absurd (omega arith); some = λ n. record { inside = h; breaks = λ e. absurd (omega arith); passes = λ z. run } }
+      record { some = omega arith; inside = h; passes = run }
 
 pub both : (x y : Bool) → x && y ≡ true → (x ≡ true) × (y ≡ true)
 both true y e = (refl, e)
 both false y e = (e, cc)
 
+-- two forms in a row, passed over at once
+pub Form-add : (m n at : ℕ) (s : List ℕ) → Form s at m → Form s (at + m) n → Form s at (m + n)
+Form-add m n at s f g =
+    let p : at + m + n ≡ at + (m + n) = omega arith in
+    record { some = omega (arith, f.some); inside = omega (arith, g.inside); passes = f.passes ∙ g.passes ∙ rw p }
+
 -- four runs of eight are one of 32
-pub four-eights : (at : ℕ) (s : List ℕ) → Ascii s at 8 → Ascii s (at + 8) 8 → Ascii s (at + 16) 8 → Ascii s (at + 24) 8 → Ascii s at 32
+pub four-eights : (at : ℕ) (s : List ℕ) → Form s at 8 → Form s (at + 8) 8 → Form s (at + 16) 8 → Form s (at + 24) 8 → Form s at 32
 four-eights at s a b c d =
-    let n : ◌≡◌ {A = ℕ} 8 0 → ⊥ = λ z. omega arith in
     let p : at + 8 + 8 ≡ at + 16 = omega arith in
     let q : at + 16 + 8 ≡ at + 24 = omega arith in
-    let r : at + 24 + 8 ≡ at + 32 = omega arith in
-    let run : utf8 (drop at s) ≡ utf8 (drop (at + 32) s) =
-    (a.some n).passes n ∙ (rw p at ((b.some n).passes n)) ∙ (rw q at ((c.some n).passes n)) ∙ (rw r at ((d.some n).passes n)) in
-    record { none = λ e. absurd (omega arith); some = λ z. record { inside = omega (arith, rw r at (d.some n).inside); breaks = λ e. absurd (omega arith); passes = λ z. run } }
+    Form-add 8 24 at s a (Form-add 8 16 (at + 8) s b (rw p (Form-add 8 8 (at + 16) s c (rw q d))))
 
 -- a part that is all ASCII can be passed over
 pub ascii-part : (n at : ℕ) (s : List ℕ) → at + n ≤ length s → all_ascii (part n at s) ≡ true → utf8 (drop at s) ≡ utf8 (drop (at + n) s)

@@ -6,8 +6,8 @@ use mathlib.Core.List.{List, [], ◌∷◌, ◌++◌, append_assoc}
 use native.Mathlib.Omega.{arith}
 use native.Mathlib.Numerals.{add-one}
 use native.Mathlib.Nat.{zero-add, suc-add, add_assoc, pow-succ', mul_assoc, div-div-eq-div-mul, div-one}
-use lib.ListN.{length, get_or, set, take, drop, length-append, length-take, length-drop, length-set, take-append-drop}
-use lib.Seq.{drop-cons, drop-drop, take-add, take-take, take_all, take-nil, take_at, drop_at, take-suc-set, drop-set-lt}
+use lib.ListN.{length, get_or, set, take, drop, length-append, length-take, length-drop, take-append-drop}
+use lib.Seq.{drop-cons, drop-drop, take-add, take-take, take-nil, take_at, drop_at, take-suc-set, drop-set-lt}
 use lib.Dec.{eqb}
 use borrow.Author.Tests.{eq-eqb, eqb-true}
 use Rattle.wire.specs.Bytes.{part, splice, le, bytes_of, same}
@@ -144,9 +144,6 @@ unfolding le
 le-append [] ys = omega arith
 le-append (x ∷ xs) ys = rw (le-append xs ys, pow-succ', mul_assoc) (omega arith)
 
-pub le-add : (m n at : ℕ) (s : List ℕ) → at + m ≤ length s → le (part (m + n) at s) ≡ le (part m at s) + 256 ^ m * le (part n (at + m) s)
-le-add m n at s h = rw (part-add, le-append, length_part m at s h)
-
 pub length-bytes : (n x : ℕ) → length (bytes_of n x) ≡ n
 unfolding bytes_of
 length-bytes zero x = refl
@@ -157,11 +154,6 @@ pub bytes-add : (m n x : ℕ) → bytes_of (m + n) x ≡ bytes_of m x ++ bytes_o
 unfolding bytes_of
 bytes-add zero n x = rw (zero-add, div-one)
 bytes-add (suc m) n x = rw (suc-add, bytes-add m n (x / 256), div-div-eq-div-mul, pow-succ')
-
--- the bytes of a number, written in two parts
-pub write-add : (m n at x : ℕ) (s : List ℕ) → at + m ≤ length s
-    → splice n (at + m) (bytes_of n (x / 256 ^ m)) (splice m at (bytes_of m x) s) ≡ splice (m + n) at (bytes_of (m + n) x) s
-write-add m n at x s h = rw (bytes-add m n x) (splice-append m n at (bytes_of m x) _ s (length-bytes m x) h)
 
 -- each undoes the other
 pub le_bytes : (n x : ℕ) → x < 256 ^ n → le (bytes_of n x) ≡ x
@@ -187,15 +179,3 @@ le-bound (x ∷ s) h = let x< : x < 256 = h 0 in let l = le-bound s (λ i. h (su
 
 pub two : (at : ℕ) (s : List ℕ) → at + 2 ≤ length s → part 2 at s ≡ get_or s at 0 ∷ (get_or s (at + 1) 0 ∷ [])
 two at s h = rw (drop_more s at (omega arith), drop_more s (at + 1) (omega arith))
-
-pub le-two : (at : ℕ) (s : List ℕ) → at + 2 ≤ length s → le (part 2 at s) ≡ get_or s at 0 + 256 * get_or s (at + 1) 0
-unfolding le
-le-two at s h = rw (two at s h) (omega arith)
-
-pub two-of : (s : List ℕ) → length s ≡ 2 → s ≡ get_or s 0 0 ∷ (get_or s 1 0 ∷ [])
-two-of s h = sym (take_all 2 s (omega arith)) ∙ two 0 s (omega arith)
-
--- two stores in a row
-pub store_two : (at x y : ℕ) (s : List ℕ) → at + 2 ≤ length s → set (set s at x) (at + 1) y ≡ splice 2 at (x ∷ (y ∷ [])) s
-store_two at x y s h =
-    sym (splice-cons 1 at x (y ∷ []) s (omega arith) ∙ splice-cons 0 (at + 1) y [] (set s at x) (simp length-set (omega arith)) ∙ splice-nil (at + 1 + 1) _)

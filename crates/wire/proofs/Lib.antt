@@ -3,4 +3,4 @@ pub mod Turns
 pub mod Signed
 pub mod Nan
 pub mod Forms
-pub mod Copies
+pub mod Numbers

@@ -1,96 +1,42 @@
--- One turn of each loop, as an equation of its definition.
-use Prim.Native.Nat.{ℕ, zero, suc, ◌+◌, ◌-◌, ◌<◌, ◌≤◌}
-use mathlib.Core.Path.{◌≡◌, refl, sym, ap, ◌∙◌}
-use mathlib.Core.Bool.{Bool, ◌&&◌, and-true, and_assoc}
+-- Tests of bytes as equations: a turn of the loops without early exit, the first byte that is not zero, and sameness by `==`.
+use Prim.Native.Nat.{ℕ, zero, suc, ◌+◌, ◌<◌, ◌≤◌}
+use mathlib.Core.Path.{◌≡◌, refl, sym, ap}
+use mathlib.Core.Bool.{Bool, true, ◌&&◌, and-true, and_assoc}
 use mathlib.Core.List.{List, [], ◌∷◌}
+use lib.ListN.{length, get_or, drop, drop_of_length-le}
+use lib.Dec.{eqb}
+use lib.Pointwise.{pointwise}
 use native.Mathlib.Omega.{arith}
-use native.Mathlib.Nat.{add-zero, sub-zero}
-use lib.ListN.{length, get_or, set, replicate}
-use lib.Dec.{eqb, ltb}
-use Rattle.wire.specs.Bytes.{part, splice, same, all_zero, zeros}
-use Rattle.wire.specs.Scan.{all_ascii}
-use Rattle.wire.proofs.Laws.{drop_more, two, two-of, splice-cons, splice-nil}
+use Rattle.wire.specs.Bytes.{same, zeros}
+use Rattle.wire.proofs.Laws.{drop_more}
 
--- of the n bytes from `at` on, those behind the first i
-abbrev pub rest : ℕ → ℕ → ℕ → List ℕ → List ℕ
-rest n at i s = part (n - i) (at + i) s
+-- f tests every byte by p, as `all_zero` and `all_ascii` do; z is what the loop found of the first i
+module _ (f : List ℕ → Bool) (p : ℕ → Bool) (none : f [] ≡ true) (more : (x : ℕ) (xs : List ℕ) → f (x ∷ xs) ≡ p x && f xs) (s : List ℕ) (i : ℕ) (z : Bool) where
+  pub test-turn : i < length s → z && f (drop i s) ≡ z && p (get_or s i 0) && f (drop (i + 1) s)
+  test-turn h = rw (drop_more s i h, more) (sym (and_assoc z _ _))
 
-module _ (n at : ℕ) (s : List ℕ) where
-  pub rest_all : rest n at 0 s ≡ part n at s
-  rest_all = rw (sub-zero, add-zero)
+  pub test-end : length s ≤ i → z && f (drop i s) ≡ z
+  test-end h = rw (drop_of_length-le s h, none) (and-true z)
 
-  pub rest_more : (i : ℕ) → i < n → at + n ≤ length s → rest n at i s ≡ get_or s (at + i) 0 ∷ rest n at (i + 1) s
-  rest_more i h l =
-      let e : n - i ≡ suc (n - (i + 1)) = omega arith in
-      let f : at + i + 1 ≡ at + (i + 1) = omega arith in
-      rw (e, drop_more s (at + i) (omega arith), f)
+pub zeros-hit : (x : ℕ) (xs : List ℕ) → (x ≡ 0 → ⊥) → zeros (x ∷ xs) ≡ 0
+unfolding zeros
+zeros-hit zero xs h = absurd (h refl)
+zeros-hit (suc x) xs h = refl
 
-  pub rest-none : (i : ℕ) → n ≤ i → rest n at i s ≡ []
-  rest-none i h = let e : n - i ≡ 0 = omega arith in rw e
+pub zeros-miss : (x : ℕ) (xs : List ℕ) → x ≡ 0 → zeros (x ∷ xs) ≡ zeros xs + 1
+unfolding zeros
+zeros-miss x xs h = rw h (omega arith)
 
-  -- ZEROS
+pub zeros-le : (xs : List ℕ) → zeros xs ≤ length xs
+unfolding zeros
+zeros-le [] = omega arith
+zeros-le (zero ∷ xs) = omega (arith, zeros-le xs)
+zeros-le (suc x ∷ xs) = omega arith
 
-  pub zero_turn : (z : Bool) (i : ℕ) → i < n → at + n ≤ length s → z && all_zero (rest n at i s) ≡ z && eqb (get_or s (at + i) 0) 0 && all_zero (rest n at (i + 1) s)
-  unfolding all_zero
-  zero_turn z i h l = rw (rest_more i h l) (sym (and_assoc z _ _))
-
-  pub zero-end : (z : Bool) (i : ℕ) → n ≤ i → z && all_zero (rest n at i s) ≡ z
-  unfolding all_zero
-  zero-end z i h = rw (rest-none i h) (and-true z)
-
-  pub count_turn : (i : ℕ) → i < n → at + n ≤ length s → get_or s (at + i) 0 ≡ 0 → i + zeros (rest n at i s) ≡ i + 1 + zeros (rest n at (i + 1) s)
-  unfolding zeros
-  count_turn i h l z = rw (rest_more i h l, z) (omega arith)
-
-  pub count-stop : (i : ℕ) → i < n → at + n ≤ length s → (get_or s (at + i) 0 ≡ 0 → ⊥) → i + zeros (rest n at i s) ≡ i
-  unfolding zeros
-  count-stop i h l z = rw (rest_more i h l, none (get_or s (at + i) 0) _ z) (omega arith)
-    where
-      none : (x : ℕ) (xs : List ℕ) → (x ≡ 0 → ⊥) → zeros (x ∷ xs) ≡ 0
-      none zero xs h = absurd (h refl)
-      none (suc x) xs h = refl
-
-  pub count-end : (i : ℕ) → n ≤ i → i + zeros (rest n at i s) ≡ i
-  unfolding zeros
-  count-end i h = rw (rest-none i h) (omega arith)
-
-  -- ASCII
-
-  pub ascii-turn : (a : Bool) (i : ℕ) → i < n → at + n ≤ length s → a && all_ascii (rest n at i s) ≡ a && ltb (get_or s (at + i) 0) 0x80 && all_ascii (rest n at (i + 1) s)
-  unfolding all_ascii
-  ascii-turn a i h l = rw (rest_more i h l) (sym (and_assoc a _ _))
-
-  pub ascii-end : (a : Bool) (i : ℕ) → n ≤ i → a && all_ascii (rest n at i s) ≡ a
-  unfolding all_ascii
-  ascii-end a i h = rw (rest-none i h) (and-true a)
-
--- TWO PARTS
-
-module _ (n at from : ℕ) (a b : List ℕ) where
-  pub same_turn : (z : Bool) (i : ℕ) → i < n → at + n ≤ length a → from + n ≤ length b
-      → z && same (rest n at i a) (rest n from i b) ≡ z && eqb (get_or a (at + i) 0) (get_or b (from + i) 0) && same (rest n at (i + 1) a) (rest n from (i + 1) b)
-  unfolding same
-  same_turn z i h l r = rw (rest_more n at a i h l, rest_more n from b i h r) (sym (and_assoc z _ _))
-
-  pub same_end : (z : Bool) (i : ℕ) → n ≤ i → z && same (rest n at i a) (rest n from i b) ≡ z
-  unfolding same
-  same_end z i h = rw (rest-none n at a i h, rest-none n from b i h) (and-true z)
-
--- FILLS
-
-module _ (n at i : ℕ) (out : List ℕ) where
-  pub fill-turn : (v : ℕ) → i < n → at + n ≤ length out
-      → splice (n - i) (at + i) (replicate (n - i) v) out ≡ splice (n - (i + 1)) (at + (i + 1)) (replicate (n - (i + 1)) v) (set out (at + i) v)
-  fill-turn v h l =
-      let e : n - i ≡ suc (n - (i + 1)) = omega arith in
-      let f : at + i + 1 ≡ at + (i + 1) = omega arith in
-      rw (e, ← f) (splice-cons (n - (i + 1)) (at + i) v (replicate (n - (i + 1)) v) out (omega arith))
-
-  pub fill_end : (v : ℕ) → n ≤ i → splice (n - i) (at + i) (replicate (n - i) v) out ≡ out
-  fill_end v h = let e : n - i ≡ 0 = omega arith in rw e (splice-nil (at + i) out)
-
--- TWO BYTES
-
-pub same-two : (at : ℕ) (s m : List ℕ) → at + 2 ≤ length s → length m ≡ 2 → same (part 2 at s) m ≡ eqb (get_or s at 0) (get_or m 0 0) && eqb (get_or s (at + 1) 0) (get_or m 1 0)
+-- `==` on slices and arrays
+pub pointwise-same : (xs ys : List ℕ) → pointwise eqb xs ys ≡ same xs ys
 unfolding same
-same-two at s m h e = ap (same (part 2 at s)) (two-of m e) ∙ rw (two at s h) (ap (λ (b : Bool). eqb (get_or s at 0) (get_or m 0 0) && b) (and-true _))
+pointwise-same [] [] = refl
+pointwise-same [] (y ∷ ys) = refl
+pointwise-same (x ∷ xs) [] = refl
+pointwise-same (x ∷ xs) (y ∷ ys) = ap (λ (b : Bool). eqb x y && b) (pointwise-same xs ys)

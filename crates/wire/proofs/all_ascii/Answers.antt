@@ -1,14 +1,14 @@
-use mathlib.Core.Path.{sym, ap, ◌∙◌}
+use Prim.Native.Nat.{ℕ}
+use mathlib.Core.Path.{refl, sym, ◌∙◌}
+use lib.Dec.{ltb}
 use Rattle.wire.specs.Scan.{all_ascii}
-use Rattle.wire.proofs.Turns.{rest_all, ascii-turn, ascii-end}
-use borrow.Author.Rules.{rules}
+use Rattle.wire.proofs.Turns.{test-turn, test-end}
 use Rattle.wire.proofs.all_ascii.Goals as goal
 
-pub loop-i-init : goal.loop-i-init
-loop-i-init c = (search rules, sym (ap all_ascii (rest_all c.args.n c.args.at c.args.s.now)))
-
-pub loop-i-preserved : goal.loop-i-preserved
-loop-i-preserved c = (search rules, c.loop-i.invariant.1 ∙ ascii-turn c.args.n c.args.at c.args.s.now c.loop-i.ascii c.loop-i.i c.loop-i-test.true c.requires)
+pub loop-b-preserved : goal.loop-b-preserved
+unfolding all_ascii
+loop-b-preserved c = c.loop-b.invariant ∙ test-turn all_ascii (λ (x : ℕ). ltb x 0x80) refl (λ _ _. refl) _ _ _ c.loop-b-test.true
 
 pub returns : goal.returns
-returns c = sym (c.loop-i.invariant.1 ∙ ascii-end _ _ c.args.s.now _ _ c.loop-i-test.false)
+unfolding all_ascii
+returns c = sym (c.loop-b.invariant ∙ test-end all_ascii (λ (x : ℕ). ltb x 0x80) refl (λ _ _. refl) _ _ _ c.loop-b-test.false)

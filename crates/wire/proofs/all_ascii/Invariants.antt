@@ -1,13 +1,8 @@
-use Prim.Native.Nat.{◌-◌, ◌≤◌}
 use mathlib.Core.Path.{◌≡◌}
 use mathlib.Core.Bool.{◌&&◌}
-use Rattle.wire.specs.Bytes.{part}
+use lib.ListN.{drop}
 use Rattle.wire.specs.Scan.{all_ascii}
-use Rattle.wire.proofs.Turns.{rest}
 use Rattle.wire.proofs.all_ascii.Given as goal
 
-abbrev pub invariant-loop-i : goal.invariant-loop-i
-invariant-loop-i l = (l.i ≤ l.n) × (all_ascii (part l.n l.at l.s) ≡ l.ascii && all_ascii (rest l.n l.at l.i l.s))
-
-abbrev pub decreases-loop-i : goal.decreases-loop-i
-decreases-loop-i l = l.n - l.i
+abbrev pub invariant-loop-b : goal.invariant-loop-b
+invariant-loop-b l = all_ascii l.s ≡ l.ascii && all_ascii (drop l.b-index l.s)

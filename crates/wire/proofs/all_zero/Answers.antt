@@ -1,14 +1,15 @@
-use mathlib.Core.Path.{sym, ap, ◌∙◌}
+use Prim.Native.Nat.{ℕ}
+use mathlib.Core.Path.{refl, sym, ◌∙◌}
+use native.Mathlib.Nat.{add-sub_cancel_left}
+use lib.Dec.{eqb}
 use Rattle.wire.specs.Bytes.{all_zero}
-use Rattle.wire.proofs.Turns.{rest_all, zero_turn, zero-end}
-use borrow.Author.Rules.{rules}
+use Rattle.wire.proofs.Turns.{test-turn, test-end}
 use Rattle.wire.proofs.all_zero.Goals as goal
 
-pub loop-i-init : goal.loop-i-init
-loop-i-init c = (search rules, sym (ap all_zero (rest_all c.args.n c.args.at c.args.s.now)))
-
-pub loop-i-preserved : goal.loop-i-preserved
-loop-i-preserved c = (search rules, c.loop-i.invariant.1 ∙ zero_turn c.args.n c.args.at c.args.s.now c.loop-i.zero c.loop-i.i c.loop-i-test.true c.requires)
+pub loop-b-preserved : goal.loop-b-preserved
+unfolding all_zero
+loop-b-preserved c = c.loop-b.invariant ∙ test-turn all_zero (λ (x : ℕ). eqb x 0) refl (λ _ _. refl) _ _ _ c.loop-b-test.true
 
 pub returns : goal.returns
-returns c = sym (c.loop-i.invariant.1 ∙ zero-end _ _ c.args.s.now _ _ c.loop-i-test.false)
+unfolding all_zero
+returns c = simp add-sub_cancel_left at (sym (c.loop-b.invariant ∙ test-end all_zero (λ (x : ℕ). eqb x 0) refl (λ _ _. refl) _ _ _ c.loop-b-test.false))

@@ -1,22 +1,9 @@
 use mathlib.Core.Path.{sym, ◌∙◌}
-use native.Mathlib.Omega.{arith}
 use Rattle.wire.proofs.Forms.{utf8-end}
 use Rattle.wire.proofs.is_utf8.Goals as goal
 
-pub loop-i-init : goal.loop-i-init
-loop-i-init c = c.ascii_blocks-i.ensures
-
-pub overflow_add-i : goal.overflow_add-i
-overflow_add-i c = omega (arith, c.form_width-n.ensures.inside)
-
-pub loop-i-smaller : goal.loop-i-smaller
-loop-i-smaller c = omega (arith, c.form_width-n.ensures.inside)
-
 pub loop-i-preserved : goal.loop-i-preserved
-loop-i-preserved c = (c.form_width-n.ensures.inside, c.loop-i.invariant.1 ∙ c.form_width-n.ensures.passes c.if-n-eq0.false)
+loop-i-preserved c = (c.in-Some.ensures.inside, c.loop-i.invariant.1 ∙ c.in-Some.ensures.passes)
 
-pub returns-then-text-i : goal.returns-then-text-i
-returns-then-text-i c = sym (c.loop-i.invariant.1 ∙ utf8-end c.args.text.now _ c.if-text-i.true)
-
-pub returns-then-n-eq0 : goal.returns-then-n-eq0
-returns-then-n-eq0 c = sym (c.loop-i.invariant.1 ∙ c.form_width-n.ensures.breaks c.if-n-eq0.true)
+pub returns-then-rest-i : goal.returns-then-rest-i
+returns-then-rest-i c = sym (c.loop-i.invariant.1 ∙ utf8-end _ _ c.if-rest-i.true)

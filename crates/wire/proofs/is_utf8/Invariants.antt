@@ -5,7 +5,7 @@ use Rattle.wire.specs.Utf8.{utf8}
 use Rattle.wire.proofs.is_utf8.Given as goal
 
 abbrev pub invariant-loop-i : goal.invariant-loop-i
-invariant-loop-i l = (l.i ≤ length l.text) × (utf8 l.text ≡ utf8 (drop l.i l.text))
+invariant-loop-i l = (l.i ≤ length l.rest) × (utf8 l.fn.text ≡ utf8 (drop l.i l.rest))
 
 abbrev pub decreases-loop-i : goal.decreases-loop-i
-decreases-loop-i l = length l.text - l.i
+decreases-loop-i l = length l.rest - l.i

@@ -1,6 +1,0 @@
-use native.Mathlib.Omega.{arith}
-use Rattle.wire.proofs.Laws.{le-add}
-use Rattle.wire.proofs.read_u64.Goals as goal
-
-pub returns : goal.returns
-returns c = omega (arith, le-add 4 4 c.args.at c.args.s.now (omega arith))

@@ -3,20 +3,20 @@ use Rattle.std.specs.Prelude.{⊤}
 use Rattle.std.proofs.Common.{Ok, Err}
 use Rattle.schema.specs.declared.Fault.{Fault}
 use mathlib.Core.Path.{◌≡◌, refl, sym, ap, ◌∙◌}
-use mathlib.Core.Bool.{Bool, true, false, not, cond, ◌&&◌, ◌||◌}
+use mathlib.Core.Bool.{Bool, true, false, not, cond, ◌&&◌}
 use mathlib.Core.List.{List, [], ◌∷◌, ◌++◌}
 use Prim.Native.Nat.{ℕ, ◌+◌, ◌-◌, ◌*◌, ◌≤◌}
 use native.Mathlib.Omega.{arith}
-use lib.ListN.{length, take, drop, get_or, drop_of_length-le}
+use lib.ListN.{length, take, drop}
 use lib.Seq.{length-take-le}
 use lib.Dec.{leb, ltb, eqb}
 use borrow.Author.Tests.{eqb-true, eqb-false, eq-eqb, ne_eqb, ltb-true, ltb-false, le-leb, lt-leb}
 use Rattle.schema.specs.Schema.{Group, find, known}
 use Rattle.schema.specs.Layout.{Placed}
-use Rattle.schema.specs.Table.{field_type, field_size, reference, size_ok, reference_ok, any_id, SY, GW, FD, type_id, id_flag, marked, group_marked, record_verdict, field_verdict, symbol_verdict, group_verdict, enum_verdict}
+use Rattle.schema.specs.Table.{SY, FD, marked, group_marked, record_verdict, field_verdict, symbol_verdict, group_verdict, enum_verdict}
 use Rattle.wire.specs.Bytes.{part, le, all_zero}
 use Rattle.wire.proofs.Laws.{part-add}
-use Rattle.schema.proofs.Records.{byte_at, number-at}
+use Rattle.schema.proofs.Records.{number-at}
 use Rattle.schema.specs.Faults.{Verdict, fault_at, need, also}
 
 module _ {X : Type 0} (c : Bool) (fault k : X) where

@@ -37,6 +37,7 @@ fn ensure(holds: bool, number: u8, place: usize) -> Result<(), Fault>
 
 // 30
 
+// One record at least, 4,096 at most, and no part of one.
 fn is_whole(bytes: usize) -> bool
     ensures { result ≡ ltb 0 bytes && (leb bytes 65536 && eqb (bytes % 16) 0) }
 {
@@ -176,7 +177,7 @@ fn ends_zero(table: &[u8], p: usize) -> bool
     wire::read_u64(table, p + 8) == 0
 }
 
-// "a must-be-zero byte isn't"
+// Whether every byte that must be zero is.
 fn enum_zeros(table: &[u8], p: usize) -> bool
     requires { p + 16 ≤ length table.now }
     ensures { result ≡ all_zero (part 12 4 (drop p table.now)) }
@@ -214,7 +215,7 @@ fn check_symbol(table: &[u8], p: usize, low: usize) -> Result<(), Fault>
     ensure(low <= symbol_rank(table, p), 34, p)
 }
 
-// The flag is 0 or 1, and a group with no id has id 0.
+// Whether the flag is 0 or 1, and the id 0 where the group has none.
 fn id_zeros(table: &[u8], p: usize) -> bool
     requires { p + 16 ≤ length table.now }
     ensures { result ≡ ltb (id_flag (drop p table.now)) 2 && (eqb (id_flag (drop p table.now)) 1 || all_zero (part 8 2 (drop p table.now))) }
@@ -286,6 +287,7 @@ fn reference_ok(ty: u8, to: usize, enumerations: usize, groups: usize, own: usiz
     }
 }
 
+// Whether the type is known, and the size and the reference are what it takes.
 fn field_fits(table: &[u8], p: usize, enumerations: usize, groups: usize, own: usize) -> bool
     requires { p + 16 ≤ length table.now }
     ensures { result ≡ leb 1 (field_type (drop p table.now)) && (leb (field_type (drop p table.now)) 23 && (size_ok (field_type (drop p table.now)) (field_size (drop p table.now)) && reference_ok enumerations groups own (field_type (drop p table.now)) (reference (drop p table.now)))) }

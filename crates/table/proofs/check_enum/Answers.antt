@@ -1,4 +1,3 @@
-use Rattle.std.proofs.Common.{◌∙◌}
 use Rattle.schema.specs.Table.{enum_verdict}
 use Rattle.table.proofs.check_enum.Goals as goal
 

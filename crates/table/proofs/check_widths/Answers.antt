@@ -1,4 +1,4 @@
-use Rattle.std.proofs.Common.{◌≡◌, Ok, true, ℕ, sym, ◌∙◌, ◌<◌, ◌≤◌, leb-true, arith, rules, length}
+use Rattle.std.proofs.Common.{◌≡◌, true, ℕ, sym, ◌∙◌, ◌<◌, leb-true, arith, rules, length}
 use lib.Dec.{leb}
 use Rattle.schema.specs.Table.{schema, in_bounds, widths_verdict}
 use Rattle.table.specs.Measure.{levels}

@@ -33,9 +33,6 @@ returns-in_err-check_records c =
     let s = sym c.in_ok-check_shape.ensures.verdict in
     rw (p.1, p.2) (record { verdict = after-34 c.args.table.now z s _ c.in_err-check_records.ensures; layout = λ q. absurd (never q) })
 
-pub any_id-requires : goal.any_id-requires
-any_id-requires c = c.in_ok-check_shape.ensures.placing refl
-
 pub returns-in_err-ensure-2 : goal.returns-in_err-ensure-2
 returns-in_err-ensure-2 c =
     let r = c.from_residual-in_err-ensure-2 in

@@ -10,16 +10,15 @@ use lib.Dec.{leb, ltb, eqb}
 use borrow.Author.Tests.{eqb-true, eqb-false, ltb-true, ltb-false, eq-eqb, lt-ltb, not-true}
 use Rattle.schema.specs.Schema.{Group, find, known, super_of, width, shallow}
 use Rattle.schema.specs.Symbols.{rank}
-use Rattle.schema.specs.Table.{SY, symbol_value, record_verdict, marked, group_marked, id_flag, type_id, group_at, groups_from, enums_from, record_count, enums, schema, places, shape_verdict, group_verdict, records_from, records_verdict, in_bounds, widths_verdict, table_verdict}
+use Rattle.schema.specs.Table.{SY, symbol_value, record_verdict, marked, group_marked, id_flag, type_id, group_at, groups_from, enums_from, record_count, enums, schema, shape_verdict, group_verdict, records_from, records_verdict, in_bounds, table_verdict}
 use Rattle.table.specs.Measure.{Sound}
 use Rattle.table.specs.Claims.{BeginsSuper}
 use Rattle.table.proofs.Laws.{need-accepted, also-accepted, record-group}
-use Rattle.table.proofs.Groups.{each-passed}
 use Rattle.table.proofs.Records.{drop-next, symbol-no-group, symbol-no-enum, field-no-group, field-no-enum, enum-no-group, group-no-enum, group-no-field, group-no-symbol}
 use Rattle.schema.proofs.Depth.{and_both}
-use Rattle.table.proofs.Widths.{shallow-out}
+use Rattle.table.proofs.Widths.{shallow-out, all-bounded}
 use Rattle.table.proofs.Formed.{Passed, passed, Formed, end, symbol, field, enum, group, formed, schema-sound, supers-low}
-use Rattle.table.proofs.Supers.{groups-placed, begins-super}
+use Rattle.table.proofs.Supers.{begins-super}
 
 -- HOW MANY
 
@@ -160,10 +159,7 @@ accepted t e = record {
     lists = unfold enums in omega (arith, few-enums form (omega arith))
 
     shallows : (g : ℕ) (c : Bool) → ltb g (length (schema t)) ≡ c → shallow (schema t) 5 g ≡ true
-    shallows g true q = unfold widths_verdict in_bounds in
-        let z : 0 + g ≡ g = omega arith in
-        let passed = each-passed 35 _ 0 (places t) all.widths g (omega (arith, groups-placed t, ltb-true g (length (schema t)) q)) in
-        rw z at (and_both (leb (width (schema t) 5 (0 + g)) 4096) (shallow (schema t) 5 (0 + g)) passed).1
+    shallows g true q = unfold in_bounds in (and_both (leb (width (schema t) 5 g) 4096) _ (all-bounded t all.widths g (ltb-true g (length (schema t)) q))).1
     shallows g false q = shallow-out (schema t) 4 g (ltb-false g (length (schema t)) q)
 
     new : (k id : ℕ) → Names (schema t) k id → known (take k (schema t)) id ≡ false

@@ -9,14 +9,15 @@ use lib.ListN.{length, drop, get_or}
 use lib.Seq.{drop-drop}
 use lib.Dec.{leb, ltb, eqb}
 use borrow.Author.Tests.{eqb-true, eqb-false, ltb-true, ltb-false, leb-true, le-leb}
-use Rattle.schema.specs.Faults.{fault_at, also}
+use Rattle.schema.specs.declared.Fault.{Fault}
+use Rattle.schema.specs.Faults.{Verdict, fault_at, need, also}
 use Rattle.schema.specs.Schema.{Kind, Group, fields_of, super_of}
 use Rattle.schema.specs.Table.{EN, SY, GW, FD, marked, group_marked, symbol_count, super_number, field_count, field_type, field_size, reference, scalar_widths, scalar_width, kind_of, field_at, fields_at, group_at, groups_from, places_from, record_count, enums, schema, places, Due, is_enum, group_mark, is_due, due_after, shape_from, shape_verdict, size_ok, reference_ok, field_verdict, group_verdict, records_from, records_verdict, any_id, id_verdict, widths_verdict, supers_verdict, stored_verdict, table_verdict}
 use Rattle.schema.specs.Symbols.{Ordered}
 use Rattle.schema.specs.Layout.{Layout}
 use Rattle.table.specs.Index.{Whole, Placing}
 use Rattle.table.specs.Measure.{sound_kind, sound_fields, Sound, Sized}
-use Rattle.table.proofs.Laws.{cond_yes, need-accepted, also-accepted, need-yes, need-no, also-pass, also-stop, record-field, record-group}
+use Rattle.table.proofs.Laws.{cond_yes, need-accepted, also-accepted, need-yes, need-stop, also-pass, also-stop, record-field, record-group}
 use Rattle.table.proofs.Records.{due-symbol, due-field, after-owed, after-enum, after-group, enum_is, enum-due, group-due, group-next, group-marked, own-mark, is-mark, symbol-no-group, field-no-group, enum-no-group, group-no-field, group-no-symbol}
 use Rattle.schema.proofs.Depth.{and_both}
 use Rattle.table.proofs.Stored.{stored_at}
@@ -249,28 +250,28 @@ module _ (t : List ℕ) where
       let a = and_both (leb (length t) 65536) (eqb (length t % 16) 0) (and_both (ltb 0 (length t)) _ e).1 in
       record { whole = omega (arith, eqb-true (length t % 16) 0 a.1); small = leb-true (length t) 65536 a.0 }
 
-  pub after-30 : sized ≡ false → Err (fault_at 30 0) ≡ table_verdict t
+  pub after-30 : (f : Fault) → Err f ≡ need {X = Verdict} sized (Err (fault_at 30 0)) (Ok tt) → Err f ≡ table_verdict t
   unfolding table_verdict
-  after-30 e = sym (need-no _ _ _ e)
+  after-30 f e = need-stop _ _ refl e
 
   module _ (z : sized ≡ true) where
-    pub after-31 : (n p : ℕ) → shape_verdict t ≡ Err (fault_at n p) → Err (fault_at n p) ≡ table_verdict t
+    pub after-31 : (f : Fault) → Err f ≡ shape_verdict t → Err f ≡ table_verdict t
     unfolding table_verdict
-    after-31 n p e = sym (need-yes _ _ _ z ∙ also-stop _ _ n p e)
+    after-31 f e = also-stop _ _ f e ∙ sym (need-yes _ _ _ z)
 
     module _ (s : shape_verdict t ≡ Ok tt) where
-      pub after-34 : (n p : ℕ) → records_verdict t ≡ Err (fault_at n p) → Err (fault_at n p) ≡ table_verdict t
+      pub after-34 : (f : Fault) → Err f ≡ records_verdict t → Err f ≡ table_verdict t
       unfolding table_verdict
-      after-34 n p e = sym (need-yes _ _ _ z ∙ also-pass _ _ s ∙ also-stop _ _ n p e)
+      after-34 f e = also-stop _ _ f e ∙ sym (need-yes _ _ _ z ∙ also-pass _ _ (sym s))
 
       module _ (r : records_verdict t ≡ Ok tt) where
-        pub after-ids : any_id (schema t) ≡ false → Err (fault_at 34 (length t)) ≡ table_verdict t
+        pub after-ids : (f : Fault) → Err f ≡ need {X = Verdict} (any_id (schema t)) (Err (fault_at 34 (length t))) (Ok tt) → Err f ≡ table_verdict t
         unfolding table_verdict id_verdict
-        after-ids e = sym (need-yes _ _ _ z ∙ also-pass _ _ s ∙ also-pass _ _ r ∙ also-stop _ _ 34 (length t) (need-no _ _ _ e))
+        after-ids f e = also-stop _ _ f e ∙ sym (need-yes _ _ _ z ∙ also-pass _ _ (sym s) ∙ also-pass _ _ (sym r))
 
         pub by-groups : any_id (schema t) ≡ true → also (widths_verdict t) (also (supers_verdict t) (stored_verdict t)) ≡ table_verdict t
         unfolding table_verdict id_verdict
-        by-groups e = sym (need-yes _ _ _ z ∙ also-pass _ _ s ∙ also-pass _ _ r ∙ also-pass _ _ (need-yes _ _ _ e))
+        by-groups e = sym (need-yes _ _ _ z ∙ also-pass _ _ (sym s) ∙ also-pass _ _ (sym r) ∙ also-pass _ _ (sym (need-yes _ _ _ e)))
 
 -- an accepted table passed each of them
 pub record Passed (t : List ℕ) : Type 0 where

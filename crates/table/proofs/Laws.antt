@@ -1,20 +1,22 @@
 -- Tests in a row, and what stands in a record.
+use Rattle.std.specs.Prelude.{⊤}
 use Rattle.std.proofs.Common.{Ok, Err}
+use Rattle.schema.specs.declared.Fault.{Fault}
 use mathlib.Core.Path.{◌≡◌, refl, sym, ap, ◌∙◌}
-use mathlib.Core.Bool.{Bool, true, false, not, cond, ◌&&◌, ◌||◌}
+use mathlib.Core.Bool.{Bool, true, false, not, cond, ◌&&◌}
 use mathlib.Core.List.{List, [], ◌∷◌, ◌++◌}
 use Prim.Native.Nat.{ℕ, ◌+◌, ◌-◌, ◌*◌, ◌≤◌}
 use native.Mathlib.Omega.{arith}
-use lib.ListN.{length, take, drop, get_or, drop_of_length-le}
+use lib.ListN.{length, take, drop}
 use lib.Seq.{length-take-le}
 use lib.Dec.{leb, ltb, eqb}
-use borrow.Author.Tests.{eqb-true, eqb-false, eq-eqb, ne_eqb}
+use borrow.Author.Tests.{eqb-true, eqb-false, eq-eqb, ne_eqb, ltb-true, ltb-false, le-leb, lt-leb}
 use Rattle.schema.specs.Schema.{Group, find, known}
 use Rattle.schema.specs.Layout.{Placed}
-use Rattle.schema.specs.Table.{field_type, field_size, reference, size_ok, reference_ok, any_id, SY, GW, FD, type_id, id_flag, marked, group_marked, record_verdict, field_verdict, symbol_verdict, group_verdict, enum_verdict}
+use Rattle.schema.specs.Table.{SY, FD, marked, group_marked, record_verdict, field_verdict, symbol_verdict, group_verdict, enum_verdict}
 use Rattle.wire.specs.Bytes.{part, le, all_zero}
 use Rattle.wire.proofs.Laws.{part-add}
-use Rattle.schema.proofs.Records.{byte_at, number-at}
+use Rattle.schema.proofs.Records.{number-at}
 use Rattle.schema.specs.Faults.{Verdict, fault_at, need, also}
 
 module _ {X : Type 0} (c : Bool) (fault k : X) where
@@ -26,6 +28,27 @@ module _ {X : Type 0} (c : Bool) (fault k : X) where
   unfolding need
   need-no e = rw e
 
+-- what `ensure` answered of a test: it stopped, whatever would follow, or it went on
+module _ (F : Fault) where
+  pub need-stop : (k : Verdict) {c d : Bool} {f : Fault} → c ≡ d → Err f ≡ need {X = Verdict} c (Err F) (Ok tt) → Err f ≡ need {X = Verdict} d (Err F) k
+  unfolding need
+  need-stop k {c} {d} {f} is e = rw (← is) (go c e)
+    where
+      go : (c : Bool) → Err f ≡ need {X = Verdict} c (Err F) (Ok tt) → Err f ≡ need {X = Verdict} c (Err F) k
+      go true e = cc
+      go false e = e
+
+  pub need-went : {c d : Bool} {x : ⊤} → c ≡ d → Ok x ≡ need {X = Verdict} c (Err F) (Ok tt) → d ≡ true
+  unfolding need
+  need-went {c} {d} {x} is e = rw (← is) (go c e)
+    where
+      go : (c : Bool) → Ok x ≡ need {X = Verdict} c (Err F) (Ok tt) → c ≡ true
+      go true e = refl
+      go false e = cc
+
+  pub need-pass : (k : Verdict) {c d : Bool} {x : ⊤} → c ≡ d → Ok x ≡ need {X = Verdict} c (Err F) (Ok tt) → need {X = Verdict} d (Err F) k ≡ k
+  need-pass k is e = need-yes _ _ _ (need-went is e)
+
 pub need-accepted : (c : Bool) (n p : ℕ) (k : Verdict) → need c (Err (fault_at n p)) k ≡ Ok tt → (c ≡ true) × (k ≡ Ok tt)
 unfolding need
 need-accepted true n p k e = (refl, e)
@@ -36,13 +59,13 @@ unfolding also
 also-accepted (Ok _) w e = (refl, e)
 also-accepted (Err f) w e = absurd (let z : ◌≡◌ {A = ℕ} 0 1 = cc in omega arith)
 
-pub also-pass : (v w : Verdict) → v ≡ Ok tt → also v w ≡ w
+pub also-pass : {x : ⊤} (v w : Verdict) → Ok x ≡ v → also v w ≡ w
 unfolding also
-also-pass v w e = rw e
+also-pass v w e = rw (← e)
 
-pub also-stop : (v w : Verdict) (n p : ℕ) → v ≡ Err (fault_at n p) → also v w ≡ Err (fault_at n p)
+pub also-stop : (v w : Verdict) (f : Fault) → Err f ≡ v → Err f ≡ also v w
 unfolding also
-also-stop v w n p e = rw e
+also-stop v w f e = rw (← e)
 
 pub cond_yes : {X : Type 0} (c : Bool) (x y : X) → c ≡ true → cond c x y ≡ x
 cond_yes c x y e = rw e
@@ -84,12 +107,6 @@ pub zeros-before : (m n i p v : ℕ) (z : Bool) (t : List ℕ) → v ≡ le (par
 zeros-before m n i p v z t is rest =
     zero-add m n i (drop p t) ∙ ap (λ (x : ℕ). eqb x 0 && all_zero (part n (i + m) (drop p t))) (number-at m i p t ∙ sym is) ∙ ap (λ (b : Bool). eqb v 0 && b) (sym rest)
 
--- a group's test of 32, over the values that the code holds
-pub group-32 : (t : List ℕ) (p id width : ℕ) (has stored : Bool) → has ≡ eqb (id_flag (drop p t)) 1 → id ≡ type_id (drop p t) → stored ≡ marked GW (drop p t)
-    → width ≡ le (part 2 (p + 14) t) → (ltb (get_or t (p + 10) 0) 2 && ((has || eqb id 0) && (stored || eqb width 0)))
-    ≡ (ltb (id_flag (drop p t)) 2 && ((eqb (id_flag (drop p t)) 1 || all_zero (part 8 2 (drop p t))) && (marked GW (drop p t) || all_zero (part 2 14 (drop p t)))))
-group-32 t p id width has stored a b c d = rw (a, b, c, zero-le (part 8 2 (drop p t)), zeros-at 2 14 p width t d, byte_at t p 10)
-
 module _ (ne : ℕ) (gs : List Group) (next low p : ℕ) (t : List ℕ) where
   pub record-field : marked FD t ≡ true → record_verdict ne gs next low p t ≡ field_verdict ne (length gs) (next - 1) p t
   unfolding record_verdict
@@ -110,32 +127,14 @@ module _ (ne : ℕ) (gs : List Group) (next low p : ℕ) (t : List ℕ) where
 pub weaker : {t k : List ℕ} {m n : ℕ} → Placed t k n → m ≤ n → Placed t k m
 weaker p l = record { group = λ g h. p.group g (omega arith); inside = λ g h. p.inside g (omega arith) }
 
--- a field's test of 33, over the values that the code holds
-pub in-range : (ne ng own type size to : ℕ) (t : List ℕ) (a b x : Bool) → type ≡ field_type t → size ≡ field_size t → to ≡ reference t
-    → a ≡ size_ok type size → b ≡ reference_ok ne ng own type to → (leb 1 type && (leb type 23 && (a && b))) ≡ x
-    → (leb 1 (field_type t) && (leb (field_type t) 23 && (size_ok (field_type t) (field_size t) && reference_ok ne ng own (field_type t) (reference t)))) ≡ x
-in-range ne ng own type size to t a b x p q r f g e = rw (← p, ← q, ← r, ← f, ← g) e
-
--- GROUPS IN A ROW
-
-module _ (gs : List Group) (g : ℕ) (x : Group) (r : List Group) (e : drop g gs ≡ x ∷ r) where
-  pub any-yes : x.has_id ≡ true → any_id (drop g gs) ≡ true
-  unfolding any_id
-  any-yes h = rw (e, h)
-
-  pub any-skip : x.has_id ≡ false → any_id (drop g gs) ≡ any_id r
-  unfolding any_id
-  any-skip h = rw (e, h)
-
-pub any-end : (gs : List Group) (g : ℕ) → length gs ≤ g → any_id (drop g gs) ≡ false
-unfolding any_id
-any-end gs g h = rw (drop_of_length-le gs h)
-
 -- a group's test of 34, by the number that is found among the first n
-pub id-test : (gs : List Group) (n id type f : ℕ) (has b : Bool) → n ≤ length gs → has ≡ true → id ≡ type → f ≡ find (take n gs) id → ltb f n ≡ b
-    → not (has && known (take n gs) type) ≡ not b
+pub id-test : (gs : List Group) (n id type f : ℕ) → n ≤ length gs → id ≡ type → f ≡ find (take n gs) id → leb n f ≡ not (known (take n gs) type)
 unfolding known
-id-test gs n id type f has b l h d is e = rw (h, ← d, ← is, length-take-le n gs l, e)
+id-test gs n id type f l is e = rw (← is, ← e, length-take-le n gs l) (flip (ltb f n) refl)
+  where
+    flip : (c : Bool) → ltb f n ≡ c → leb n f ≡ not c
+    flip true q = lt-leb n f (ltb-true f n q)
+    flip false q = le-leb n f (ltb-false f n q)
 
-pub never : {n p : ℕ} → ◌≡◌ {A = Verdict} (Err (fault_at n p)) (Ok tt) → ⊥
+pub never : {f : Fault} → ◌≡◌ {A = Verdict} (Err f) (Ok tt) → ⊥
 never e = cc

@@ -15,6 +15,7 @@ use Rattle.wire.proofs.Laws.{same-eq}
 use Rattle.schema.specs.Schema.{Group}
 use Rattle.schema.specs.Symbols.{rank}
 use Rattle.schema.specs.Table.{EN, SY, GR, GW, FD, marked, group_marked, symbol_count, symbol_value, field_count, values_at, group_at, enums_from, groups_from, places_from, record_count, enums, schema, places, Due, is_enum, group_mark, is_group, is_due, due_after, shape_from, shape_verdict, record_verdict, records_from, records_verdict}
+use Rattle.schema.specs.declared.Fault.{Fault}
 use Rattle.schema.specs.Faults.{Verdict, fault_at, need, also}
 use Rattle.schema.proofs.Depth.{and_both}
 use Rattle.schema.proofs.Forms.{group-form, form-group}
@@ -386,8 +387,8 @@ begun_all t k e g w b = record {
     held : (x : ℕ) → x < 64 → symbol_place k' x + 16 * symbol_total k' x ≤ length t
     held x q = let a = other (192 + x) (omega arith) in let d = other (128 + x) (omega arith) in rw (a, d) (omega (arith, b.held x q, w.whole))
 
-pub stopped : (v : Verdict) (n p : ℕ) (t k : List ℕ) → Err (fault_at n p) ≡ v → length k ≡ 322 → Shaped v (Err (fault_at n p)) t k
-stopped v n p t k e l = record { verdict = e; long = l; placing = λ q. absurd (never q); blank = λ q. absurd (never q) }
+pub stopped : (v : Verdict) (f : Fault) (t k : List ℕ) → Err f ≡ v → length k ≡ 322 → Shaped v (Err f) t k
+stopped v f t k e l = record { verdict = e; long = l; placing = λ q. absurd (never q); blank = λ q. absurd (never q) }
 
 pub placed-all : (t k k' k'' : List ℕ) (i e g o : ℕ) → Whole t → i ≡ record_count t → o ≡ 0 → k' ≡ set k 320 g → k'' ≡ set k' 321 e → Begun t k i e g o
     → Ok tt ≡ shape_verdict t → Shaped (shape_verdict t) (Ok tt) t k''
@@ -444,24 +445,15 @@ pub shape-start : (t : List ℕ) → shape_verdict t ≡ shape_from (record_coun
 unfolding shape_verdict
 shape-start t = let z : record_count t ≡ record_count t - 0 = omega arith in ap (λ (n : ℕ). shape_from n (record { enumerations = 0; groups = 0; owed = 0; stored = false }) 0 t) z
 
-module _ (t : List ℕ) (w : Whole t) (d : Due) (i : ℕ) (h : 16 * i + 16 ≤ length t) where
-  pub shape-stop : is_due d (drop (16 * i) t) ≡ false → shape_from (record_count t - i) d (16 * i) (drop (16 * i) t) ≡ Err (fault_at 31 (16 * i))
-  unfolding shape_from need
-  shape-stop e = rw (one_less t w i h, e)
+module _ (t : List ℕ) (w : Whole t) (d : Due) (i : ℕ) where
+  pub shape-turn : 16 * i + 16 ≤ length t → shape_from (record_count t - i) d (16 * i) (drop (16 * i) t)
+      ≡ need (is_due d (drop (16 * i) t)) (Err (fault_at 31 (16 * i))) (shape_from (record_count t - (i + 1)) (due_after d (drop (16 * i) t)) (16 * (i + 1)) (drop (16 * (i + 1)) t))
+  unfolding shape_from
+  shape-turn h = let n : 16 * i + 16 ≡ 16 * (i + 1) = omega arith in rw (one_less t w i h, shape_from, further t w i h, n)
 
-  pub shape-turn : is_due d (drop (16 * i) t) ≡ true
-      → shape_from (record_count t - i) d (16 * i) (drop (16 * i) t) ≡ shape_from (record_count t - (i + 1)) (due_after d (drop (16 * i) t)) (16 * (i + 1)) (drop (16 * (i + 1)) t)
-  unfolding shape_from need
-  shape-turn e = let n : 16 * i + 16 ≡ 16 * (i + 1) = omega arith in rw (one_less t w i h, e, further t w i h, n)
-
-module _ (t : List ℕ) (d : Due) (i : ℕ) (h : record_count t ≤ i) where
-  pub shape-short : (d.owed ≡ 0 → ⊥) → shape_from (record_count t - i) d (16 * i) (drop (16 * i) t) ≡ Err (fault_at 31 (16 * i))
-  unfolding shape_from need
-  shape-short e = let z : record_count t - i ≡ 0 = omega arith in rw (z, ne_eqb d.owed 0 e)
-
-  pub shape-done : d.owed ≡ 0 → shape_from (record_count t - i) d (16 * i) (drop (16 * i) t) ≡ Ok tt
-  unfolding shape_from need
-  shape-done e = let z : record_count t - i ≡ 0 = omega arith in rw (z, eq-eqb d.owed 0 e)
+  pub shape-end : i ≡ record_count t → shape_from (record_count t - i) d (16 * i) (drop (16 * i) t) ≡ need (eqb d.owed 0) (Err (fault_at 31 (length t))) (Ok tt)
+  unfolding shape_from
+  shape-end e = let z : record_count t - i ≡ 0 = omega arith in let p : 16 * i ≡ length t = omega (arith, w.whole) in rw (z, shape_from, p)
 
 -- 32, 33, 34
 

@@ -1,4 +1,5 @@
 -- 35: a group's width and levels, field by field, and the index that has them.
+use Rattle.std.proofs.Common.{Ok}
 use mathlib.Core.Path.{◌≡◌, refl, sym, ap, ◌∙◌}
 use mathlib.Core.Bool.{Bool, true, false, cond, ◌&&◌, ◌||◌, and-true}
 use mathlib.Core.List.{List, [], ◌∷◌}
@@ -10,12 +11,14 @@ use lib.Seq.{drop-drop, drop-nil, get_or-set_same, get_or-set_other}
 use lib.Dec.{leb, ltb, eqb, leb-suc-suc}
 use borrow.Author.Tests.{eqb-true, eqb-false, leb-true, leb-false, le-leb, lt-leb, ltb-true, ltb-false, lt-ltb}
 use Rattle.schema.specs.Schema.{Kind, plain, inline, indirect, static, dynamic, Field, Group, kind_width, value_width, field_width, fields_width, fields_of, width, shallow_kind, shallow_fields, shallow}
-use Rattle.schema.specs.Table.{field_count, field_type, field_size, reference, kind_of, field_at, fields_at, group_at, enums, schema, in_bounds}
+use Rattle.schema.specs.Table.{field_count, field_type, field_size, reference, kind_of, field_at, fields_at, group_at, enums, schema, places, in_bounds, widths_verdict}
 use Rattle.schema.specs.Layout.{group_place, width_in}
 use Rattle.schema.specs.FieldKinds.{Widths}
 use Rattle.schema.proofs.Depth.{and_both}
 use Rattle.schema.proofs.Groups.{fields-past, width-past}
 use Rattle.table.specs.Index.{Placing}
+use Rattle.table.proofs.Groups.{each-passed}
+use Rattle.table.proofs.Supers.{groups-placed}
 use Rattle.table.specs.Measure.{sound_kind, sound_fields, levels, levels_over, Measured, Beyond, Extent, Kept, with_extent, Grown, AllMeasured, Sized}
 
 -- TRUTH
@@ -361,16 +364,14 @@ down k k' g n all more this h a b = go (leb g h) refl
 
 -- THE TEST OF 35
 
-pub up : (k : List ℕ) (g : ℕ) → ((h : ℕ) → h < g → levels k h ≤ 5) → levels k g ≤ 5 → (h : ℕ) → h < g + 1 → levels k h ≤ 5
-up k g low this h l = go (ltb h g) refl
-  where
-    go : (c : Bool) → ltb h g ≡ c → levels k h ≤ 5
-    go true q = low h (ltb-true h g q)
-    go false q = let z : h ≡ g = omega (arith, ltb-false h g q) in rw z this
-
 pub shallow-out : (gs : List Group) (d g : ℕ) → length gs ≤ g → shallow gs (suc d) g ≡ true
 unfolding shallow shallow_fields
 shallow-out gs d g l = rw (fields-past gs g l)
+
+-- the groups of a table that passes 35
+pub all-bounded : (t : List ℕ) → widths_verdict t ≡ Ok tt → (g : ℕ) → g < length (schema t) → in_bounds (schema t) g ≡ true
+unfolding widths_verdict
+all-bounded t e g l = let z : 0 + g ≡ g = omega arith in rw z at (each-passed 35 _ 0 (places t) e g (omega (arith, groups-placed t)))
 
 module _ (t k₀ k : List ℕ) (G : Grown t k₀ k) (all : AllMeasured t k) where
   extent : (g : ℕ) → g < length (schema t) → Extent (schema t) g (get_or k (64 + g) 0) (levels k g)
@@ -384,15 +385,20 @@ module _ (t k₀ k : List ℕ) (G : Grown t k₀ k) (all : AllMeasured t k) wher
       rw (s, m.wide 5 s, le-leb _ 4096 (extent g l).narrow)
 
   -- the first of them
-  pub out-of-bounds : (g : ℕ) → g < length (schema t) → ((h : ℕ) → h < g → levels k h ≤ 5) → 5 < levels k g → in_bounds (schema t) g ≡ false
-  out-of-bounds g l low q = go ((extent g l).beyond q)
+  -- what the index has of a group decides 35, as long as no group before is out of bounds
+  pub bounds-tested : (g : ℕ) → g < length (schema t) → ((h : ℕ) → h < g → in_bounds (schema t) h ≡ true) → leb (levels k g) 5 ≡ in_bounds (schema t) g
+  bounds-tested g l before = go (leb (levels k g) 5) refl
     where
-      go : Beyond (schema t) g → in_bounds (schema t) g ≡ false
-      go (h, a, f) = at (ltb h g) refl
+      out : Beyond (schema t) g → in_bounds (schema t) g ≡ false
+      out (h, a, f) = at (ltb h g) refl
         where
           at : (c : Bool) → ltb h g ≡ c → in_bounds (schema t) g ≡ false
-          at true y = absurd (let b = ltb-true h g y in let p = in-bounds h (omega arith) (low h b) in let z : ◌≡◌ {A = ℕ} 0 1 = cc in omega arith)
+          at true y = let p = before h (ltb-true h g y) in cc
           at false y = let z : h ≡ g = omega (arith, ltb-false h g y) in rw z at f
+
+      go : (c : Bool) → leb (levels k g) 5 ≡ c → c ≡ in_bounds (schema t) g
+      go true q = sym (in-bounds g l (leb-true _ 5 q))
+      go false q = sym (out ((extent g l).beyond (leb-false _ 5 q)))
 
   pub all-sized : ((g : ℕ) → g < length (schema t) → levels k g ≤ 5) → Sized t k
   all-sized low = record {

@@ -1,6 +1,6 @@
 -- What the check of a table has put into the index, phase by phase.
 use Rattle.schema.specs.Faults.{Verdict}
-use Rattle.std.specs.Prelude.{Ok, ◌≡◌, List, [], ◌∷◌, ℕ, ◌+◌, ◌-◌, ◌*◌, ◌<◌, ◌≤◌, length, drop, get_or}
+use Rattle.std.specs.Prelude.{Ok, ◌≡◌, Bool, true, List, [], ◌∷◌, ℕ, ◌+◌, ◌-◌, ◌*◌, ◌<◌, ◌≤◌, length, drop, get_or}
 use Rattle.table.specs.declared.Shape.{Shape}
 use Rattle.schema.specs.Table.{Due, due_after, field_count, values_at, group_at, groups_from, enums_from, places_from, record_count, enums, schema, places, table_verdict}
 use Rattle.schema.specs.Layout.{group_place, symbol_place, symbol_total, group_total, enum_total, Placed, Layout}
@@ -56,6 +56,11 @@ pub record Shaped (v r : Verdict) (t k : List ℕ) : Type 0 where
 pub record Taken (t k : List ℕ) (i : ℕ) (s r : Shape) : Type 0 where
   pub due : due_of r ≡ due_after (due_of s) (drop (16 * i) t)
   pub begun : Begun t k (i + 1) r.enumerations r.groups r.owed
+
+-- What the code answers of each group is what `test` says of its number and its record's place, as long as no group before it fails.
+abbrev pub Decides : List ℕ → List ℕ → (ℕ → Bool → Type 0) → (ℕ → ℕ → Bool) → Type 0
+Decides t k answers test =
+    (g : ℕ) → g < length (schema t) → ((h : ℕ) → h < g → test h (group_place k h) ≡ true) → (b : Bool) → answers g b → b ≡ test g (group_place k g)
 
 -- What the whole check answers.
 pub record Checked (t k : List ℕ) (r : Verdict) : Type 0 where

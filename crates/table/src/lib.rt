@@ -2,15 +2,15 @@
 // records in order again.
 #![tactic(auto)]
 
-ghost use Rattle.std.specs.Prelude.{◌≡◌, true, ◌&&◌, ◌||◌, cond, ◌+◌, ◌-◌, ◌*◌, ◌%◌, ◌<◌, ◌≤◌, ◌^◌, max, ℕ, length, drop, get_or, set, replicate, leb, ltb, eqb, List};
+ghost use Rattle.std.specs.Prelude.{Ok, Err, ◌≡◌, Bool, true, not, ◌&&◌, ◌||◌, cond, ◌+◌, ◌-◌, ◌*◌, ◌%◌, ◌<◌, ◌≤◌, ◌^◌, ℕ, length, take, drop, get_or, set, replicate, leb, ltb, eqb, List};
 ghost use Rattle.wire.specs.Bytes.{part, all_zero};
 ghost use Rattle.schema.specs.Symbols.{rank};
-ghost use Rattle.schema.specs.Table.{SY as SymbolMark, GW as StoredWidthMark, marked, group_marked, id_flag, optional_flag, sequence_flag, is_due, is_enum, is_group, shape_verdict, enum_verdict, symbol_verdict, group_verdict, size_ok, reference_ok, field_verdict, record_verdict, records_verdict, any_id, enums, schema, table_verdict, symbol_value, field_count, field_type, field_at, widths_verdict, begins_with, inherits, supers_verdict, stores_own, stored_verdict};
-ghost use Rattle.schema.specs.Faults.{also};
+ghost use Rattle.schema.specs.Table.{SY as SymbolMark, GW as StoredWidthMark, marked, group_marked, id_flag, optional_flag, sequence_flag, is_due, is_enum, is_group, shape_verdict, enum_verdict, symbol_verdict, group_verdict, size_ok, reference_ok, field_verdict, record_verdict, records_verdict, any_id, enums, schema, table_verdict, symbol_value, field_count, type_id, field_type, field_size, reference, field_at, widths_verdict, begins_with, inherits, places, each_group, supers_verdict, stores_own, stored_verdict};
+ghost use Rattle.schema.specs.Faults.{fault_at, need, also};
 ghost use Rattle.schema.specs.Layout.{group_place, Placed};
-ghost use Rattle.table.specs.Index.{due_of, Whole, Begun, Placing, Shaped, Taken, Checked};
+ghost use Rattle.table.specs.Index.{due_of, Whole, Begun, Placing, Shaped, Taken, Decides, Checked};
 ghost use Rattle.table.specs.Measure.{levels, levels_over, with_extent, Sound, Kept, Grown, AllMeasured, Sized, Judged};
-ghost use Rattle.schema.specs.Schema.{super_of, value_width, field_width};
+ghost use Rattle.schema.specs.Schema.{known, super_of, value_width, field_width};
 
 use schema::Fault;
 
@@ -23,6 +23,26 @@ pub const GR: [u8; 2] = *b"GR";
 pub const GW: [u8; 2] = *b"GW";
 
 const FD: [u8; 2] = *b"FD";
+
+// What must hold, or the table is refused with this number at this place.
+fn ensure(holds: bool, number: u8, place: usize) -> Result<(), Fault>
+    ensures { result ≡ need holds (Err (fault_at number place)) (Ok tt) }
+{
+    if holds {
+        Ok(())
+    } else {
+        Err(Fault { number, place })
+    }
+}
+
+// 30
+
+// One record at least, 4,096 at most, and no part of one.
+fn is_whole(bytes: usize) -> bool
+    ensures { result ≡ ltb 0 bytes && (leb bytes 65536 && eqb (bytes % 16) 0) }
+{
+    0 < bytes && bytes <= 65536 && bytes % 16 == 0
+}
 
 // 31
 
@@ -41,7 +61,7 @@ fn has_group_mark(table: &[u8], p: usize) -> bool
     requires { p + 16 ≤ length table.now }
     ensures { result ≡ group_marked (drop p table.now) }
 {
-    wire::has_mark(table, p, GR) | wire::has_mark(table, p, GW)
+    wire::has_mark(table, p, GR) || wire::has_mark(table, p, GW)
 }
 
 // "First the enumerations, then the groups"
@@ -49,7 +69,7 @@ fn is_enum(table: &[u8], p: usize, shape: Shape) -> bool
     requires { p + 16 ≤ length table.now }
     ensures { result ≡ is_enum (due_of shape) (drop p table.now) }
 {
-    (shape.groups == 0) & wire::has_mark(table, p, EN)
+    shape.groups == 0 && wire::has_mark(table, p, EN)
 }
 
 // "A table has all `GR` or all `GW`": the first group says which.
@@ -58,10 +78,8 @@ fn is_group(table: &[u8], p: usize, shape: Shape) -> bool
     ensures { result ≡ is_group (due_of shape) (drop p table.now) }
 {
     if 0 < shape.groups {
-        if shape.stored {
-            return wire::has_mark(table, p, GW);
-        }
-        return wire::has_mark(table, p, GR);
+        let mark = if shape.stored { GW } else { GR };
+        return wire::has_mark(table, p, mark);
     }
     has_group_mark(table, p)
 }
@@ -72,16 +90,14 @@ fn is_due(table: &[u8], p: usize, shape: Shape) -> bool
     ensures { result ≡ is_due (due_of shape) (drop p table.now) }
 {
     if 0 < shape.owed {
-        if shape.groups == 0 {
-            return wire::has_mark(table, p, SY);
-        }
-        return wire::has_mark(table, p, FD);
+        let mark = if shape.groups == 0 { SY } else { FD };
+        return wire::has_mark(table, p, mark);
     }
     if is_enum(table, p, shape) {
         let count = schema::symbol_count(table, p);
-        return (shape.enumerations < 64) & ((1 <= count) & (count <= 256));
+        return shape.enumerations < 64 && (1..=256).contains(&count);
     }
-    is_group(table, p, shape) & ((shape.groups < 64) & (schema::field_count(table, p) <= 64))
+    is_group(table, p, shape) && (shape.groups < 64 && schema::field_count(table, p) <= 64)
 }
 
 fn place_group(index: &mut [u16], g: usize, p: usize)
@@ -108,10 +124,8 @@ fn take_record(table: &[u8], index: &mut [u16], i: usize, shape: Shape) -> Shape
     let p = 16 * i;
     if 0 < shape.owed {
         return Shape {
-            enumerations: shape.enumerations,
-            groups: shape.groups,
             owed: shape.owed - 1,
-            stored: shape.stored,
+            ..shape
         };
     }
     if is_enum(table, p, shape) {
@@ -119,17 +133,16 @@ fn take_record(table: &[u8], index: &mut [u16], i: usize, shape: Shape) -> Shape
         place_symbols(index, shape.enumerations, p + 16, count);
         return Shape {
             enumerations: shape.enumerations + 1,
-            groups: shape.groups,
             owed: count,
-            stored: shape.stored,
+            ..shape
         };
     }
     place_group(index, shape.groups, p);
     Shape {
-        enumerations: shape.enumerations,
         groups: shape.groups + 1,
         owed: schema::field_count(table, p),
         stored: wire::has_mark(table, p, GW),
+        ..shape
     }
 }
 
@@ -144,26 +157,14 @@ fn check_shape(table: &[u8], index: &mut [u16]) -> Result<(), Fault>
         owed: 0,
         stored: false,
     };
-    let mut i = 0;
-    while i < records {
-        if !is_due(table, 16 * i, shape) {
-            return schema::Verdict::Refused {
-                number: 31,
-                place: 16 * i,
-            };
-        }
+    for i in 0..records {
+        ensure(is_due(table, 16 * i, shape), 31, 16 * i)?;
         shape = take_record(table, index, i, shape);
-        i += 1;
     }
-    if shape.owed != 0 {
-        return schema::Verdict::Refused {
-            number: 31,
-            place: 16 * i,
-        };
-    }
+    ensure(shape.owed == 0, 31, table.len())?;
     place_group(index, 320, shape.groups);
     place_group(index, 321, shape.enumerations);
-    schema::Verdict::Accepted
+    Ok(())
 }
 
 // 32, 33, 34
@@ -176,17 +177,26 @@ fn ends_zero(table: &[u8], p: usize) -> bool
     wire::read_u64(table, p + 8) == 0
 }
 
+// Whether every byte that must be zero is.
+fn enum_zeros(table: &[u8], p: usize) -> bool
+    requires { p + 16 ≤ length table.now }
+    ensures { result ≡ all_zero (part 12 4 (drop p table.now)) }
+{
+    wire::read_u32(table, p + 4) == 0 && ends_zero(table, p)
+}
+
+fn symbol_zeros(table: &[u8], p: usize) -> bool
+    requires { p + 16 ≤ length table.now }
+    ensures { result ≡ all_zero (part 10 6 (drop p table.now)) }
+{
+    wire::read_u16(table, p + 6) == 0 && ends_zero(table, p)
+}
+
 fn check_enum(table: &[u8], p: usize) -> Result<(), Fault>
     requires { p + 16 ≤ length table.now }
     ensures { result ≡ enum_verdict p (drop p table.now) }
 {
-    if !((wire::read_u32(table, p + 4) == 0) & ends_zero(table, p)) {
-        return schema::Verdict::Refused {
-            number: 32,
-            place: p,
-        };
-    }
-    schema::Verdict::Accepted
+    ensure(enum_zeros(table, p), 32, p)
 }
 
 // A symbol's place among the i32, which rise from -2^31.
@@ -201,64 +211,56 @@ fn check_symbol(table: &[u8], p: usize, low: usize) -> Result<(), Fault>
     requires { p + 16 ≤ length table.now }
     ensures { result ≡ symbol_verdict low p (drop p table.now) }
 {
-    if !((wire::read_u16(table, p + 6) == 0) & ends_zero(table, p)) {
-        return schema::Verdict::Refused {
-            number: 32,
-            place: p,
-        };
-    }
-    if symbol_rank(table, p) < low {
-        return schema::Verdict::Refused {
-            number: 34,
-            place: p,
-        };
-    }
-    schema::Verdict::Accepted
+    ensure(symbol_zeros(table, p), 32, p)?;
+    ensure(low <= symbol_rank(table, p), 34, p)
 }
 
-// "a must-be-zero byte isn't, or a flag is not 0 or 1". In `GW` bytes 14-15 are the width.
+// Whether the flag is 0 or 1, and the id 0 where the group has none.
+fn id_zeros(table: &[u8], p: usize) -> bool
+    requires { p + 16 ≤ length table.now }
+    ensures { result ≡ ltb (id_flag (drop p table.now)) 2 && (eqb (id_flag (drop p table.now)) 1 || all_zero (part 8 2 (drop p table.now))) }
+{
+    table[p + 10] < 2 && (schema::has_id(table, p) || schema::type_id(table, p) == 0)
+}
+
+// In `GW` bytes 14-15 are the width.
+fn width_zeros(table: &[u8], p: usize) -> bool
+    requires { p + 16 ≤ length table.now }
+    ensures { result ≡ marked StoredWidthMark (drop p table.now) || all_zero (part 2 14 (drop p table.now)) }
+{
+    wire::has_mark(table, p, GW) || wire::read_u16(table, p + 14) == 0
+}
+
+// "a must-be-zero byte isn't, or a flag is not 0 or 1"
 fn group_zeros(table: &[u8], p: usize) -> bool
     requires { p + 16 ≤ length table.now }
     ensures { result ≡ ltb (id_flag (drop p table.now)) 2 && ((eqb (id_flag (drop p table.now)) 1 || all_zero (part 8 2 (drop p table.now))) && (marked StoredWidthMark (drop p table.now) || all_zero (part 2 14 (drop p table.now)))) }
 {
-    (table[p + 10] < 2)
-        & ((schema::has_id(table, p) | (schema::type_id(table, p) == 0))
-            & (wire::has_mark(table, p, GW) | (wire::read_u16(table, p + 14) == 0)))
+    id_zeros(table, p) && width_zeros(table, p)
+}
+
+// Whether the group at p has no id, or one that none of the groups before it has.
+fn is_new(table: &[u8], index: &[u16], p: usize, own: usize) -> bool
+    requires { (p + 16 ≤ length table.now) × (Placed table.now index.now own) × (own ≤ length (schema table.now)) × (own ≤ 64) × (length index.now ≡ 322) × (length table.now ≤ 65536) }
+    ensures { result ≡ not (eqb (id_flag (drop p table.now)) 1 && known (take own (schema table.now)) (type_id (drop p table.now))) }
+{
+    !schema::has_id(table, p) || own <= schema::find(table, index, own, schema::type_id(table, p))
 }
 
 fn check_group(table: &[u8], index: &[u16], p: usize, own: usize) -> Result<(), Fault>
     requires { (p + 16 ≤ length table.now) × (Placed table.now index.now own) × (own ≤ length (schema table.now)) × (own ≤ 64) × (length index.now ≡ 322) × (length table.now ≤ 65536) }
     ensures { result ≡ group_verdict (schema table.now) own p (drop p table.now) }
 {
-    if !group_zeros(table, p) {
-        return schema::Verdict::Refused {
-            number: 32,
-            place: p,
-        };
-    }
-    if own < schema::super_number(table, p) {
-        return schema::Verdict::Refused {
-            number: 33,
-            place: p,
-        };
-    }
-    if !schema::has_id(table, p) {
-        return schema::Verdict::Accepted;
-    }
-    if schema::find(table, index, own, schema::type_id(table, p)) < own {
-        return schema::Verdict::Refused {
-            number: 34,
-            place: p,
-        };
-    }
-    schema::Verdict::Accepted
+    ensure(group_zeros(table, p), 32, p)?;
+    ensure(schema::super_number(table, p) <= own, 33, p)?;
+    ensure(is_new(table, index, p, own), 34, p)
 }
 
 fn field_zeros(table: &[u8], p: usize) -> bool
     requires { p + 16 ≤ length table.now }
     ensures { result ≡ ltb (optional_flag (drop p table.now)) 2 && (ltb (sequence_flag (drop p table.now)) 2 && all_zero (part 8 8 (drop p table.now))) }
 {
-    (table[p + 3] < 2) & ((table[p + 4] < 2) & ends_zero(table, p))
+    table[p + 3] < 2 && table[p + 4] < 2 && ends_zero(table, p)
 }
 
 // "String and binary: size 1..255 is inline, size 0 is indirect. Fixed: size 1..255. Other types
@@ -267,8 +269,7 @@ fn size_ok(ty: u8, size: u8) -> bool
     ensures { result ≡ size_ok ty size }
 {
     match ty {
-        17 => true,
-        18 => true,
+        17 | 18 => true,
         19 => 1 <= size,
         _ => size == 0,
     }
@@ -286,6 +287,17 @@ fn reference_ok(ty: u8, to: usize, enumerations: usize, groups: usize, own: usiz
     }
 }
 
+// Whether the type is known, and the size and the reference are what it takes.
+fn field_fits(table: &[u8], p: usize, enumerations: usize, groups: usize, own: usize) -> bool
+    requires { p + 16 ≤ length table.now }
+    ensures { result ≡ leb 1 (field_type (drop p table.now)) && (leb (field_type (drop p table.now)) 23 && (size_ok (field_type (drop p table.now)) (field_size (drop p table.now)) && reference_ok enumerations groups own (field_type (drop p table.now)) (reference (drop p table.now)))) }
+{
+    let ty = schema::field_type(table, p);
+    (1..=23).contains(&ty)
+        && size_ok(ty, schema::field_size(table, p))
+        && reference_ok(ty, schema::reference(table, p), enumerations, groups, own)
+}
+
 fn check_field(
     table: &[u8],
     p: usize,
@@ -296,32 +308,8 @@ fn check_field(
     requires { p + 16 ≤ length table.now }
     ensures { result ≡ field_verdict enumerations groups own p (drop p table.now) }
 {
-    if !field_zeros(table, p) {
-        return schema::Verdict::Refused {
-            number: 32,
-            place: p,
-        };
-    }
-    let ty = schema::field_type(table, p);
-    let fits = size_ok(ty, schema::field_size(table, p))
-        & reference_ok(ty, schema::reference(table, p), enumerations, groups, own);
-    if !((1 <= ty) & ((ty <= 23) & fits)) {
-        return schema::Verdict::Refused {
-            number: 33,
-            place: p,
-        };
-    }
-    schema::Verdict::Accepted
-}
-
-// The number of the last of n groups.
-fn last(n: usize) -> usize
-    ensures { result ≡ n - 1 }
-{
-    if n == 0 {
-        return 0;
-    }
-    n - 1
+    ensure(field_zeros(table, p), 32, p)?;
+    ensure(field_fits(table, p, enumerations, groups, own), 33, p)
 }
 
 // next: how many groups came before; low: the least rank that rises.
@@ -335,7 +323,7 @@ fn check_record(table: &[u8], index: &[u16], p: usize, next: usize, low: usize) 
             p,
             schema::enum_total(index),
             schema::group_total(index),
-            last(next),
+            next.saturating_sub(1),
         );
     }
     if wire::has_mark(table, p, SY) {
@@ -353,9 +341,10 @@ fn rising(table: &[u8], p: usize) -> usize
     ensures { result ≡ cond (marked SymbolMark (drop p table.now)) (rank (symbol_value (drop p table.now)) + 1) 0 }
 {
     if wire::has_mark(table, p, SY) {
-        return symbol_rank(table, p) + 1;
+        symbol_rank(table, p) + 1
+    } else {
+        0
     }
-    0
 }
 
 // How many groups there were after the record at p.
@@ -363,10 +352,7 @@ fn groups_after(table: &[u8], p: usize, next: usize) -> usize
     requires { (p + 16 ≤ length table.now) × (next ≤ 64) }
     ensures { result ≡ cond (group_marked (drop p table.now)) (next + 1) next }
 {
-    if has_group_mark(table, p) {
-        return next + 1;
-    }
-    next
+    next + usize::from(has_group_mark(table, p))
 }
 
 fn check_records(table: &[u8], index: &[u16]) -> Result<(), Fault>
@@ -376,36 +362,44 @@ fn check_records(table: &[u8], index: &[u16]) -> Result<(), Fault>
     let records = table.len() / 16;
     let mut next = 0;
     let mut low = 0;
-    let mut i = 0;
-    while i < records {
+    for i in 0..records {
         let p = 16 * i;
-        let v = check_record(table, index, p, next, low);
-        match v {
-            schema::Verdict::Accepted => {}
-            schema::Verdict::Refused { number, place } => {
-                return schema::Verdict::Refused { number, place };
-            }
-        }
+        check_record(table, index, p, next, low)?;
         next = groups_after(table, p, next);
         low = rising(table, p);
-        i += 1;
     }
-    schema::Verdict::Accepted
+    Ok(())
 }
 
 fn any_id(table: &[u8], index: &[u16]) -> bool
     requires { Placing table.now index.now }
     ensures { result ≡ any_id (schema table.now) }
 {
-    let groups = schema::group_total(index);
-    let mut g = 0;
-    while g < groups {
-        if schema::has_id(table, schema::group_place(index, g)) {
-            return true;
+    (0..schema::group_total(index)).any(|g| schema::has_id(table, schema::group_place(index, g)))
+}
+
+// 35, 36, 37
+
+// The first group that fails the test is refused with this number, at its record.
+fn check_each<F: Fn(usize) -> bool>(
+    table: &[u8],
+    index: &[u16],
+    number: u8,
+    passes: F,
+) -> Result<(), Fault>
+    requires placing { Placing table.now index.now }
+    requires callable { (g : ℕ) → g < length (schema table.now) → F.pre passes g }
+    ensures { (test : ℕ → ℕ → Bool) → Decides table.now index.now (F.post passes) test → result ≡ each_group number test 0 (places table.now) }
+{
+    for g in 0..schema::group_total(index) {
+        if !passes(g) {
+            return Err(Fault {
+                number,
+                place: schema::group_place(index, g),
+            });
         }
-        g += 1;
     }
-    false
+    Ok(())
 }
 
 // 35
@@ -416,7 +410,7 @@ fn group_levels(index: &[u16], g: usize) -> usize
     requires { (length index.now ≡ 322) × (g < 64) }
     ensures { (result ≡ levels index.now g) × (result < 65536) }
 {
-    index[256 + g] as usize
+    usize::from(index[256 + g])
 }
 
 // The levels of a group that names group g; none may name one of width 0.
@@ -435,10 +429,11 @@ fn value_width(table: &[u8], p: usize, inner: usize) -> usize
     requires { (p + 16 ≤ length table.now) × (field_type (drop p table.now) ≡ 21) × (inner ≤ 4096) }
     ensures { ((es : List (List ℕ)) → result ≡ value_width (λ _. inner) (field_at es (drop p table.now))) × (result ≤ 4096) }
 {
-    if table[p + 4] == 1 {
-        return 4;
+    if schema::is_sequence(table, p) {
+        4
+    } else {
+        inner
     }
-    inner
 }
 
 // "an optional field has one flag byte more"
@@ -446,20 +441,7 @@ fn static_width(table: &[u8], p: usize, inner: usize) -> usize
     requires { (p + 16 ≤ length table.now) × (field_type (drop p table.now) ≡ 21) × (inner ≤ 4096) }
     ensures { ((es : List (List ℕ)) → result ≡ field_width (λ _. inner) (field_at es (drop p table.now))) × (result ≤ 4097) }
 {
-    let width = value_width(table, p, inner);
-    if table[p + 3] == 1 {
-        return width + 1;
-    }
-    width
-}
-
-fn higher(a: usize, b: usize) -> usize
-    ensures { result ≡ max a b }
-{
-    if a < b {
-        return b;
-    }
-    a
+    value_width(table, p, inner) + usize::from(schema::is_optional(table, p))
 }
 
 fn place_extent(index: &mut [u16], g: usize, width: usize, levels: usize)
@@ -477,9 +459,9 @@ fn keep_extent(index: &mut [u16], g: usize, width: usize, levels: usize)
 {
     if width <= 4096 {
         place_extent(index, g, width, levels);
-        return;
+    } else {
+        place_extent(index, g, 0, 6);
     }
-    place_extent(index, g, 0, 6);
 }
 
 // "a static subgroup's width is that of its own group": a referenced group that is not measured yet is
@@ -492,11 +474,9 @@ fn measure_group(table: &[u8], index: &mut [u16], g: usize)
     let first = start + 16;
     let count = schema::field_count(table, start);
     let mut width = 0;
-    let mut levels = 1;
-    let mut i = 0;
-    while i < count {
+    let mut levels: usize = 1;
+    for i in 0..count {
         let p = first + 16 * i;
-        i += 1;
         if schema::field_type(table, p) != 21 {
             width += schema::field_width(table, index, p);
             continue;
@@ -514,7 +494,7 @@ fn measure_group(table: &[u8], index: &mut [u16], g: usize)
             return;
         }
         width += static_width(table, p, schema::group_width(index, inner));
-        levels = higher(levels, over);
+        levels = levels.max(over);
     }
     keep_extent(index, g, width, levels);
 }
@@ -524,13 +504,10 @@ fn measure_groups(table: &[u8], index: &mut [u16])
     requires { (Placing table.now index.old) × (Kept table.now index.old) × (Sound (schema table.now)) }
     ensures { (Grown table.now index.old index.new) × (AllMeasured table.now index.new) }
 {
-    let mut g = schema::group_total(index);
-    while 0 < g {
-        g -= 1;
-        if group_levels(index, g) != 0 {
-            continue;
+    for g in (0..schema::group_total(index)).rev() {
+        if group_levels(index, g) == 0 {
+            measure_group(table, index, g);
         }
-        measure_group(table, index, g);
     }
 }
 
@@ -539,18 +516,7 @@ fn check_widths(table: &[u8], index: &mut [u16]) -> Result<(), Fault>
     ensures { Judged (widths_verdict table.now) result table.now index.new }
 {
     measure_groups(table, index);
-    let groups = schema::group_total(index);
-    let mut g = 0;
-    while g < groups {
-        if 5 < group_levels(index, g) {
-            return schema::Verdict::Refused {
-                number: 35,
-                place: schema::group_place(index, g),
-            };
-        }
-        g += 1;
-    }
-    schema::Verdict::Accepted
+    check_each(table, index, 35, |g| group_levels(index, g) <= 5)
 }
 
 // 36
@@ -562,10 +528,8 @@ fn begins_with(table: &[u8], p: usize, above: usize) -> bool
     ensures { result ≡ begins_with (drop p table.now) (drop above table.now) }
 {
     let count = schema::field_count(table, above);
-    if schema::field_count(table, p) < count {
-        return false;
-    }
-    wire::same(table, p + 16, table, above + 16, 16 * count)
+    count <= schema::field_count(table, p)
+        && wire::same(table, p + 16, table, above + 16, 16 * count)
 }
 
 // Whether group number g has no super, or begins with the fields of its super.
@@ -575,28 +539,14 @@ fn inherits(table: &[u8], index: &[u16], g: usize) -> bool
 {
     let p = schema::group_place(index, g);
     let above = schema::super_number(table, p);
-    if above == 0 {
-        return true;
-    }
-    begins_with(table, p, schema::group_place(index, above - 1))
+    above == 0 || begins_with(table, p, schema::group_place(index, above - 1))
 }
 
 fn check_supers(table: &[u8], index: &[u16]) -> Result<(), Fault>
     requires { (Placing table.now index.now) × ((g : ℕ) → super_of (schema table.now) g ≤ g) }
     ensures { result ≡ supers_verdict table.now }
 {
-    let groups = schema::group_total(index);
-    let mut g = 0;
-    while g < groups {
-        if !inherits(table, index, g) {
-            return schema::Verdict::Refused {
-                number: 36,
-                place: schema::group_place(index, g),
-            };
-        }
-        g += 1;
-    }
-    schema::Verdict::Accepted
+    check_each(table, index, 36, |g| inherits(table, index, g))
 }
 
 // 37
@@ -607,30 +557,14 @@ fn stores_own(table: &[u8], index: &[u16], g: usize) -> bool
     ensures { result ≡ stores_own table.now g (group_place index.now g) }
 {
     let p = schema::group_place(index, g);
-    if !wire::has_mark(table, p, GW) {
-        return true;
-    }
-    let stored = schema::stored_width(table, p);
-    let width = schema::group_width(index, g);
-    stored == width
+    !wire::has_mark(table, p, GW) || schema::stored_width(table, p) == schema::group_width(index, g)
 }
 
 fn check_stored(table: &[u8], index: &[u16]) -> Result<(), Fault>
     requires { (Placing table.now index.now) × (Sized table.now index.now) }
     ensures { result ≡ stored_verdict table.now }
 {
-    let groups = schema::group_total(index);
-    let mut g = 0;
-    while g < groups {
-        if !stores_own(table, index, g) {
-            return schema::Verdict::Refused {
-                number: 37,
-                place: schema::group_place(index, g),
-            };
-        }
-        g += 1;
-    }
-    schema::Verdict::Accepted
+    check_each(table, index, 37, |g| stores_own(table, index, g))
 }
 
 // 35 of every group, then 36 of every group, then 37.
@@ -638,18 +572,9 @@ fn check_groups(table: &[u8], index: &mut [u16]) -> Result<(), Fault>
     requires { (Placing table.now index.old) × (Kept table.now index.old) × (Sound (schema table.now)) × ((g : ℕ) → super_of (schema table.now) g ≤ g) }
     ensures { Judged (also (widths_verdict table.now) (also (supers_verdict table.now) (stored_verdict table.now))) result table.now index.new }
 {
-    let widths = check_widths(table, index);
-    match widths {
-        schema::Verdict::Accepted => {}
-        schema::Verdict::Refused { number, place } => {
-            return schema::Verdict::Refused { number, place };
-        }
-    }
-    let supers = check_supers(table, index);
-    match supers {
-        schema::Verdict::Accepted => check_stored(table, index),
-        schema::Verdict::Refused { number, place } => schema::Verdict::Refused { number, place },
-    }
+    check_widths(table, index)?;
+    check_supers(table, index)?;
+    check_stored(table, index)
 }
 
 // Whether a table is accepted, or its first fault.
@@ -666,31 +591,9 @@ pub fn index_table(table: &[u8], index: &mut [u16]) -> Result<(), Fault>
     ensures { Checked table.now index.new result }
 {
     let bytes = table.len();
-    if !((0 < bytes) & ((bytes <= 65536) & (bytes % 16 == 0))) {
-        return schema::Verdict::Refused {
-            number: 30,
-            place: 0,
-        };
-    }
-    let shape = check_shape(table, index);
-    match shape {
-        schema::Verdict::Accepted => {}
-        schema::Verdict::Refused { number, place } => {
-            return schema::Verdict::Refused { number, place };
-        }
-    }
-    let records = check_records(table, index);
-    match records {
-        schema::Verdict::Accepted => {}
-        schema::Verdict::Refused { number, place } => {
-            return schema::Verdict::Refused { number, place };
-        }
-    }
-    if !any_id(table, index) {
-        return schema::Verdict::Refused {
-            number: 34,
-            place: bytes,
-        };
-    }
+    ensure(is_whole(bytes), 30, 0)?;
+    check_shape(table, index)?;
+    check_records(table, index)?;
+    ensure(any_id(table, index), 34, bytes)?;
     check_groups(table, index)
 }

@@ -1,19 +1,15 @@
-use mathlib.Core.Path.{sym, ◌∙◌}
-use lib.ListN.{drop}
-use Rattle.table.proofs.Laws.{need-yes, need-no, in-range}
+use Rattle.std.proofs.Common.{sym, ◌∙◌}
+use Rattle.std.proofs.lemmas.Result.{err_from_is_err_and}
 use Rattle.schema.specs.Table.{field_verdict}
+use Rattle.table.proofs.Laws.{need-stop, need-pass}
 use Rattle.table.proofs.check_field.Goals as goal
 
-pub returns-then-not-field_zeros : goal.returns-then-not-field_zeros
+pub returns-in_err-ensure : goal.returns-in_err-ensure
 unfolding field_verdict
-returns-then-not-field_zeros c = sym (need-no _ _ _ (sym c.field_zeros.ensures ∙ c.if-not-field_zeros.true))
-
-pub returns-then-not-ty-fits : goal.returns-then-not-ty-fits
-unfolding field_verdict
-returns-then-not-ty-fits c = let a = c.args in
-    sym (need-yes _ _ _ (sym c.field_zeros.ensures ∙ c.if-not-field_zeros.false) ∙ need-no _ _ _ (in-range a.enumerations a.groups a.own _ _ _ (drop a.p a.table.now) _ _ _ c.field_type-ty.ensures c.field_size.ensures c.reference.ensures.0 c.size_ok.ensures c.reference_ok.ensures c.if-not-ty-fits.true))
+returns-in_err-ensure c =
+    let p = err_from_is_err_and c.from_residual.result c.from_residual.ensures.1 in
+    rw (p.1, p.2) (need-stop _ _ c.field_zeros.ensures c.in_err-ensure.ensures)
 
 pub returns : goal.returns
 unfolding field_verdict
-returns c = let a = c.args in
-    sym (need-yes _ _ _ (sym c.field_zeros.ensures ∙ c.if-not-field_zeros.false) ∙ need-yes _ _ _ (in-range a.enumerations a.groups a.own _ _ _ (drop a.p a.table.now) _ _ _ c.field_type-ty.ensures c.field_size.ensures c.reference.ensures.0 c.size_ok.ensures c.reference_ok.ensures c.if-not-ty-fits.false))
+returns c = rw c.field_fits.ensures at c.ensure-2.ensures ∙ sym (need-pass _ _ c.field_zeros.ensures c.in_ok-ensure.ensures)

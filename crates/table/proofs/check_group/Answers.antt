@@ -1,32 +1,25 @@
-use mathlib.Core.Bool.{true, false}
-use mathlib.Core.Path.{sym, ◌∙◌}
-use native.Mathlib.Omega.{arith}
-use lib.ListN.{drop}
-use borrow.Author.Tests.{le-leb, lt-leb, lt-ltb, le-ltb}
-use Rattle.table.proofs.Laws.{id-test, need-yes, need-no}
-use Rattle.schema.specs.Table.{super_number, group_verdict}
+use Rattle.std.proofs.Common.{refl, sym, ◌∙◌}
+use Rattle.std.proofs.lemmas.Result.{err_from_is_err_and}
+use Rattle.schema.specs.Table.{group_verdict}
+use Rattle.table.proofs.Laws.{need-stop, need-pass}
 use Rattle.table.proofs.check_group.Goals as goal
 
-pub returns-then-not-group_zeros : goal.returns-then-not-group_zeros
+pub returns-in_err-ensure : goal.returns-in_err-ensure
 unfolding group_verdict
-returns-then-not-group_zeros c = sym (need-no _ _ _ (sym c.group_zeros.ensures ∙ c.if-not-group_zeros.true))
+returns-in_err-ensure c =
+    let p = err_from_is_err_and c.from_residual.result c.from_residual.ensures.1 in
+    rw (p.1, p.2) (need-stop _ _ c.group_zeros.ensures c.in_err-ensure.ensures)
 
-pub returns-then-own-super_number : goal.returns-then-own-super_number
+pub returns-in_err-ensure-2 : goal.returns-in_err-ensure-2
 unfolding group_verdict
-returns-then-own-super_number c = let a = c.args in
-    sym (need-yes _ _ _ (sym c.group_zeros.ensures ∙ c.if-not-group_zeros.false) ∙ need-no _ _ _ (lt-leb (super_number (drop a.p a.table.now)) a.own (omega (arith, c.super_number.ensures.0))))
-
-pub returns-then-not-has_id : goal.returns-then-not-has_id
-unfolding group_verdict
-returns-then-not-has_id c = let a = c.args in
-    let h = sym c.has_id.ensures ∙ c.if-not-has_id.true in sym (need-yes _ _ _ (sym c.group_zeros.ensures ∙ c.if-not-group_zeros.false) ∙ need-yes _ _ _ (le-leb (super_number (drop a.p a.table.now)) a.own (omega (arith, c.super_number.ensures.0, c.if-own-super_number.false))) ∙ need-yes _ _ _ (rw h))
-
-pub returns-then-find-own : goal.returns-then-find-own
-unfolding group_verdict
-returns-then-find-own c = let a = c.args in
-    sym (need-yes _ _ _ (sym c.group_zeros.ensures ∙ c.if-not-group_zeros.false) ∙ need-yes _ _ _ (le-leb (super_number (drop a.p a.table.now)) a.own (omega (arith, c.super_number.ensures.0, c.if-own-super_number.false))) ∙ need-no _ _ _ (id-test _ _ _ _ _ _ true c.requires.2 (sym c.has_id.ensures ∙ c.if-not-has_id.false) c.type_id.ensures c.find.ensures.0 (lt-ltb _ _ c.if-find-own.true)))
+returns-in_err-ensure-2 c =
+    let r = c.from_residual-in_err-ensure-2 in
+    let p = err_from_is_err_and r.result r.ensures.1 in
+    let low = rw c.super_number.ensures.0 at c.in_err-ensure-2.ensures in
+    rw (p.1, p.2) (need-stop _ _ refl low ∙ sym (need-pass _ _ c.group_zeros.ensures c.in_ok-ensure.ensures))
 
 pub returns : goal.returns
 unfolding group_verdict
-returns c = let a = c.args in
-    sym (need-yes _ _ _ (sym c.group_zeros.ensures ∙ c.if-not-group_zeros.false) ∙ need-yes _ _ _ (le-leb (super_number (drop a.p a.table.now)) a.own (omega (arith, c.super_number.ensures.0, c.if-own-super_number.false))) ∙ need-yes _ _ _ (id-test _ _ _ _ _ _ false c.requires.2 (sym c.has_id.ensures ∙ c.if-not-has_id.false) c.type_id.ensures c.find.ensures.0 (le-ltb _ _ c.if-find-own.false)))
+returns c =
+    let low = rw c.super_number.ensures.0 at c.in_ok-ensure-2.ensures in
+    rw c.is_new.ensures at c.ensure-3.ensures ∙ sym (need-pass _ _ c.group_zeros.ensures c.in_ok-ensure.ensures ∙ need-pass _ _ refl low)

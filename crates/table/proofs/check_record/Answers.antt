@@ -9,7 +9,7 @@ use Rattle.table.proofs.check_record.Goals as goal
 pub returns-then-has_mark : goal.returns-then-has_mark
 returns-then-has_mark c = let a = c.args in
     let pre = c.requires in
-    let q = record-field (length (enums a.table.now)) (schema a.table.now) a.next a.low a.p (drop a.p a.table.now) (sym c.has_mark.ensures ∙ c.if-has_mark.true) in cc (q, c.check_field.ensures, c.last.ensures, c.enum_total.ensures.0, c.group_total.ensures.0, pre.1.enumerations, pre.1.total)
+    let q = record-field (length (enums a.table.now)) (schema a.table.now) a.next a.low a.p (drop a.p a.table.now) (sym c.has_mark.ensures ∙ c.if-has_mark.true) in cc (q, c.check_field.ensures, c.saturating_sub.ensures, c.enum_total.ensures.0, c.group_total.ensures.0, pre.1.enumerations, pre.1.total)
 
 pub returns-then-has_mark-2 : goal.returns-then-has_mark-2
 returns-then-has_mark-2 c = let a = c.args in

@@ -1,42 +1,50 @@
-use mathlib.Core.Path.{◌≡◌, sym, ap, ◌∙◌}
-use Prim.Native.Nat.{◌+◌, ◌-◌, ◌*◌}
-use native.Mathlib.Omega.{arith}
-use lib.ListN.{length, drop, length-set}
+use Rattle.std.proofs.Common.{◌≡◌, refl, sym, ap, ◌∙◌, ◌+◌, ◌-◌, ◌*◌, eqb-true, arith, drop}
+use Rattle.std.proofs.lemmas.Result.{err_from_is_err_and}
 use Rattle.schema.specs.Table.{Due, record_count, shape_from}
-use Rattle.table.proofs.Records.{begun-none, shape-start, shape-stop, shape-turn, shape-short, shape-done, stopped, placed-all}
 use Rattle.table.specs.Index.{due_of}
-use borrow.Author.Rules.{rules}
+use Rattle.table.proofs.Laws.{need-stop, need-went, need-pass}
+use Rattle.table.proofs.Records.{begun-none, shape-start, shape-turn, shape-end, stopped, placed-all}
 use Rattle.table.proofs.check_shape.Goals as goal
 
 pub loop-i-init : goal.loop-i-init
-loop-i-init c = let a = c.args in
-    (search rules, rw c.requires.1 (begun-none a.table.now), shape-start a.table.now)
+loop-i-init c = (rw c.requires.1 (begun-none c.args.table.now), shape-start c.args.table.now)
 
-pub returns-then-not-is_due : goal.returns-then-not-is_due
-returns-then-not-is_due c = let a = c.args in
-    let pre = c.requires in
+pub returns-in_err-ensure : goal.returns-in_err-ensure
+returns-in_err-ensure c =
+    let t = c.args.table.now in
+    let w = c.requires.0 in
     let l = c.loop-i in
-    stopped _ _ _ a.table.now _ (sym (l.invariant.2 ∙ shape-stop a.table.now pre.0 (due_of l.shape) l.i (omega (arith, pre.0.whole, c.loop-i-test.true)) (sym c.is_due.ensures ∙ c.if-not-is_due.true))) l.invariant.1.long
+    let p = err_from_is_err_and c.from_residual.result c.from_residual.ensures.1 in
+    let turn = shape-turn t w (due_of l.shape) l.i (omega (arith, w.whole, c.loop-i-test.true)) in
+    rw (p.1, p.2) (stopped _ _ t _ (need-stop _ _ c.is_due.ensures c.in_err-ensure.ensures ∙ sym (l.invariant.1 ∙ turn)) l.invariant.0.long)
 
 pub take_record-shape-requires : goal.take_record-shape-requires
-take_record-shape-requires c = let pre = c.requires in
-    (pre.0, (omega (arith, pre.0.whole, c.loop-i-test.true)), c.loop-i.invariant.1, sym c.is_due.ensures ∙ c.if-not-is_due.false)
+take_record-shape-requires c =
+    let w = c.requires.0 in
+    (w, omega (arith, w.whole, c.loop-i-test.true), c.loop-i.invariant.0, need-went _ c.is_due.ensures c.in_ok-ensure.ensures)
 
 pub loop-i-preserved : goal.loop-i-preserved
-loop-i-preserved c = let a = c.args in
-    let pre = c.requires in
+loop-i-preserved c =
+    let t = c.args.table.now in
+    let w = c.requires.0 in
     let l = c.loop-i in
-    (search rules, c.take_record-shape.ensures.begun, l.invariant.2 ∙ shape-turn a.table.now pre.0 (due_of l.shape) l.i (omega (arith, pre.0.whole, c.loop-i-test.true)) (sym c.is_due.ensures ∙ c.if-not-is_due.false) ∙ ap (λ (x : Due). shape_from (record_count a.table.now - (l.i + 1)) x (16 * (l.i + 1)) (drop (16 * (l.i + 1)) a.table.now)) (sym c.take_record-shape.ensures.due))
+    let r = c.take_record-shape.ensures in
+    let turn = shape-turn t w (due_of l.shape) l.i (omega (arith, w.whole, c.loop-i-test.true)) in
+    (r.begun, l.invariant.1 ∙ turn ∙ need-pass _ _ c.is_due.ensures c.in_ok-ensure.ensures ∙ ap (λ (x : Due). shape_from (record_count t - (l.i + 1)) x (16 * (l.i + 1)) (drop (16 * (l.i + 1)) t)) (sym r.due))
 
-pub returns-then-shape-ne0 : goal.returns-then-shape-ne0
-returns-then-shape-ne0 c = let a = c.args in
+pub returns-in_err-ensure-2 : goal.returns-in_err-ensure-2
+returns-in_err-ensure-2 c =
+    let t = c.args.table.now in
+    let w = c.requires.0 in
     let l = c.loop-i in
-    stopped _ _ _ a.table.now _ (sym (l.invariant.2 ∙ shape-short a.table.now (due_of l.shape) l.i (omega (arith, c.loop-i-test.false)) c.if-shape-ne0.true)) l.invariant.1.long
-
-pub shape_of-index : goal.shape_of-index
-shape_of-index c = let l = c.loop-i.invariant.1.long in let z : length c.args.index.now ≡ 322 = ap length c.requires.1 in let a = simp length-set at (ap length c.place_group.ensures) in let b = simp length-set at (ap length c.place_group-2.ensures) in search rules
+    let p = err_from_is_err_and c.from_residual-in_err-ensure-2.result c.from_residual-in_err-ensure-2.ensures.1 in
+    rw (p.1, p.2) (stopped _ _ t _ (c.in_err-ensure-2.ensures ∙ sym (l.invariant.1 ∙ shape-end t w (due_of l.shape) l.i (omega (arith, c.loop-i-test.false, l.auto.i-end)))) l.invariant.0.long)
 
 pub returns : goal.returns
-returns c = let a = c.args in
+returns c =
+    let t = c.args.table.now in
+    let w = c.requires.0 in
     let l = c.loop-i in
-    placed-all a.table.now _ _ _ l.i _ _ _ c.requires.0 (omega (arith, c.loop-i-test.false, l.invariant.0)) c.if-shape-ne0.false c.place_group.ensures c.place_group-2.ensures l.invariant.1 (sym (l.invariant.2 ∙ shape-done a.table.now (due_of l.shape) l.i (omega (arith, c.loop-i-test.false)) c.if-shape-ne0.false))
+    let at : l.i ≡ record_count t = omega (arith, c.loop-i-test.false, l.auto.i-end) in
+    let none = eqb-true _ _ (need-went _ refl c.in_ok-ensure-2.ensures) in
+    placed-all t _ _ _ l.i _ _ _ w at none c.place_group.ensures c.place_group-2.ensures l.invariant.0 (c.in_ok-ensure-2.ensures ∙ sym (l.invariant.1 ∙ shape-end t w (due_of l.shape) l.i at))

@@ -1,19 +1,8 @@
 use mathlib.Core.Path.{sym, ◌∙◌}
 use native.Mathlib.Omega.{arith}
-use Rattle.schema.proofs.Groups.{placed-inside}
+use borrow.Author.Tests.{eq-eqb}
 use Rattle.table.proofs.Supers.{inherits-none, super-below, inherits-placed}
 use Rattle.table.proofs.inherits.Goals as goal
-
-pub super_number-above-requires : goal.super_number-above-requires
-super_number-above-requires c =
-    let a = c.args in
-    let h = c.requires in
-    omega (arith, placed-inside a.table.now a.index.now _ h.0.placed a.g h.1, c.group_place-p.ensures.0)
-
-pub returns-then-above-eq0 : goal.returns-then-above-eq0
-returns-then-above-eq0 c =
-    let p = c.group_place-p in
-    rw (← p.ensures.0) (sym (inherits-none c.args.table.now p.result _ c.super_number-above.ensures.0 c.if-above-eq0.true))
 
 pub group_place-requires : goal.group_place-requires
 group_place-requires c =
@@ -30,8 +19,13 @@ begins_with-requires c =
     let s = super-below a.table.now a.index.now h.0 a.g _ _ h.1 h.2 p c.super_number-above.ensures.0 in
     (rw p (h.0.placed.inside a.g h.1), rw c.group_place.ensures.0 (h.0.placed.inside _ (omega (arith, s, c.if-above-eq0.false, h.1))))
 
-pub returns : goal.returns
-returns c =
+pub returns-then-above-eq0 : goal.returns-then-above-eq0
+returns-then-above-eq0 c =
+    let p = c.group_place-p in
+    rw (eq-eqb _ _ c.if-above-eq0.true, ← p.ensures.0) (sym (inherits-none c.args.table.now p.result _ c.super_number-above.ensures.0 c.if-above-eq0.true))
+
+pub returns-else-above-eq0 : goal.returns-else-above-eq0
+returns-else-above-eq0 c =
     let a = c.args in
     let h = c.requires in
     let p = c.group_place-p.ensures.0 in

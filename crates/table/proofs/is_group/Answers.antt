@@ -1,22 +1,17 @@
-use mathlib.Core.Path.{sym, ◌∙◌}
-use mathlib.Core.Bool.{true, false}
-use native.Mathlib.Omega.{arith}
-use lib.ListN.{drop}
+use Rattle.std.proofs.Common.{true, false, sym, ◌∙◌, arith, drop}
 use Rattle.table.specs.Index.{due_of}
 use Rattle.table.proofs.Records.{group-first, group-next}
+use Rattle.table.proofs.is_group.Goals.{then-shape, else-shape}
 use Rattle.table.proofs.is_group.Goals as goal
-
-pub returns-then-shape : goal.returns-then-shape
-returns-then-shape c =
-    let a = c.args in
-    c.has_mark.ensures ∙ sym (group-next (due_of a.shape) (drop a.p a.table.now) (λ z. omega (arith, c.if-shape-gt0.true, z)) true c.if-shape.true)
 
 pub returns-then-shape-gt0 : goal.returns-then-shape-gt0
 returns-then-shape-gt0 c =
-    let a = c.args in
-    c.has_mark-then-shape-gt0.ensures ∙ sym (group-next (due_of a.shape) (drop a.p a.table.now) (λ z. omega (arith, c.if-shape-gt0.true, z)) false c.if-shape.false)
+    let d = due_of c.args.shape in
+    let t = drop c.args.p c.args.table.now in
+    elim c.if-shape.branch [
+      | then-shape w ↦ rw w.mark-is at c.has_mark.ensures ∙ sym (group-next d t (λ z. omega (arith, c.if-shape-gt0.true, z)) true w.if-shape.true)
+      | else-shape w ↦ rw w.mark-is at c.has_mark.ensures ∙ sym (group-next d t (λ z. omega (arith, c.if-shape-gt0.true, z)) false w.if-shape.false)
+    ]
 
 pub returns : goal.returns
-returns c =
-    let a = c.args in
-    c.has_group_mark.ensures ∙ sym (group-first (due_of a.shape) (drop a.p a.table.now) (omega (arith, c.if-shape-gt0.false)))
+returns c = c.has_group_mark.ensures ∙ sym (group-first (due_of c.args.shape) (drop c.args.p c.args.table.now) (omega (arith, c.if-shape-gt0.false)))

@@ -1,4 +1,5 @@
-use borrow.Author.Tests.{ne_eqb}
+use Rattle.std.proofs.Common.{arith}
+use Rattle.std.proofs.lemmas.Bool.Decides.{nat_tests}
 use Rattle.schema.specs.Table.{reference_ok}
 use Rattle.table.proofs.reference_ok.Goals as goal
 
@@ -16,4 +17,4 @@ returns-in-22 c = rw (c.in-22.is, reference_ok)
 
 pub returns-in_default : goal.returns-in_default
 unfolding reference_ok
-returns-in_default c = simp (ne_eqb _ _ c.in_default.in_default-own.rest.1, ne_eqb _ _ c.in_default.in_default-own.rest.0.1, ne_eqb _ _ c.in_default.in_default-own.rest.0.0.1, reference_ok)
+returns-in_default c = grind (arith, nat_tests)

@@ -1,17 +1,14 @@
+use Rattle.std.proofs.lemmas.Bool.Decides.{nat_tests}
 use mathlib.Core.Path.{sym}
 use mathlib.Core.Bool.{and-true}
 use native.Mathlib.Omega.{arith}
-use borrow.Author.Tests.{ne_eqb, le-leb}
+use borrow.Author.Tests.{le-leb}
 use Rattle.schema.specs.Table.{size_ok}
 use Rattle.table.proofs.size_ok.Goals as goal
 
 pub returns-in-17 : goal.returns-in-17
 unfolding size_ok
-returns-in-17 c = rw (c.in-17.is, size_ok) (sym (le-leb c.args.size 255 (omega arith)))
-
-pub returns-in-18 : goal.returns-in-18
-unfolding size_ok
-returns-in-18 c = rw (c.in-18.is, size_ok) (sym (le-leb c.args.size 255 (omega arith)))
+returns-in-17 c = grind (arith, nat_tests)
 
 pub returns-in-19 : goal.returns-in-19
 unfolding size_ok
@@ -19,4 +16,4 @@ returns-in-19 c = rw (c.in-19.is, le-leb c.args.size 255 (omega arith), size_ok)
 
 pub returns-in_default : goal.returns-in_default
 unfolding size_ok
-returns-in_default c = simp (ne_eqb _ _ c.in_default.in_default-own.rest.1, ne_eqb _ _ c.in_default.in_default-own.rest.0.1, ne_eqb _ _ c.in_default.in_default-own.rest.0.0.1, size_ok)
+returns-in_default c = grind (arith, nat_tests)

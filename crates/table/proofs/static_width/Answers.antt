@@ -1,17 +1,14 @@
-use mathlib.Core.Path.{sym, ap, ◌∙◌}
-use Prim.Native.Nat.{ℕ, ◌+◌}
-use native.Mathlib.Omega.{arith}
-use lib.Seq.{get_or-drop}
-use borrow.Author.Tests.{eq-eqb, ne_eqb}
-use Rattle.table.proofs.Laws.{cond_yes, cond_no}
+use Rattle.std.proofs.Common.{◌≡◌, ◌+◌, ◌≤◌, ℕ, Bool, true, false, cond, refl, arith}
+use mir.Val.{bool_byte}
 use Rattle.schema.specs.Schema.{field_width}
-use Rattle.schema.specs.Table.{field_at}
 use Rattle.table.proofs.static_width.Goals as goal
 
-pub returns-then-table-p-eq1 : goal.returns-then-table-p-eq1
-unfolding field_at field_width
-returns-then-table-p-eq1 c = (λ es. sym (cond_yes _ _ _ (eq-eqb _ _ ((get_or-drop c.args.p c.args.table.now 3 0) ∙ c.if-table-p-eq1.true)) ∙ ap (λ (x : ℕ). x + 1) (sym (c.value_width-width.ensures.0 es))), omega (arith, c.value_width-width.ensures.1))
+added : (b : Bool) (w : ℕ) → (w + bool_byte b ≡ cond b (w + 1) w) × (bool_byte b ≤ 1)
+added true w = (refl, omega arith)
+added false w = (omega arith, omega arith)
 
 pub returns : goal.returns
-unfolding field_at field_width
-returns c = (λ es. c.value_width-width.ensures.0 es ∙ sym (cond_no _ _ _ (ne_eqb _ _ (λ e. c.if-table-p-eq1.false (sym (get_or-drop c.args.p c.args.table.now 3 0) ∙ e)))), omega (arith, c.value_width-width.ensures.1))
+unfolding field_width
+returns c =
+    let w = c.value_width.ensures in
+    (λ es. rw (c.from.ensures, c.is_optional.ensures es, w.0 es) (added _ _).0, omega (arith, c.from.ensures, (added c.is_optional.result 0).1, w.1))

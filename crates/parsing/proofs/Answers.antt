@@ -3,7 +3,7 @@ use Rattle.std.proofs.Common.{Result, Ok, Err}
 use Rattle.std.specs.Result.{IsErrAnd}
 use mathlib.Core.Path.{◌≡◌, refl, sym, ap, ◌∙◌}
 use mathlib.Core.List.{List, [], ◌++◌}
-use Prim.Native.Nat.{ℕ, ◌+◌, ◌-◌, ◌<◌, ◌≤◌}
+use Prim.Native.Nat.{ℕ, ◌+◌, ◌-◌, ◌≤◌}
 use native.Mathlib.Omega.{arith}
 use lib.ListN.{length, drop, length-drop, length-append}
 use Rattle.schema.specs.Faults.{fault_at}
@@ -22,14 +22,6 @@ capped-low d h = omega arith
 pub capped_le : (d : ℕ) → capped d ≤ 65537
 unfolding capped
 capped_le d = omega arith
-
-pub capped-below : (d : ℕ) → d < 65537 → d ≡ capped d
-unfolding capped
-capped-below d h = omega arith
-
-pub capped-above : (d : ℕ) → 65537 ≤ d → 65537 ≡ capped d
-unfolding capped
-capped-above d h = omega arith
 
 -- a count that was capped before goes on as if it was not
 pub capped-more : (a b : ℕ) → capped (capped a + b) ≡ capped (a + b)

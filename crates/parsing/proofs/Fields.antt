@@ -75,15 +75,6 @@ module _ (s : List ℕ) (pos d : ℕ) (R : Ready s pos d) (k : Mark) (least w : 
 
 -- ONE FIELD
 
--- whether it is absent, by its flag first
-pub absent-optional : (o b c : Bool) → o ≡ true → c ≡ b → c ≡ o && b
-absent-optional true b c e q = q
-absent-optional false b c e q = absurd (true-false false e refl)
-
-pub absent-required : (o b : Bool) → o ≡ false → false ≡ o && b
-absent-required false b e = refl
-absent-required true b e = absurd (true-false true refl e)
-
 module _ (s : List ℕ) (pos d : ℕ) (I : InnerW) (sw : ℕ → ℕ) (S : ℕ → Writer) (f : Field) where
   -- whether it is absent
   module _ (b : Bool) (ib : b ≡ f.optional && same (part 2 pos s) NO) where

@@ -1,10 +1,10 @@
 -- What the functions that read a sheet answer, and what they ask of their callers.
-use Rattle.schema.specs.declared.Fault.{Fault}
 use Rattle.std.specs.Prelude.{Ok, Err, Result, ◌≡◌, true, cond, List, [], ℕ, ◌+◌, ◌<◌, ◌≤◌, length, take, drop, leb, eqb}
 use Rattle.wire.specs.Bytes.{part, le, same}
 use Rattle.schema.specs.Faults.{fault_at, need}
 use Rattle.schema.specs.Schema.{shallow}
 use Rattle.schema.specs.Table.{schema}
+use Rattle.schema.specs.declared.Fault.{Fault}
 use Rattle.schema.specs.declared.Scope.{Scope}
 use Rattle.schema.specs.declared.Scope.TheVariants.{Whole, Fields}
 use Rattle.message.specs.Sheet.{GB, GE}

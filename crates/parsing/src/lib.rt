@@ -189,14 +189,15 @@ fn check_plains(
     requires { (Ready sheet.now place before) × (width < 256) }
     ensures { Finds sheet.now before (items_w width (plain_of width) total) place result }
 {
-    let mut step = Step {
-        next: place,
-        length: before,
-    };
+    let mut next = place;
     for _ in 0..total {
-        step = check_plain(sheet, width, step.next, step.length)?;
+        check_record(sheet, next, VA, width)?;
+        next += 2 + width;
     }
-    Ok(step)
+    Ok(Step {
+        next,
+        length: before,
+    })
 }
 
 // So many indirect texts in a row, each its own record.
@@ -377,8 +378,8 @@ fn close_group(
     }
 }
 
-// The fields of a group whose static depth is below `depth`. Required plain values are passed over
-// here, without a call.
+// The fields of a group whose static depth is below `depth`. Required plain values are checked here,
+// without a look at their kind.
 #[cycle(parse)]
 fn check_fields(
     table: &[u8],

@@ -1,6 +1,5 @@
 use Prim.Native.Nat.{◌-◌}
 use native.Mathlib.Omega.{arith}
-use native.Mathlib.Nat.{mul-le-mul_right}
 use mathlib.Core.Path.{sym, ◌∙◌, refl, ap}
 use lib.ListN.{drop}
 use lib.Dec.{leb}
@@ -9,7 +8,7 @@ use Rattle.schema.proofs.Types.{plain-is}
 use Rattle.schema.specs.Schema.{shallow}
 use Rattle.schema.specs.Table.{field_at, enums, schema}
 use Rattle.schema.specs.declared.FieldKind.TheVariants.{Plain}
-use Rattle.schema.proofs.Groups.{static-inside, placed-inside}
+use Rattle.schema.proofs.Groups.{static-inside}
 use Rattle.schema.proofs.Depth.{and_both, shallow-some, wide-kind}
 use Rattle.message.specs.Check.{width_of}
 use Rattle.message.proofs.CheckFields.{kind-static, start-inside, start-shallow}
@@ -31,9 +30,6 @@ use Rattle.parsing.proofs.+parse.Goals as goal
 pub check_extending-check_kept-requires : goal.check_extending-check_kept-requires
 check_extending-check_kept-requires t c = (c.requires.0, c.requires.1, ap (same (part 2 c.args.place c.args.sheet.now)) (sym is-XU) ∙ sym c.stands.ensures ∙ c.if-stands.true)
 
-pub check_extending-returns-then-stands : goal.check_extending-returns-then-stands
-check_extending-returns-then-stands t c = c.check_kept.ensures (inner_of c.args.table.now c.args.levels)
-
 pub check_extending-check_group-requires : goal.check_extending-check_group-requires
 unfolding Within
 check_extending-check_group-requires t c = (omega arith, (c.requires.0, c.requires.1, refl))
@@ -45,9 +41,6 @@ check_extending-returns t c = let a = c.args in let t = a.table.now in extending
 pub check_extension-returns-then-count-eq0 : goal.check_extension-returns-then-count-eq0
 check_extension-returns-then-count-eq0 t c = let a = c.args in let t = a.table.now in extension-empty a.sheet.now a.place a.before c.requires.1 (schema t) (inner_of t a.levels) (ap (same (part 2 a.place a.sheet.now)) (sym is-XT) ∙ sym c.stands.ensures ∙ c.if-not-stands.false) (judged-ok _ _ (rw is-XT at c.in_ok-check_record.ensures.answer)) _ c.read_u32-count.ensures.0 c.if-count-eq0.true
 
-pub check_extension-check_groups-requires : goal.check_extension-check_groups-requires
-check_extension-check_groups-requires t c = (search rules, (c.requires.0, record { small = c.requires.1.small; inside = c.in_ok-check_record.ensures.inside; low = c.longer-body.ensures.1 }))
-
 pub check_extension-returns : goal.check_extension-returns
 check_extension-returns t c = let a = c.args in let t = a.table.now in extension-some a.sheet.now a.place a.before c.requires.1 (schema t) (inner_of t a.levels) (ap (same (part 2 a.place a.sheet.now)) (sym is-XT) ∙ sym c.stands.ensures ∙ c.if-not-stands.false) (judged-ok _ _ (rw is-XT at c.in_ok-check_record.ensures.answer)) _ c.read_u32-count.ensures.0 c.if-count-eq0.false _ c.longer-body.ensures.0 _ c.check_groups.ensures
 
@@ -56,15 +49,6 @@ check_extension-returns-then-not-stands t c = let a = c.args in let t = a.table.
 
 pub check_field-returns-then-is_absent : goal.check_field-returns-then-is_absent
 check_field-returns-then-is_absent t c = let a = c.args in let t = a.table.now in absent-passes a.sheet.now a.place a.before (inner_of t a.levels) (width_of t a.depth) (static_of t a.levels a.depth) (field_at (enums t) (drop a.field t)) _ (c.is_absent.ensures (enums t)) c.if-is_absent.true c.requires.1
-
-pub check_field-overflow_mul-total : goal.check_field-overflow_mul-total
-check_field-overflow_mul-total t c = omega (arith, mul-le-mul_right {m = c.read_u32-total.result} {n = 4294967296} c.kind_width-width.result (omega (arith, c.read_u32-total.ensures.1)), c.kind_width-width.ensures.1)
-
-pub check_field-overflow_add-total : goal.check_field-overflow_add-total
-check_field-overflow_add-total t c = omega (arith, mul-le-mul_right {m = c.read_u32-total.result} {n = 4294967296} c.kind_width-width.result (omega (arith, c.read_u32-total.ensures.1)), c.kind_width-width.ensures.1)
-
-pub check_field-longer-length-requires : goal.check_field-longer-length-requires
-check_field-longer-length-requires t c = omega (arith, mul-le-mul_right {m = c.read_u32-total.result} {n = 4294967296} c.kind_width-width.result (omega (arith, c.read_u32-total.ensures.1)), c.kind_width-width.ensures.1, c.requires.1.low)
 
 pub check_field-check_group-requires : goal.check_field-check_group-requires
 unfolding Within
@@ -92,9 +76,6 @@ check_field-returns t c = let a = c.args in let t = a.table.now in let k = c.kin
       | check_field-then-is_sequence+in_ok-check_record w ↦ sequence-good a.sheet.now a.place a.before (inner_of t a.levels) (width_of t a.depth) (static_of t a.levels a.depth) (field_at (enums t) (drop a.field t)) _ k (sym (c.is_sequence.ensures (enums t)) ∙ w.if-is_sequence.true) c.requires.1 (judged-ok _ _ (rw is-SQ at w.in_ok-check_record.ensures.answer)) (wides-static (schema t) (inner_of t a.levels) a.depth) _ _ _ w.read_u32-total.ensures.0 (c.kind_width-width.ensures.0 (enums t) ∙ wide-kind t a.index.now c.requires.0 a.depth _ d) w.longer-length.ensures.0 _ (rw (w.total-is, w.start-is, w.length-is) at c.check_items.ensures)
       | check_field-else-is_sequence+in_default w ↦ λ at fr. count-as _ _ (value-one (inner_of t a.levels) (width_of t a.depth) (static_of t a.levels a.depth) (field_at (enums t) (drop a.field t)) at fr a.place a.sheet.now _ k (sym (c.is_sequence.ensures (enums t)) ∙ w.if-is_sequence.false) ∙ sym (items-one _ _ at fr _)) (rw (w.total-is, w.start-is, w.length-is) at c.check_items.ensures at fr)
     ])
-
-pub check_fields-field_count-total-requires : goal.check_fields-field_count-total-requires
-check_fields-field_count-total-requires t c = let p = placed-inside _ _ _ c.requires.0.placed _ c.requires.2 in omega (arith, p, c.group_place-start.ensures.0)
 
 pub check_fields-overflow_sub-deeper : goal.check_fields-overflow_sub-deeper
 check_fields-overflow_sub-deeper t c = omega (arith, shallow-some (schema c.args.table.now) _ _ c.requires.3)
@@ -173,12 +154,6 @@ check_fields-loop-preserved t c = let l = c.loop in let a = c.args in let t = a.
   | check_fields-then-plain-ne0+in_ok-step w ↦ rw w.step-is (fields-passed l.invariant c.loop-test.true _ (λ at fr. count-as _ _ (field_plain (inner_of t a.levels) (width_of t (a.depth - 1)) (static_of t a.levels (a.depth - 1)) _ at fr l.step.next a.sheet.now _ _ (plain-is (enums t) _ _ (c.plain_width-plain.ensures.0 (enums t)) w.if-plain-ne0.true)) (w.in_ok-step.ensures at fr)))
   | check_fields-else-plain-ne0+in_ok-step-2 w ↦ rw w.step-is (fields-passed l.invariant c.loop-test.true _ w.in_ok-step-2.ensures)
 ]
-
-pub check_group-returns-in_err-open : goal.check_group-returns-in_err-open
-check_group-returns-in_err-open t c = let a = c.args in rw (handed c.from_residual.ensures.1) (c.in_err-open.ensures a.depth c.requires.2)
-
-pub check_group-returns-in_err-fields : goal.check_group-returns-in_err-fields
-check_group-returns-in_err-fields t c = let a = c.args in rw (handed c.from_residual-in_err-fields.ensures.1) ((c.in_ok-open.ensures a.depth c.requires.2).stops _ c.in_err-fields.ensures)
 
 pub check_groups-loop-init : goal.check_groups-loop-init
 check_groups-loop-init t c = items-start c.requires.1

@@ -1,11 +1,13 @@
 -- A step's answer and the count that it stands for: what a function shows at a return, and how it goes on after a call.
+use Rattle.std.proofs.Common.{Result, Ok, Err}
+use Rattle.std.specs.Result.{IsErrAnd}
 use mathlib.Core.Path.{◌≡◌, refl, sym, ap, ◌∙◌}
 use mathlib.Core.List.{List, [], ◌++◌}
-use Prim.Native.Nat.{ℕ, ◌+◌, ◌-◌, ◌%◌, ◌<◌, ◌≤◌}
+use Prim.Native.Nat.{ℕ, ◌+◌, ◌-◌, ◌≤◌}
 use native.Mathlib.Omega.{arith}
-use native.Mathlib.Nat.{mod-eq_of_lt}
 use lib.ListN.{length, drop, length-drop, length-append}
-use borrow.Author.Tests.{eq-eqb, ne_eqb}
+use Rattle.schema.specs.Faults.{fault_at}
+use Rattle.schema.specs.declared.Fault.{Fault}
 use Rattle.sheet.specs.Written.{Writing, stopped, wrote, headed, joined, next_w}
 use Rattle.parsing.specs.Count.{Count, failed, counted, count, capped, after}
 use Rattle.parsing.specs.Parse.{passed, refused, found, Ready}
@@ -21,14 +23,6 @@ pub capped_le : (d : ℕ) → capped d ≤ 65537
 unfolding capped
 capped_le d = omega arith
 
-pub capped-below : (d : ℕ) → d < 65537 → d ≡ capped d
-unfolding capped
-capped-below d h = omega arith
-
-pub capped-above : (d : ℕ) → 65537 ≤ d → 65537 ≡ capped d
-unfolding capped
-capped-above d h = omega arith
-
 -- a count that was capped before goes on as if it was not
 pub capped-more : (a b : ℕ) → capped (capped a + b) ≡ capped (a + b)
 unfolding capped
@@ -37,12 +31,12 @@ capped-more a b = omega arith
 -- RETURNS
 
 module _ (s : List ℕ) (d : ℕ) (x : Writing) where
-  pub fails : (v : Step) (left : ℕ) → (v.number ≡ 0 → ⊥) → x ≡ stopped (v.number % 256) left → v.place ≡ length s - left → found s v ≡ after d (count (length s) x)
+  pub fails : (f : Fault) (left : ℕ) → x ≡ stopped f.number left → f.place ≡ length s - left → found s (Err f) ≡ after d (count (length s) x)
   unfolding found after count
-  fails v left n e q = rw (ne_eqb v.number 0 n, e, q)
+  fails f left e q = rw (e, q)
 
-  pub refuses : (k pos left : ℕ) → (k ≡ 0 → ⊥) → k < 256 → x ≡ stopped k left → pos + left ≡ length s → found s (refused k pos) ≡ after d (count (length s) x)
-  refuses k pos left n b e l = fails (refused k pos) left n (e ∙ ap (λ (j : ℕ). stopped j left) (sym (mod-eq_of_lt b))) (omega arith)
+  pub refuses : (k pos left : ℕ) → x ≡ stopped k left → pos + left ≡ length s → found s (refused k pos) ≡ after d (count (length s) x)
+  refuses k pos left e l = fails (fault_at k pos) left e (omega arith)
 
   pub adds : (next e : ℕ) (F D : List ℕ) → x ≡ wrote F D (drop next s) → next ≤ length s → e ≡ capped (d + length D) → found s (passed next e) ≡ after d (count (length s) x)
   unfolding found after count
@@ -82,18 +76,18 @@ module _ (s : List ℕ) (d : ℕ) where
       (left, ap (λ (i : ℕ). stopped i left) (sym a), b)
   stopped-of (wrote F D r) k p q = absurd (let z : ◌≡◌ {A = ℕ} 0 1 = cc in omega arith)
 
-  module _ (x : Writing) (v : Step) (is : found s v ≡ after d (count (length s) x)) where
-    pub went : v.number ≡ 0 → Wrote s d x v.place v.length
-    unfolding found
-    went z = wrote_of x v.place v.length (rw (eq-eqb v.number 0 z) at is)
+  pub halted : (x : Writing) (f : Fault) → found s (Err f) ≡ after d (count (length s) x) → (left : ℕ) × (x ≡ stopped f.number left) × (f.place ≡ length s - left)
+  unfolding found
+  halted x f is = stopped-of x f.number f.place is
 
-    pub halted : (v.number ≡ 0 → ⊥) → (left : ℕ) × (x ≡ stopped (v.number % 256) left) × (v.place ≡ length s - left)
+  module _ (x : Writing) (v : Step) (is : found s (Ok v) ≡ after d (count (length s) x)) where
+    pub went : Wrote s d x v.next v.length
     unfolding found
-    halted n = stopped-of x (v.number % 256) v.place (rw (ne_eqb v.number 0 n) at is)
+    went = wrote_of x v.next v.length is
 
-    pub ready : v.number ≡ 0 → length s ≤ 1048576 → Ready s v.place v.length
-    ready z h =
-        let w = went z in
+    pub ready : length s ≤ 1048576 → Ready s v.next v.length
+    ready h =
+        let w = went in
         record { small = h; inside = w.inside; low = omega (arith, w.sum, capped_le (d + length w.values)) }
 
 pub ready_at : {s : List ℕ} {pos d : ℕ} → Ready s pos d → (next : ℕ) → next ≤ length s → Ready s next d
@@ -119,16 +113,24 @@ module _ (n d : ℕ) where
       rw (q, length-append D D', capped-more) (ap capped (omega arith)) in
       rw h
 
-module _ (s : List ℕ) (d : ℕ) (x : Writing) (v : Step) (is : found s v ≡ after d (count (length s) x)) (f : List ℕ → List ℕ → Writing) where
-  pub next-passed : v.number ≡ 0 → (c : Count) → ((D : List ℕ) → c ≡ after v.length (count (length s) (f D (drop v.place s)))) → c ≡ after d (count (length s) (next_w x f))
+module _ (s : List ℕ) (d : ℕ) (x : Writing) (f : List ℕ → List ℕ → Writing) where
+  pub next-passed : (v : Step) → found s (Ok v) ≡ after d (count (length s) x)
+      → (c : Count) → ((D : List ℕ) → c ≡ after v.length (count (length s) (f D (drop v.next s)))) → c ≡ after d (count (length s) (next_w x f))
   unfolding next_w
-  next-passed z c g =
-      let w = went s d x v is z in
-      g w.values ∙ sym (after-joined (length s) d v.length w.fixed w.values (f w.values (drop v.place s)) w.sum)
+  next-passed v is c g =
+      let w = went s d x v is in
+      g w.values ∙ sym (after-joined (length s) d v.length w.fixed w.values (f w.values (drop v.next s)) w.sum)
       ∙ ap (λ (y : Writing). after d (count (length s) (next_w y f))) (sym w.is)
 
-  pub next-stopped : (v.number ≡ 0 → ⊥) → found s v ≡ after d (count (length s) (next_w x f))
+  pub next-stopped : (e : Fault) → found s (Err e) ≡ after d (count (length s) x) → found s (Err e) ≡ after d (count (length s) (next_w x f))
   unfolding next_w
-  next-stopped n =
-      let h = halted s d x v is n in
-      fails s d (next_w x f) v h.0 n (ap (λ (y : Writing). next_w y f) h.1) h.2
+  next-stopped e is =
+      let h = halted s d x e is in
+      fails s d (next_w x f) e h.0 (ap (λ (y : Writing). next_w y f) h.1) h.2
+
+-- A REFUSAL THAT IS HANDED ON
+
+-- what a `?` returns: the fault that it met
+pub handed : {T : Type 0} {r : Result T Fault} {f : Fault} → IsErrAnd r (λ e. e ≡ f) → r ≡ Err f
+handed {r = Ok x} h = absurd h
+handed {r = Err e} h = ap Err h

@@ -1,4 +1,5 @@
 -- Fields, sequences and items: each way through them.
+use Rattle.std.proofs.Common.{Err}
 use mathlib.Core.Path.{◌≡◌, refl, sym, ap, ◌∙◌}
 use mathlib.Core.Bool.{Bool, true, false, ◌&&◌}
 use mathlib.Core.List.{List, [], ◌∷◌, ◌++◌}
@@ -9,7 +10,8 @@ use lib.Dec.{leb}
 use borrow.Author.Tests.{le-leb, lt-leb}
 use Rattle.wire.specs.Bytes.{part, le, same}
 use Rattle.wire.proofs.Laws.{length_part}
-use Rattle.schema.specs.Faults.{need}
+use Rattle.schema.specs.Faults.{judged, need}
+use Rattle.schema.specs.declared.Fault.{Fault}
 use Rattle.schema.specs.Schema.{Kind, inline, Field, kind_width, value_width}
 use Rattle.schema.specs.FieldKinds.{kind_from, tested_kind}
 use Rattle.schema.specs.declared.FieldKind.{FieldKind}
@@ -26,7 +28,7 @@ use Rattle.sheet.proofs.Widths.{Wide, Wides, wides-items, wides-marked, wides-ki
 use Rattle.parsing.specs.Count.{Count, count, capped, after}
 use Rattle.parsing.specs.Parse.{passed, refused, Counts, Finds, record_fault, Ready}
 use Rattle.parsing.proofs.Answers.{refuses, stays, capped-more, count-as, after-headed}
-use Rattle.parsing.proofs.Records.{record-small, record-inside, record-good, record-bad, mark-good, mark-bad, at_mark, behind-mark}
+use Rattle.parsing.proofs.Records.{halts, record-inside, record-good, record-bad, mark-good, mark-bad, at_mark, behind-mark}
 use Rattle.parsing.proofs.Values.{marked-indirect}
 
 -- A LIST IN THE DATA AREA
@@ -41,7 +43,7 @@ list-after N d e o m c x l (said_w {F = F} {D = D} {r = r} p) q =
     rw (q, capped-more) (ap capped (omega (arith, length-append (c ++ F) D, length-append c F, l, p))) in
     rw h
 
-module _ (s : List ℕ) (pos d : ℕ) (R : Ready s pos d) (k : Mark) (least w : ℕ) (W : Writer) (y : ℕ) (is : y ≡ record_fault (mark_bytes k) 4 (drop pos s)) where
+module _ (s : List ℕ) (pos d : ℕ) (R : Ready s pos d) (k : Mark) (least w : ℕ) (W : Writer) where
   abbrev list : ℕ → List ℕ → List ℕ → List ℕ → Writing
   list p r c r' = need (leb least (le c)) (stopped 44 (2 + length r)) (headed c (items_w w W (le c) (p + 4) (p + (4 + le c * w)) r'))
 
@@ -49,21 +51,21 @@ module _ (s : List ℕ) (pos d : ℕ) (R : Ready s pos d) (k : Mark) (least w : 
   unfolding list_b
   list-is at fr = marked-indirect k (list_b least w W) at fr (drop pos s)
 
-  pub list-bad : (y ≡ 0 → ⊥) → Finds s d (marked_w k (indirect_w (list_b least w W))) pos (refused y pos)
+  pub list-bad : (f : Fault) → Err f ≡ judged (record_fault (mark_bytes k) 4 (drop pos s)) pos → Finds s d (marked_w k (indirect_w (list_b least w W))) pos (Err f)
   unfolding placed
-  list-bad z at fr = refuses s d _ y pos _ z (rw is (record-small _ _ _)) (list-is at fr ∙ ap (placed (fr - at)) (record-bad s pos R.inside _ 4 y is (list fr) z)) (at_mark s pos R.inside)
+  list-bad = halts s pos d (marked_w k (indirect_w (list_b least w W))) _ _ (λ z at fr. list-is at fr ∙ ap (placed (fr - at)) (record-bad s pos R.inside _ 4 (list fr) z)) (at_mark s pos R.inside)
 
-  module _ (z : y ≡ 0) (n : ℕ) (ic : n ≡ le (part 4 (pos + 2) s)) where
+  module _ (z : record_fault (mark_bytes k) 4 (drop pos s) ≡ 0) (n : ℕ) (ic : n ≡ le (part 4 (pos + 2) s)) where
     list_at : (at fr : ℕ) → marked_w k (indirect_w (list_b least w W)) at fr (drop pos s)
         ≡ placed (fr - at) (need (leb least n) (stopped 44 (2 + length (drop (pos + 2) s))) (headed (part 4 (pos + 2) s) (items_w w W n (fr + 4) (fr + (4 + n * w)) (drop (pos + 6) s))))
-    list_at at fr = list-is at fr ∙ ap (placed (fr - at)) (record-good s pos R.inside _ 4 y is (list fr) z ∙ rw (← ic))
+    list_at at fr = list-is at fr ∙ ap (placed (fr - at)) (record-good s pos R.inside _ 4 (list fr) z ∙ rw (← ic))
 
     list_inside : pos + 6 ≤ length s
-    list_inside = record-inside s pos R.inside _ 4 y is z
+    list_inside = record-inside s pos R.inside _ 4 z
 
     pub list-empty : n < least → Finds s d (marked_w k (indirect_w (list_b least w W))) pos (refused 44 pos)
     unfolding placed need
-    list-empty l at fr = refuses s d _ 44 pos _ (omega arith) (omega arith) (list_at at fr ∙ rw (lt-leb least n l)) (behind-mark s pos (omega (arith, list_inside)))
+    list-empty l at fr = refuses s d _ 44 pos _ (list_at at fr ∙ rw (lt-leb least n l)) (behind-mark s pos (omega (arith, list_inside)))
 
     pub list-good : least ≤ n → Wides w W → (e : ℕ) → e ≡ capped (d + (4 + n * w)) → (c : Count) → Counts s e (items_w w W n) (pos + 6) c → Counts s d (marked_w k (indirect_w (list_b least w W))) pos c
     unfolding need
@@ -72,15 +74,6 @@ module _ (s : List ℕ) (pos d : ℕ) (R : Ready s pos d) (k : Mark) (least w : 
         ∙ sym (list-after (length s) d e (fr - at) (n * w) (part 4 (pos + 2) s) _ (length_part 4 (pos + 2) s (omega (arith, list_inside))) (wides-items w W A n (fr + 4) (fr + (4 + n * w)) (drop (pos + 6) s)) q))
 
 -- ONE FIELD
-
--- whether it is absent, by its flag first
-pub absent-optional : (o b c : Bool) → o ≡ true → c ≡ b → c ≡ o && b
-absent-optional true b c e q = q
-absent-optional false b c e q = absurd (true-false false e refl)
-
-pub absent-required : (o b : Bool) → o ≡ false → false ≡ o && b
-absent-required false b e = refl
-absent-required true b e = absurd (true-false true refl e)
 
 module _ (s : List ℕ) (pos d : ℕ) (I : InnerW) (sw : ℕ → ℕ) (S : ℕ → Writer) (f : Field) where
   -- whether it is absent
@@ -98,15 +91,15 @@ module _ (s : List ℕ) (pos d : ℕ) (I : InnerW) (sw : ℕ → ℕ) (S : ℕ �
         go true true p q e at fr = absurd (true-false _ (rw (p, q) refl) e)
         go true false p q e at fr = count-as _ _ (field-present I sw S f at fr pos s p q) (g (at + 1) fr ∙ sym (after-headed (length s) d (1 ∷ []) _))
 
-  module _ (x : Kind) (ix : x ≡ f.kind) (e : f.sequence ≡ true) (R : Ready s pos d) (y : ℕ) (is : y ≡ record_fault (mark_bytes SQ) 4 (drop pos s)) where
-    pub sequence-bad : (y ≡ 0 → ⊥) → Finds s d (marked_value_w I sw S f) pos (refused y pos)
-    sequence-bad z at fr = count-as _ _ (value-list I sw S f at fr pos s x ix e _ refl) (list-bad s pos d R SQ 0 (kind_width sw x) (item_w I S x) y is z at fr)
+  module _ (x : Kind) (ix : x ≡ f.kind) (e : f.sequence ≡ true) (R : Ready s pos d) where
+    pub sequence-bad : (g : Fault) → Err g ≡ judged (record_fault (mark_bytes SQ) 4 (drop pos s)) pos → Finds s d (marked_value_w I sw S f) pos (Err g)
+    sequence-bad g z at fr = count-as _ _ (value-list I sw S f at fr pos s x ix e _ refl) (list-bad s pos d R SQ 0 (kind_width sw x) (item_w I S x) g z at fr)
 
-    pub sequence-good : y ≡ 0 → ((g : ℕ) → Wides (sw g) (S g)) → (n w t : ℕ) → n ≡ le (part 4 (pos + 2) s) → w ≡ kind_width sw x → t ≡ capped (d + (4 + n * w))
+    pub sequence-good : record_fault (mark_bytes SQ) 4 (drop pos s) ≡ 0 → ((g : ℕ) → Wides (sw g) (S g)) → (n w t : ℕ) → n ≡ le (part 4 (pos + 2) s) → w ≡ kind_width sw x → t ≡ capped (d + (4 + n * w))
         → (c : Count) → Counts s t (items_w w (item_w I S x) n) (pos + 6) c → Counts s d (marked_value_w I sw S f) pos c
     sequence-good z A n w t ic iw q c g at fr =
         let u : Wides w (item_w I S x) = rw iw (wides-marked (kind_mark x) (kind_width sw x) (kind_w I S x) (wides-kind I sw S A x)) in
-        count-as _ _ (value-list I sw S f at fr pos s x ix e w iw) (list-good s pos d R SQ 0 w (item_w I S x) y is z n ic (omega arith) u t q c g at fr)
+        count-as _ _ (value-list I sw S f at fr pos s x ix e w iw) (list-good s pos d R SQ 0 w (item_w I S x) z n ic (omega arith) u t q c g at fr)
 
 -- KINDS, AS THE CODE SEES THEM
 
@@ -131,14 +124,13 @@ module _ (s : List ℕ) (pos d : ℕ) (I : InnerW) (S : ℕ → Writer) (es : Li
   unfolding kind_from kind_mark kind_w
   item-dynamic a e g = rw e g
 
-module _ (s : List ℕ) (pos d : ℕ) (R : Ready s pos d) (I : InnerW) (S : ℕ → Writer) (es : List (List ℕ)) (kind : FieldKind) (g : ℕ) (e : kind ≡ Static g)
-    (y : ℕ) (is : y ≡ record_fault (mark_bytes SG) 0 (drop pos s)) where
+module _ (s : List ℕ) (pos d : ℕ) (R : Ready s pos d) (I : InnerW) (S : ℕ → Writer) (es : List (List ℕ)) (kind : FieldKind) (g : ℕ) (e : kind ≡ Static g) where
   static-is : (at fr : ℕ) → item_w I S (kind_from es kind) at fr (drop pos s) ≡ due (mark_bytes SG) (drop pos s) (λ r. S g at fr r)
   unfolding kind_from kind_mark kind_w marked_w
   static-is at fr = rw e
 
-  pub static-bad : (y ≡ 0 → ⊥) → Finds s d (item_w I S (kind_from es kind)) pos (refused y pos)
-  static-bad z at fr = refuses s d _ y pos _ z (rw is (record-small _ _ _)) (static-is at fr ∙ mark-bad s pos R.inside _ y is (λ r. S g at fr r) z) (at_mark s pos R.inside)
+  pub static-bad : (f : Fault) → Err f ≡ judged (record_fault (mark_bytes SG) 0 (drop pos s)) pos → Finds s d (item_w I S (kind_from es kind)) pos (Err f)
+  static-bad = halts s pos d (item_w I S (kind_from es kind)) _ _ (λ z at fr. static-is at fr ∙ mark-bad s pos R.inside _ (λ r. S g at fr r) z) (at_mark s pos R.inside)
 
-  pub static-good : y ≡ 0 → (c : Count) → Counts s d (S g) (pos + 2) c → Counts s d (item_w I S (kind_from es kind)) pos c
-  static-good z c h at fr = count-as _ _ (static-is at fr ∙ mark-good s pos R.inside _ y is (λ r. S g at fr r) z) (h at fr)
+  pub static-good : record_fault (mark_bytes SG) 0 (drop pos s) ≡ 0 → (c : Count) → Counts s d (S g) (pos + 2) c → Counts s d (item_w I S (kind_from es kind)) pos c
+  static-good z c h at fr = count-as _ _ (static-is at fr ∙ mark-good s pos R.inside _ (λ r. S g at fr r) z) (h at fr)

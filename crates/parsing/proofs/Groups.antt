@@ -3,14 +3,15 @@ use Rattle.std.proofs.Common.{Ok, Err}
 use mathlib.Core.Path.{◌≡◌, refl, sym, ap, ◌∙◌}
 use mathlib.Core.Bool.{Bool, true, false}
 use mathlib.Core.List.{List, [], ◌++◌, append-nil}
-use Prim.Native.Nat.{ℕ, zero, suc, ◌+◌, ◌-◌, ◌*◌, ◌%◌, ◌<◌, ◌≤◌}
+use Prim.Native.Nat.{ℕ, zero, suc, ◌+◌, ◌-◌, ◌*◌, ◌<◌, ◌≤◌}
 use native.Mathlib.Omega.{arith}
 use native.Mathlib.Nat.{add_assoc}
 use lib.ListN.{length, take, drop, length-append, length-drop}
 use lib.Dec.{leb}
 use borrow.Author.Tests.{le-leb, lt-leb, lt-ltb, le-ltb, eq-eqb, ne_eqb}
 use Rattle.wire.specs.Bytes.{part, le, bytes_of, same}
-use Rattle.schema.specs.Faults.{fault_at, need}
+use Rattle.schema.specs.Faults.{fault_at, judged, need}
+use Rattle.schema.specs.declared.Fault.{Fault}
 use Rattle.schema.specs.Schema.{Group, width, find, known, allows}
 use Rattle.message.specs.Sheet.{GB, XT, XU, GE, mark_bytes}
 use Rattle.sheet.specs.Written.{Writing, stopped, wrote, Writer, InnerW, joined, next_w, placed, grab, due, then_w, marked_w, indirect_w, inner_b, items_w, list_b, static_w, extending_b, extension_w, swapped, back_w, behind_w, framed, closed, body_w, head_w, group_w, ended, sheet_w}
@@ -23,7 +24,7 @@ use Rattle.parsing.specs.Count.{Count, count, capped, after}
 use Rattle.parsing.specs.Parse.{passed, refused, parsed_of, Counts, Finds, record_fault, end_w, Ready}
 use Rattle.parsing.specs.declared.Step.{Step}
 use Rattle.parsing.proofs.Answers.{refuses, stays, went, halted, fails, capped-more, count-as}
-use Rattle.parsing.proofs.Records.{record-small, record-inside, record-good, record-bad, at_mark, behind-mark}
+use Rattle.parsing.proofs.Records.{halts, record-inside, record-good, record-bad, at_mark, behind-mark}
 use Rattle.parsing.proofs.Values.{marked-indirect}
 use Rattle.parsing.proofs.Fields.{list-bad, list-empty, list-good}
 
@@ -34,20 +35,20 @@ module _ (s : List ℕ) (pos d : ℕ) (R : Ready s pos d) (gs : List Group) (I :
   unfolding extension_w
   extension-none m at fr = stays s d _ pos (bytes_of 4 0) (rw m) R.inside R.low
 
-  module _ (m : same (part 2 pos s) (mark_bytes XT) ≡ true) (y : ℕ) (is : y ≡ record_fault (mark_bytes XT) 4 (drop pos s)) where
+  module _ (m : same (part 2 pos s) (mark_bytes XT) ≡ true) where
     extension-is : (c : Count) → Counts s d (marked_w XT (indirect_w (list_b 1 4 (indirect_w (extending_b gs I))))) pos c → Counts s d (extension_w gs I) pos c
     unfolding extension_w marked_w
     extension-is c g at fr = rw m (g at fr)
 
-    pub extension-bad : (y ≡ 0 → ⊥) → Finds s d (extension_w gs I) pos (refused y pos)
-    extension-bad z = extension-is _ (list-bad s pos d R XT 1 4 (indirect_w (extending_b gs I)) y is z)
+    pub extension-bad : (f : Fault) → Err f ≡ judged (record_fault (mark_bytes XT) 4 (drop pos s)) pos → Finds s d (extension_w gs I) pos (Err f)
+    extension-bad f e = extension-is _ (list-bad s pos d R XT 1 4 (indirect_w (extending_b gs I)) f e)
 
-    module _ (z : y ≡ 0) (n : ℕ) (ic : n ≡ le (part 4 (pos + 2) s)) where
+    module _ (z : record_fault (mark_bytes XT) 4 (drop pos s) ≡ 0) (n : ℕ) (ic : n ≡ le (part 4 (pos + 2) s)) where
       pub extension-empty : n ≡ 0 → Finds s d (extension_w gs I) pos (refused 44 pos)
-      extension-empty o = extension-is _ (list-empty s pos d R XT 1 4 (indirect_w (extending_b gs I)) y is z n ic (omega arith))
+      extension-empty o = extension-is _ (list-empty s pos d R XT 1 4 (indirect_w (extending_b gs I)) z n ic (omega arith))
 
       pub extension-some : (n ≡ 0 → ⊥) → (e : ℕ) → e ≡ capped (d + (4 + n * 4)) → (c : Count) → Counts s e (items_w 4 (indirect_w (extending_b gs I)) n) (pos + 6) c → Counts s d (extension_w gs I) pos c
-      extension-some o e q c g = extension-is c (list-good s pos d R XT 1 4 (indirect_w (extending_b gs I)) y is z n ic (omega arith) (wides-indirect (extending_b gs I)) e q c g)
+      extension-some o e q c g = extension-is c (list-good s pos d R XT 1 4 (indirect_w (extending_b gs I)) z n ic (omega arith) (wides-indirect (extending_b gs I)) e q c g)
 
 -- one of its groups
 pub extending-group : (s : List ℕ) (pos d : ℕ) (gs : List Group) (I : InnerW) → same (part 2 pos s) (mark_bytes XU) ≡ false → (c : Count)
@@ -89,8 +90,7 @@ module _ (N d e t o w : ℕ) (id F D : List ℕ) (l8 : length id ≡ 8) (lw : le
   closing y a f (said_w {F = F'} {D = D'} {r = r} l4) = due-counts N d t o GE r F' D' (λ r'. wrote [] [] r') (λ r'. wrote (framed id (F' ++ F) (D ++ D')) [] r')
       (λ r'. rw (group-length F' D' l4))
 
-module _ (s : List ℕ) (pos d : ℕ) (gs : List Group) (I : InnerW) (g : ℕ) (id : List ℕ) (l8 : length id ≡ 8) (w : ℕ) (iw : w ≡ width gs 5 g) (e : ℕ) (ie : e ≡ capped (d + (16 + w)))
-    (v : Step) (f : Finds s e (static_w gs I 5 g) pos v) where
+module _ (s : List ℕ) (pos d : ℕ) (gs : List Group) (I : InnerW) (g : ℕ) (id : List ℕ) (l8 : length id ≡ 8) (w : ℕ) (iw : w ≡ width gs 5 g) (e : ℕ) (ie : e ≡ capped (d + (16 + w))) where
   abbrev area : ℕ
   area = 16 + width gs 5 g
 
@@ -104,24 +104,24 @@ module _ (s : List ℕ) (pos d : ℕ) (gs : List Group) (I : InnerW) (g : ℕ) (
   abbrev Body : Writer
   Body = indirect_w (λ p r. body_w gs I g id r)
 
-  pub body-stopped : (v.number ≡ 0 → ⊥) → Finds s d Body pos v
+  pub body-stopped : (v : Fault) → Finds s e (static_w gs I 5 g) pos (Err v) → Finds s d Body pos (Err v)
   unfolding back_w closed placed
-  body-stopped n at fr =
-      let h = halted s e fields v (f 16 area) n in
-      fails s d _ v h.0 n (body_is at fr ∙ ap (λ (x : Writing). placed (fr - at) (closed id (back_w x (λ D r. extension_w gs I 12 (area + length D) r)))) h.1) h.2
+  body-stopped v f at fr =
+      let h = halted s e fields v (f 16 area) in
+      fails s d _ v h.0 (body_is at fr ∙ ap (λ (x : Writing). placed (fr - at) (closed id (back_w x (λ D r. extension_w gs I 12 (area + length D) r)))) h.1) h.2
 
-  pub body-passed : v.number ≡ 0 → (c : Count) → Counts s v.length (then_w 4 (extension_w gs I) end_w) v.place c → Counts s d Body pos c
+  pub body-passed : (v : Step) → Finds s e (static_w gs I 5 g) pos (Ok v) → (c : Count) → Counts s v.length (then_w 4 (extension_w gs I) end_w) v.next c → Counts s d Body pos c
   unfolding back_w then_w
-  body-passed z c h at fr =
-      let x = went s e fields v (f 16 area) z in
+  body-passed v f c h at fr =
+      let x = went s e fields v (f 16 area) in
       let D = x.values in
       let lw = wide_is (wides-static gs I 5 g 16 area (drop pos s)) x.is ∙ sym iw in
       count-as _ _ (body_is at fr ∙ ap (λ (x : Writing). placed (fr - at) (closed id (back_w x (λ D r. extension_w gs I 12 (area + length D) r)))) x.is) (h 12 (area + length D)
-      ∙ closing (length s) d e v.length (fr - at) w id x.fixed D l8 lw ie x.sum (extension_w gs I 12 (area + length D) (drop v.place s)) (12 + 4) (area + length D) (wides-extension gs I 12 (area + length D) (drop v.place s)))
+      ∙ closing (length s) d e v.length (fr - at) w id x.fixed D l8 lw ie x.sum (extension_w gs I 12 (area + length D) (drop v.next s)) (12 + 4) (area + length D) (wides-extension gs I 12 (area + length D) (drop v.next s)))
 
 -- THE HEAD
 
-module _ (s : List ℕ) (pos d : ℕ) (R : Ready s pos d) (gs : List Group) (a l y : ℕ) (is : y ≡ record_fault (mark_bytes GB) 8 (drop pos s)) where
+module _ (s : List ℕ) (pos d : ℕ) (R : Ready s pos d) (gs : List Group) (a l : ℕ) where
   abbrev Marked : Writer
   Marked = marked_w GB (indirect_w (inner_b (group_w gs l) a))
 
@@ -142,25 +142,25 @@ module _ (s : List ℕ) (pos d : ℕ) (R : Ready s pos d) (gs : List Group) (a l
       go zero = refl
       go (suc l) = refl
 
-  pub group-bad : (y ≡ 0 → ⊥) → Finds s d Marked pos (refused y pos)
+  pub group-bad : (f : Fault) → Err f ≡ judged (record_fault (mark_bytes GB) 8 (drop pos s)) pos → Finds s d Marked pos (Err f)
   unfolding placed
-  group-bad z at fr = refuses s d _ y pos _ z (rw is (record-small _ _ _)) (opened-is at fr ∙ ap (placed (fr - at)) (record-bad s pos R.inside _ 8 y is head z)) (at_mark s pos R.inside)
+  group-bad = halts s pos d Marked _ _ (λ z at fr. opened-is at fr ∙ ap (placed (fr - at)) (record-bad s pos R.inside _ 8 head z)) (at_mark s pos R.inside)
 
-  module _ (z : y ≡ 0) (g : ℕ) (ig : g ≡ find gs (le (part 8 (pos + 2) s))) where
+  module _ (z : record_fault (mark_bytes GB) 8 (drop pos s) ≡ 0) (g : ℕ) (ig : g ≡ find gs (le (part 8 (pos + 2) s))) where
     abbrev id : List ℕ
     id = part 8 (pos + 2) s
 
     opened-at : (at fr : ℕ) → Marked at fr (drop pos s) ≡ placed (fr - at) (need (known gs (le id)) (stopped 2 (2 + length (drop (pos + 2) s))) (need (allows gs a g) (stopped 25 (2 + length (drop (pos + 2) s))) (body_at l g id (drop (pos + 10) s))))
-    opened-at at fr = opened-is at fr ∙ ap (placed (fr - at)) (record-good s pos R.inside _ 8 y is head z ∙ rw (← ig))
+    opened-at at fr = opened-is at fr ∙ ap (placed (fr - at)) (record-good s pos R.inside _ 8 head z ∙ rw (← ig))
 
     whole : pos + 10 ≤ length s
-    whole = record-inside s pos R.inside _ 8 y is z
+    whole = record-inside s pos R.inside _ 8 z
 
     pub group-unknown : length gs ≤ g → Finds s d Marked pos (refused 2 pos)
     unfolding placed need known
     group-unknown h at fr =
         let u = whole in
-        refuses s d _ 2 pos _ (omega arith) (omega arith) (opened-at at fr ∙ rw (← ig, le-ltb g (length gs) h)) (behind-mark s pos (omega (arith, u)))
+        refuses s d _ 2 pos _ (opened-at at fr ∙ rw (← ig, le-ltb g (length gs) h)) (behind-mark s pos (omega (arith, u)))
 
     module _ (h : g < length gs) where
       its-known : known gs (le id) ≡ true
@@ -171,7 +171,7 @@ module _ (s : List ℕ) (pos d : ℕ) (R : Ready s pos d) (gs : List Group) (a l
       unfolding placed need
       group-other e at fr =
           let u = whole in
-          refuses s d _ 25 pos _ (omega arith) (omega arith) (opened-at at fr ∙ rw (its-known, e)) (behind-mark s pos (omega (arith, u)))
+          refuses s d _ 25 pos _ (opened-at at fr ∙ rw (its-known, e)) (behind-mark s pos (omega (arith, u)))
 
       module _ (e : allows gs a g ≡ true) where
         opened-body : (at fr : ℕ) → Marked at fr (drop pos s) ≡ placed (fr - at) (body_at l g id (drop (pos + 10) s))
@@ -182,7 +182,7 @@ module _ (s : List ℕ) (pos d : ℕ) (R : Ready s pos d) (gs : List Group) (a l
         unfolding placed
         group-deep o at fr =
             let u = whole in
-            refuses s d _ 24 pos (10 + length (drop (pos + 10) s)) (omega arith) (omega arith) (opened-body at fr ∙ ap (λ (j : ℕ). placed (fr - at) (body_at j g id (drop (pos + 10) s))) o) (omega (arith, u, length-drop (pos + 10) s))
+            refuses s d _ 24 pos (10 + length (drop (pos + 10) s)) (opened-body at fr ∙ ap (λ (j : ℕ). placed (fr - at) (body_at j g id (drop (pos + 10) s))) o) (omega (arith, u, length-drop (pos + 10) s))
 
         pub group-body : (l ≡ 0 → ⊥) → (c : Count) → Counts s d (indirect_w (λ p r. body_w gs (group_w gs (l - 1)) g id r)) (pos + 10) c → Counts s d Marked pos c
         unfolding indirect_w
@@ -217,38 +217,38 @@ module _ (gs : List Group) (s : List ℕ) where
   unfolding sheet_w need
   sheet-is h = rw (le-leb (length s) 1048576 h)
 
-  module _ (h : length s ≤ 1048576) (v : Step) (f : Finds s 0 (marked_w GB (indirect_w (inner_b (group_w gs 8) 0))) 0 v) where
+  module _ (h : length s ≤ 1048576) where
     message-is : marked_w GB (indirect_w (inner_b (group_w gs 8) 0)) 0 0 (drop 0 s) ≡ placed 0 message
     unfolding inner_b
     message-is = marked-indirect GB (inner_b (group_w gs 8) 0) 0 0 s
 
-    pub sheet-stopped : (v.number ≡ 0 → ⊥) → Err (fault_at (v.number % 256) v.place) ≡ parsed_of (sheet_w gs s)
+    pub sheet-stopped : (v : Fault) → Finds s 0 (marked_w GB (indirect_w (inner_b (group_w gs 8) 0))) 0 (Err v) → Err v ≡ parsed_of (sheet_w gs s)
     unfolding ended parsed_of
-    sheet-stopped n =
-        let x = halted s 0 _ v (f 0 0) n in
-        let e = placed-stopped 0 message (v.number % 256) x.0 (sym message-is ∙ x.1) in
-        ap (Refused (v.number % 256)) x.2 ∙ rw (sheet-is h, e)
+    sheet-stopped v f =
+        let x = halted s 0 _ v (f 0 0) in
+        let e = placed-stopped 0 message v.number x.0 (sym message-is ∙ x.1) in
+        rw (sheet-is h, e, ← x.2)
 
     message-alone : SatW (λ X Y r. Y ≡ []) message
     message-alone = satw-due (mark_bytes GB) s _ (λ r e. group-alone gs 8 0 r)
 
-    module _ (z : v.number ≡ 0) where
-      its : (X : List ℕ) × (message ≡ wrote X [] (drop v.place s)) × (v.length ≡ capped (length X))
+    module _ (v : Step) (f : Finds s 0 (marked_w GB (indirect_w (inner_b (group_w gs 8) 0))) 0 (Ok v)) where
+      its : (X : List ℕ) × (message ≡ wrote X [] (drop v.next s)) × (v.length ≡ capped (length X))
       its =
-          let x = went s 0 _ v (f 0 0) z in
-          let p = placed-wrote 0 message x.fixed x.values (drop v.place s) (sym message-is ∙ x.is) in
+          let x = went s 0 _ v (f 0 0) in
+          let p = placed-wrote 0 message x.fixed x.values (drop v.next s) (sym message-is ∙ x.is) in
           let n : p.1 ≡ [] = satw-is (rw p.2 at message-alone) in
-          (p.0, p.2 ∙ ap (λ (Y : List ℕ). wrote p.0 Y (drop v.place s)) n, x.sum ∙ ap capped (omega (arith, ap length p.4 ∙ length-append p.0 p.1, ap length n)))
+          (p.0, p.2 ∙ ap (λ (Y : List ℕ). wrote p.0 Y (drop v.next s)) n, x.sum ∙ ap capped (omega (arith, ap length p.4 ∙ length-append p.0 p.1, ap length n)))
 
-      pub sheet-more : v.place < length s → Err (fault_at 43 v.place) ≡ parsed_of (sheet_w gs s)
+      pub sheet-more : v.next < length s → Err (fault_at 43 v.next) ≡ parsed_of (sheet_w gs s)
       unfolding ended parsed_of need
       sheet-more l =
-          let m = length-drop v.place s in
-          let p : length s - length (drop v.place s) ≡ v.place = omega arith in
-          rw (sheet-is h, its.1, ne_eqb (length (drop v.place s)) 0 (omega arith), p)
+          let m = length-drop v.next s in
+          let p : length s - length (drop v.next s) ≡ v.next = omega arith in
+          rw (sheet-is h, its.1, ne_eqb (length (drop v.next s)) 0 (omega arith), p)
 
-      pub sheet-whole : length s ≤ v.place → Ok v.length ≡ parsed_of (sheet_w gs s)
+      pub sheet-whole : length s ≤ v.next → Ok v.length ≡ parsed_of (sheet_w gs s)
       unfolding ended parsed_of need
       sheet-whole l =
-          let m = length-drop v.place s in
-          ap Ok its.2 ∙ rw (sheet-is h, its.1, eq-eqb (length (drop v.place s)) 0 (omega arith))
+          let m = length-drop v.next s in
+          ap Ok its.2 ∙ rw (sheet-is h, its.1, eq-eqb (length (drop v.next s)) 0 (omega arith))

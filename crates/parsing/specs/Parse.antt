@@ -1,10 +1,10 @@
 -- What the functions that read a sheet answer, and what they ask of their callers.
-use Rattle.schema.specs.declared.Fault.{Fault}
-use Rattle.std.specs.Prelude.{Ok, Err, Result, ◌≡◌, true, cond, List, [], ℕ, ◌+◌, ◌%◌, ◌<◌, ◌≤◌, length, take, drop, leb, eqb}
+use Rattle.std.specs.Prelude.{Ok, Err, Result, ◌≡◌, true, cond, List, [], ℕ, ◌+◌, ◌<◌, ◌≤◌, length, take, drop, leb, eqb}
 use Rattle.wire.specs.Bytes.{part, le, same}
 use Rattle.schema.specs.Faults.{fault_at, need}
 use Rattle.schema.specs.Schema.{shallow}
 use Rattle.schema.specs.Table.{schema}
+use Rattle.schema.specs.declared.Fault.{Fault}
 use Rattle.schema.specs.declared.Scope.{Scope}
 use Rattle.schema.specs.declared.Scope.TheVariants.{Whole, Fields}
 use Rattle.message.specs.Sheet.{GB, GE}
@@ -23,21 +23,22 @@ parsed_of (stopped k p) = Err (fault_at k p)
 parsed_of (wrote X D r) = Ok (capped (length X))
 
 -- A step that passed, with where the next record begins and the count; and one that found a fault.
-abbrev pub passed : ℕ → ℕ → Step
-passed next e = record { number = 0; place = next; length = e }
+abbrev pub passed : ℕ → ℕ → Result Step Fault
+passed next e = Ok (record { next = next; length = e })
 
-abbrev pub refused : ℕ → ℕ → Step
-refused k p = record { number = k; place = p; length = 0 }
+abbrev pub refused : ℕ → ℕ → Result Step Fault
+refused k p = Err (fault_at k p)
 
--- What a step of the pass over the sheet s found. A fault's number is one byte, as the answer has it.
-unfoldable pub found : List ℕ → Step → Count
-found s v = cond (eqb v.number 0) (counted v.length v.place (drop v.place s)) (failed (v.number % 256) v.place)
+-- What a step of the pass over the sheet s found.
+unfoldable pub found : List ℕ → Result Step Fault → Count
+found s (Ok v) = counted v.length v.next (drop v.next s)
+found s (Err f) = failed f.number f.place
 
 -- c is what W makes of the sheet s from pos on, counted on from d. It does not depend on where W writes.
 abbrev pub Counts : List ℕ → ℕ → Writer → ℕ → Count → Type 0
 Counts s d W pos c = (at fr : ℕ) → c ≡ after d (count (length s) (W at fr (drop pos s)))
 
-abbrev pub Finds : List ℕ → ℕ → Writer → ℕ → Step → Type 0
+abbrev pub Finds : List ℕ → ℕ → Writer → ℕ → Result Step Fault → Type 0
 Finds s d W pos v = Counts s d W pos (found s v)
 
 -- RECORDS
@@ -93,21 +94,18 @@ Within t depth (Fields g) = Shallow t depth g
 -- A GROUP THAT IS OPENED
 
 abbrev pub opened : ℕ → ℕ → ℕ → ℕ → Opened
-opened g l next e = record { fault = 0; group = g; levels = l; pos = next; length = e }
-
-abbrev pub unopened : ℕ → Opened
-unopened k = record { fault = k; group = 0; levels = 0; pos = 0; length = 0 }
+opened g l next e = record { group = g; levels = l; place = next; length = e }
 
 -- The group's fields come next. A fault in them is the group's, and where there is none the group goes on with what closes it.
 pub record Opening (t s : List ℕ) (levels depth : ℕ) (scope : Scope) (pos d : ℕ) (o : Opened) : Type 0 where
-  pub ready : Ready s o.pos o.length
+  pub ready : Ready s o.place o.length
   pub shallows : Shallow t depth o.group
   pub lower : o.levels + takes scope ≡ levels
-  pub stops : (v : Step) → Finds s o.length (static_of t o.levels depth o.group) o.pos v → (v.number ≡ 0 → ⊥) → Finds s d (group_of t levels depth scope) pos v
-  pub goes : (v : Step) → Finds s o.length (static_of t o.levels depth o.group) o.pos v → v.number ≡ 0
-      → (c : Count) → Counts s v.length (close_of t o.levels scope) v.place c → Counts s d (group_of t levels depth scope) pos c
+  pub stops : (f : Fault) → Finds s o.length (static_of t o.levels depth o.group) o.place (Err f) → Finds s d (group_of t levels depth scope) pos (Err f)
+  pub goes : (v : Step) → Finds s o.length (static_of t o.levels depth o.group) o.place (Ok v)
+      → (c : Count) → Counts s v.length (close_of t o.levels scope) v.next c → Counts s d (group_of t levels depth scope) pos c
 
--- o is what opening the group finds: its fault, or the group.
-pub record Opens (t s : List ℕ) (levels depth : ℕ) (scope : Scope) (pos d : ℕ) (o : Opened) : Type 0 where
-  pub fails : (o.fault ≡ 0 → ⊥) → Finds s d (group_of t levels depth scope) pos (refused o.fault pos)
-  pub opens : o.fault ≡ 0 → Opening t s levels depth scope pos d o
+-- What opening the group finds: the group, or its fault.
+abbrev pub Opens : List ℕ → List ℕ → ℕ → ℕ → Scope → ℕ → ℕ → Result Opened Fault → Type 0
+Opens t s levels depth scope pos d (Ok o) = Opening t s levels depth scope pos d o
+Opens t s levels depth scope pos d (Err f) = Finds s d (group_of t levels depth scope) pos (Err f)

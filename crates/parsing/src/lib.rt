@@ -1,12 +1,13 @@
 // From a sheet to its message, first pass: the sheet's first fault, or how long the message is.
 //
 // The sheet is read record by record, in document 01's order, and nothing is written. How many bytes
-// a group's fields take is known from the table, so only what goes into data areas is counted. `pos`
+// a group's fields take is known from the table, so only what goes into data areas is counted. `place`
 // is where the next record begins in the sheet, and functions count on from `before`.
 #![tactic(auto)]
 
-ghost use Rattle.std.specs.Prelude.{◌≡◌, true, ◌&&◌, List, ℕ, ◌+◌, ◌<◌, ◌≤◌, ◌^◌, length, drop};
-ghost use Rattle.wire.specs.Bytes.{part, same};
+ghost use Rattle.std.specs.Prelude.{◌≡◌, true, ◌&&◌, List, ℕ, ◌+◌, ◌<◌, ◌≤◌, ◌^◌, length, drop, OnOk, MatchResult, Err};
+ghost use Rattle.wire.specs.Bytes.{part, le, same};
+ghost use Rattle.schema.specs.Faults.{judged};
 ghost use Rattle.schema.specs.Schema.{inline, kind_width, shallow_kind, shallow};
 ghost use Rattle.schema.specs.Table.{field_at, enums, schema};
 ghost use Rattle.schema.specs.Layout.{Layout};
@@ -17,112 +18,80 @@ ghost use Rattle.message.specs.Check.{width_of};
 ghost use Rattle.sheet.specs.Written.{InnerW, Writer, indirect_w, items_w, extending_b, sheet_w};
 ghost use Rattle.sheet.specs.Writers.{item_w, static_of, plain_of, item_of, field_of, extending_of, text_of, extension_of};
 ghost use Rattle.parsing.specs.Count.{capped};
-ghost use Rattle.parsing.specs.Parse.{parsed_of, passed, refused, Finds, record_fault, counted_fault, end_w, group_of, close_of, Ready, Within, unopened, Opens};
+ghost use Rattle.parsing.specs.Parse.{parsed_of, Finds, record_fault, counted_fault, end_w, group_of, close_of, Ready, Within, Opens};
 
 use schema::Fault;
 use sheet::{GB, GE, NO, SG, SQ, ST, VA, XT, XU};
 
-// What a step finds: where the next record begins, and how many bytes there are so far. Where `number`
-// is not 0 it is the first fault's, and `place` is where that stands. The number has a whole word, so
-// that a step is copied in words.
+// What a step finds where no fault is: where the next record begins, and how many bytes there are so far.
 #[derive(Clone, Copy)]
 struct Step {
-    number: usize,
-    place: usize,
+    next: usize,
     length: usize,
 }
 
 // The count, some bytes further. A message of more than 65,536 bytes is refused however long it is, so
 // the count stops above.
+#[tactic(auto, unfolding(crate::specs::Count::capped))]
 fn longer(length: usize, by: usize) -> usize
     requires { length + by < 2 ^ 64 }
     ensures { (result ≡ capped (length + by)) × (result ≤ 65537) }
 {
-    if length + by < 65537 {
-        return length + by;
-    }
-    65537
-}
-
-// A step that finds a fault.
-fn refused(number: usize, place: usize) -> Step
-    ensures { result ≡ refused number place }
-{
-    Step {
-        number,
-        place,
-        length: 0,
-    }
-}
-
-// A step that finds none.
-fn passed(place: usize, length: usize) -> Step
-    ensures { result ≡ passed place length }
-{
-    Step {
-        number: 0,
-        place,
-        length,
-    }
+    (length + by).min(65537)
 }
 
 // RECORDS
 
 // Whether the next record has this mark.
-fn stands(sheet: &[u8], pos: usize, mark: [u8; 2]) -> bool
-    requires { (pos ≤ length sheet.now) × (length sheet.now ≤ 1048576) }
-    ensures { result ≡ same (part 2 pos sheet.now) mark }
+fn stands(sheet: &[u8], place: usize, mark: [u8; 2]) -> bool
+    requires { (place ≤ length sheet.now) × (length sheet.now ≤ 1048576) }
+    ensures { result ≡ same (part 2 place sheet.now) mark }
 {
-    if sheet.len() < pos + 2 {
-        return false;
-    }
-    wire::has_mark(sheet, pos, mark)
+    place + 2 <= sheet.len() && wire::has_mark(sheet, place, mark)
 }
 
-// "40 on the mark, 41, 40 on the rest", or 0: a record of this mark and n bytes.
-fn record_fault(sheet: &[u8], pos: usize, mark: [u8; 2], n: usize) -> usize
-    requires { (pos ≤ length sheet.now) × (length sheet.now ≤ 1048576) × (n < 256) }
-    ensures { result ≡ record_fault mark n (drop pos sheet.now) }
+// "40 on the mark, 41, 40 on the rest": a record of this mark and n bytes.
+fn check_record(sheet: &[u8], place: usize, mark: [u8; 2], n: usize) -> Result<(), Fault>
+    requires { (place ≤ length sheet.now) × (length sheet.now ≤ 1048576) × (n < 256) }
+    ensures answer { result ≡ judged (record_fault mark n (drop place sheet.now)) place }
+    ensures inside { OnOk result (place + (2 + n) ≤ length sheet.now) }
 {
-    if sheet.len() < pos + 2 {
-        return 40;
+    if sheet.len() < place + 2 {
+        return Err(Fault { number: 40, place });
     }
-    if wire::has_mark(sheet, pos, mark) {
-        if sheet.len() < pos + (2 + n) {
-            return 40;
-        }
-        return 0;
+    if !wire::has_mark(sheet, place, mark) {
+        return Err(Fault { number: 41, place });
     }
-    41
+    if sheet.len() < place + (2 + n) {
+        return Err(Fault { number: 40, place });
+    }
+    Ok(())
 }
 
-// The same of a record of this mark, a count and so many bytes.
-fn counted_fault(sheet: &[u8], pos: usize, mark: [u8; 2]) -> usize
-    requires { (pos ≤ length sheet.now) × (length sheet.now ≤ 1048576) }
-    ensures { result ≡ counted_fault mark (drop pos sheet.now) }
+// The same of a record of this mark, a count and so many bytes: the count.
+fn check_counted(sheet: &[u8], place: usize, mark: [u8; 2]) -> Result<usize, Fault>
+    requires { (place ≤ length sheet.now) × (length sheet.now ≤ 1048576) }
+    ensures { MatchResult result (λ n. (counted_fault mark (drop place sheet.now) ≡ 0) × (n ≡ le (part 4 (place + 2) sheet.now)) × (place + (6 + n) ≤ length sheet.now)) (λ f. Err f ≡ judged (counted_fault mark (drop place sheet.now)) place) }
 {
-    let fault = record_fault(sheet, pos, mark, 4);
-    if fault != 0 {
-        return fault;
+    check_record(sheet, place, mark, 4)?;
+    let count = wire::read_u32(sheet, place + 2);
+    if sheet.len() < place + (6 + count) {
+        return Err(Fault { number: 40, place });
     }
-    let count = wire::read_u32(sheet, pos + 2);
-    if sheet.len() < pos + (6 + count) {
-        return 40;
-    }
-    0
+    Ok(count)
 }
 
 // VALUES THAT HOLD NO OTHER
 
-fn check_plain(sheet: &[u8], width: usize, pos: usize, before: usize) -> Step
-    requires { (Ready sheet.now pos before) × (width < 256) }
-    ensures { Finds sheet.now before (plain_of width) pos result }
+fn check_plain(sheet: &[u8], width: usize, place: usize, before: usize) -> Result<Step, Fault>
+    requires { (Ready sheet.now place before) × (width < 256) }
+    ensures { Finds sheet.now before (plain_of width) place result }
 {
-    let fault = record_fault(sheet, pos, VA, width);
-    if fault != 0 {
-        return refused(fault, pos);
-    }
-    passed(pos + (2 + width), before)
+    check_record(sheet, place, VA, width)?;
+    Ok(Step {
+        next: place + (2 + width),
+        length: before,
+    })
 }
 
 // "10, 11, 12: no such symbol; bool or flag not 0, 1; 24 hours or more"
@@ -131,162 +100,157 @@ fn check_number(
     index: &[u16],
     sheet: &[u8],
     tested: schema::Tested,
-    pos: usize,
+    place: usize,
     before: usize,
-) -> Step
-    requires { (Layout table.now index.now) × (Ready sheet.now pos before) }
-    ensures { (I : InnerW) (S : ℕ → Writer) → Finds sheet.now before (item_w I S (tested_kind (enums table.now) tested)) pos result }
+) -> Result<Step, Fault>
+    requires { (Layout table.now index.now) × (Ready sheet.now place before) }
+    ensures { (I : InnerW) (S : ℕ → Writer) → Finds sheet.now before (item_w I S (tested_kind (enums table.now) tested)) place result }
 {
-    let width = wire::wide(schema::tested_width(tested));
-    let fault = record_fault(sheet, pos, VA, width);
-    if fault != 0 {
-        return refused(fault, pos);
-    }
-    let wrong = wire::wide(schema::test_fault(table, index, tested, sheet, pos + 2));
-    if wrong != 0 {
-        return refused(wrong, pos);
-    }
-    passed(pos + (2 + width), before)
+    let width = usize::from(schema::tested_width(tested));
+    check_record(sheet, place, VA, width)?;
+    schema::check_tested(table, index, tested, sheet, place + 2, place)?;
+    Ok(Step {
+        next: place + (2 + width),
+        length: before,
+    })
 }
 
 // "Inline text: 7, 9": it takes its capacity in place, whatever its count.
-fn check_inline(sheet: &[u8], utf8: bool, capacity: u8, pos: usize, before: usize) -> Step
-    requires { Ready sheet.now pos before }
-    ensures { (I : InnerW) (S : ℕ → Writer) → Finds sheet.now before (item_w I S (inline utf8 capacity)) pos result }
+fn check_inline(
+    sheet: &[u8],
+    utf8: bool,
+    capacity: u8,
+    place: usize,
+    before: usize,
+) -> Result<Step, Fault>
+    requires { Ready sheet.now place before }
+    ensures { (I : InnerW) (S : ℕ → Writer) → Finds sheet.now before (item_w I S (inline utf8 capacity)) place result }
 {
-    let fault = counted_fault(sheet, pos, ST);
-    if fault != 0 {
-        return refused(fault, pos);
+    let count = check_counted(sheet, place, ST)?;
+    if usize::from(capacity) < count {
+        return Err(Fault { number: 7, place });
     }
-    let count = wire::read_u32(sheet, pos + 2);
-    if wire::wide(capacity) < count {
-        return refused(7, pos);
+    if !schema::is_text(utf8, sheet, place + 6, count) {
+        return Err(Fault { number: 9, place });
     }
-    if schema::is_text(utf8, sheet, pos + 6, count) {
-        return passed(pos + (6 + count), before);
-    }
-    refused(9, pos)
+    Ok(Step {
+        next: place + (6 + count),
+        length: before,
+    })
 }
 
 // Indirect text: its count and its bytes go into the data area.
-fn check_text(sheet: &[u8], utf8: bool, pos: usize, before: usize) -> Step
-    requires { Ready sheet.now pos before }
-    ensures { Finds sheet.now before (text_of utf8) pos result }
+fn check_text(sheet: &[u8], utf8: bool, place: usize, before: usize) -> Result<Step, Fault>
+    requires { Ready sheet.now place before }
+    ensures { Finds sheet.now before (text_of utf8) place result }
 {
-    let fault = counted_fault(sheet, pos, ST);
-    if fault != 0 {
-        return refused(fault, pos);
+    let count = check_counted(sheet, place, ST)?;
+    if !schema::is_text(utf8, sheet, place + 6, count) {
+        return Err(Fault { number: 9, place });
     }
-    let count = wire::read_u32(sheet, pos + 2);
-    if schema::is_text(utf8, sheet, pos + 6, count) {
-        return passed(pos + (6 + count), longer(before, 4 + count));
-    }
-    refused(9, pos)
+    Ok(Step {
+        next: place + (6 + count),
+        length: longer(before, 4 + count),
+    })
 }
 
 // "`XU` size u32 and that many bytes is a group of unknown type": "1, 45".
-fn check_kept(table: &[u8], index: &[u16], sheet: &[u8], pos: usize, before: usize) -> Step
-    requires { (Layout table.now index.now) × (Ready sheet.now pos before) × (same (part 2 pos sheet.now) (mark_bytes UnknownMark) ≡ true) }
-    ensures { (I : InnerW) → Finds sheet.now before (indirect_w (extending_b (schema table.now) I)) pos result }
+fn check_kept(
+    table: &[u8],
+    index: &[u16],
+    sheet: &[u8],
+    place: usize,
+    before: usize,
+) -> Result<Step, Fault>
+    requires { (Layout table.now index.now) × (Ready sheet.now place before) × (same (part 2 place sheet.now) (mark_bytes UnknownMark) ≡ true) }
+    ensures { (I : InnerW) → Finds sheet.now before (indirect_w (extending_b (schema table.now) I)) place result }
 {
-    let fault = counted_fault(sheet, pos, XU);
-    if fault != 0 {
-        return refused(fault, pos);
-    }
-    let count = wire::read_u32(sheet, pos + 2);
+    let count = check_counted(sheet, place, XU)?;
     if count < 12 {
-        return refused(1, pos);
+        return Err(Fault { number: 1, place });
     }
-    if schema::is_known(table, index, wire::read_u64(sheet, pos + 6)) {
-        return refused(45, pos);
+    if schema::is_known(table, index, wire::read_u64(sheet, place + 6)) {
+        return Err(Fault { number: 45, place });
     }
-    passed(pos + (6 + count), longer(before, 4 + count))
+    Ok(Step {
+        next: place + (6 + count),
+        length: longer(before, 4 + count),
+    })
 }
 
 // So many plain values in a row, each its own record.
-fn check_plains(sheet: &[u8], width: usize, total: usize, pos: usize, before: usize) -> Step
-    requires { (Ready sheet.now pos before) × (width < 256) }
-    ensures { Finds sheet.now before (items_w width (plain_of width) total) pos result }
+fn check_plains(
+    sheet: &[u8],
+    width: usize,
+    total: usize,
+    place: usize,
+    before: usize,
+) -> Result<Step, Fault>
+    requires { (Ready sheet.now place before) × (width < 256) }
+    ensures { Finds sheet.now before (items_w width (plain_of width) total) place result }
 {
-    let mut i = 0;
-    let mut next = pos;
-    while i < total {
-        let fault = record_fault(sheet, next, VA, width);
-        if fault != 0 {
-            return refused(fault, next);
-        }
+    let mut next = place;
+    for _ in 0..total {
+        check_record(sheet, next, VA, width)?;
         next += 2 + width;
-        i += 1;
     }
-    passed(next, before)
+    Ok(Step {
+        next,
+        length: before,
+    })
 }
 
 // So many indirect texts in a row, each its own record.
-fn check_texts(sheet: &[u8], utf8: bool, total: usize, pos: usize, before: usize) -> Step
-    requires { Ready sheet.now pos before }
-    ensures { Finds sheet.now before (items_w 4 (text_of utf8) total) pos result }
+fn check_texts(
+    sheet: &[u8],
+    utf8: bool,
+    total: usize,
+    place: usize,
+    before: usize,
+) -> Result<Step, Fault>
+    requires { Ready sheet.now place before }
+    ensures { Finds sheet.now before (items_w 4 (text_of utf8) total) place result }
 {
-    let mut i = 0;
-    let mut next = pos;
-    let mut length = before;
-    while i < total {
-        let text = check_text(sheet, utf8, next, length);
-        if text.number != 0 {
-            return text;
-        }
-        next = text.place;
-        length = text.length;
-        i += 1;
+    let mut step = Step {
+        next: place,
+        length: before,
+    };
+    for _ in 0..total {
+        step = check_text(sheet, utf8, step.next, step.length)?;
     }
-    passed(next, length)
+    Ok(step)
 }
 
 // "`NO` is an absent field": whether it stands for the field whose record is at `field`.
-fn is_absent(table: &[u8], sheet: &[u8], field: usize, pos: usize) -> bool
-    requires { (field + 16 ≤ length table.now) × (pos ≤ length sheet.now) × (length sheet.now ≤ 1048576) }
-    ensures { (es : List (List ℕ)) → result ≡ (field_at es (drop field table.now)).optional && same (part 2 pos sheet.now) AbsentMark }
+fn is_absent(table: &[u8], sheet: &[u8], field: usize, place: usize) -> bool
+    requires { (field + 16 ≤ length table.now) × (place ≤ length sheet.now) × (length sheet.now ≤ 1048576) }
+    ensures { (es : List (List ℕ)) → result ≡ (field_at es (drop field table.now)).optional && same (part 2 place sheet.now) AbsentMark }
 {
-    if schema::is_optional(table, field) {
-        return stands(sheet, pos, NO);
-    }
-    false
+    schema::is_optional(table, field) && stands(sheet, place, NO)
 }
 
 // "`GE` closes it"
-fn check_end(sheet: &[u8], pos: usize, before: usize) -> Step
-    requires { Ready sheet.now pos before }
-    ensures { Finds sheet.now before end_w pos result }
+fn check_end(sheet: &[u8], place: usize, before: usize) -> Result<Step, Fault>
+    requires { Ready sheet.now place before }
+    ensures { Finds sheet.now before end_w place result }
 {
-    let fault = record_fault(sheet, pos, GE, 0);
-    if fault != 0 {
-        return refused(fault, pos);
-    }
-    passed(pos + 2, before)
+    check_record(sheet, place, GE, 0)?;
+    Ok(Step {
+        next: place + 2,
+        length: before,
+    })
 }
 
 // GROUPS, FIELDS AND ITEMS
 
 // A group that is opened: its number, the levels left below it, where its fields begin in the sheet,
-// and the count before them. Where `fault` is not 0, none is.
+// and the count before them.
 #[derive(Clone, Copy)]
 struct Opened {
-    fault: usize,
     group: usize,
     levels: usize,
-    pos: usize,
+    place: usize,
     length: usize,
-}
-
-fn unopened(fault: usize) -> Opened
-    ensures { result ≡ unopened fault }
-{
-    Opened {
-        fault,
-        group: 0,
-        levels: 0,
-        pos: 0,
-        length: 0,
-    }
 }
 
 // "`GB` type id u64 opens a group": "2, 25, 24". `levels` are left for it, and `allowed` is the number
@@ -297,34 +261,30 @@ fn open_dynamic(
     sheet: &[u8],
     levels: usize,
     allowed: usize,
-    pos: usize,
+    place: usize,
     before: usize,
-) -> Opened
-    requires { (Layout table.now index.now) × (Ready sheet.now pos before) }
-    ensures { Opens table.now sheet.now levels 5 (Whole allowed) pos before result }
+) -> Result<Opened, Fault>
+    requires { (Layout table.now index.now) × (Ready sheet.now place before) }
+    ensures { Opens table.now sheet.now levels 5 (Whole allowed) place before result }
 {
-    let fault = record_fault(sheet, pos, GB, 8);
-    if fault != 0 {
-        return unopened(fault);
-    }
+    check_record(sheet, place, GB, 8)?;
     let total = schema::group_total(index);
-    let group = schema::find(table, index, total, wire::read_u64(sheet, pos + 2));
+    let group = schema::find(table, index, total, wire::read_u64(sheet, place + 2));
     if total <= group {
-        return unopened(2);
+        return Err(Fault { number: 2, place });
     }
-    if schema::allows(table, index, allowed, group) {
-        if levels == 0 {
-            return unopened(24);
-        }
-        return Opened {
-            fault: 0,
-            group,
-            levels: levels - 1,
-            pos: pos + 10,
-            length: longer(before, 16 + schema::group_width(index, group)),
-        };
+    if !schema::allows(table, index, allowed, group) {
+        return Err(Fault { number: 25, place });
     }
-    unopened(25)
+    if levels == 0 {
+        return Err(Fault { number: 24, place });
+    }
+    Ok(Opened {
+        group,
+        levels: levels - 1,
+        place: place + 10,
+        length: longer(before, 16 + schema::group_width(index, group)),
+    })
 }
 
 // A static group has no head: its fields come at once.
@@ -334,23 +294,22 @@ fn open_group(
     sheet: &[u8],
     levels: usize,
     scope: schema::Scope,
-    pos: usize,
+    place: usize,
     before: usize,
-) -> Opened
-    requires { (Layout table.now index.now) × (Ready sheet.now pos before) }
-    ensures { (depth : ℕ) → Within table.now depth scope → Opens table.now sheet.now levels depth scope pos before result }
+) -> Result<Opened, Fault>
+    requires { (Layout table.now index.now) × (Ready sheet.now place before) }
+    ensures { (depth : ℕ) → Within table.now depth scope → Opens table.now sheet.now levels depth scope place before result }
 {
     match scope {
         schema::Scope::Whole { allowed } => open_dynamic(
-            table, index, sheet, levels, allowed, pos, before,
+            table, index, sheet, levels, allowed, place, before,
         ),
-        schema::Scope::Fields { group } => Opened {
-            fault: 0,
+        schema::Scope::Fields { group } => Ok(Opened {
             group,
             levels,
-            pos,
+            place,
             length: before,
-        },
+        }),
     }
 }
 
@@ -364,16 +323,13 @@ fn check_group(
     levels: usize,
     depth: usize,
     scope: schema::Scope,
-    pos: usize,
+    place: usize,
     before: usize,
-) -> Step
-    requires { (Layout table.now index.now) × (Ready sheet.now pos before) × (Within table.now depth scope) }
-    ensures { Finds sheet.now before (group_of table.now levels depth scope) pos result }
+) -> Result<Step, Fault>
+    requires { (Layout table.now index.now) × (Ready sheet.now place before) × (Within table.now depth scope) }
+    ensures { Finds sheet.now before (group_of table.now levels depth scope) place result }
 {
-    let open = open_group(table, index, sheet, levels, scope, pos, before);
-    if open.fault != 0 {
-        return refused(open.fault, pos);
-    }
+    let open = open_group(table, index, sheet, levels, scope, place, before)?;
     let fields = check_fields(
         table,
         index,
@@ -381,19 +337,16 @@ fn check_group(
         open.levels,
         depth,
         open.group,
-        open.pos,
+        open.place,
         open.length,
-    );
-    if fields.number != 0 {
-        return fields;
-    }
+    )?;
     close_group(
         table,
         index,
         sheet,
         open.levels,
         scope,
-        fields.place,
+        fields.next,
         fields.length,
     )
 }
@@ -407,26 +360,26 @@ fn close_group(
     sheet: &[u8],
     levels: usize,
     scope: schema::Scope,
-    pos: usize,
+    place: usize,
     before: usize,
-) -> Step
-    requires { (Layout table.now index.now) × (Ready sheet.now pos before) }
-    ensures { Finds sheet.now before (close_of table.now levels scope) pos result }
+) -> Result<Step, Fault>
+    requires { (Layout table.now index.now) × (Ready sheet.now place before) }
+    ensures { Finds sheet.now before (close_of table.now levels scope) place result }
 {
     match scope {
-        schema::Scope::Whole { allowed } => {
-            let extension = check_extension(table, index, sheet, levels, pos, before);
-            if extension.number != 0 {
-                return extension;
-            }
-            check_end(sheet, extension.place, extension.length)
+        schema::Scope::Whole { .. } => {
+            let extension = check_extension(table, index, sheet, levels, place, before)?;
+            check_end(sheet, extension.next, extension.length)
         }
-        schema::Scope::Fields { group } => passed(pos, before),
+        schema::Scope::Fields { .. } => Ok(Step {
+            next: place,
+            length: before,
+        }),
     }
 }
 
-// The fields of a group whose static depth is below `depth`. Required plain values are passed over
-// here, without a call.
+// The fields of a group whose static depth is below `depth`. Required plain values are checked here,
+// without a look at their kind.
 #[cycle(parse)]
 fn check_fields(
     table: &[u8],
@@ -435,41 +388,39 @@ fn check_fields(
     levels: usize,
     depth: usize,
     group: usize,
-    pos: usize,
+    place: usize,
     before: usize,
-) -> Step
-    requires { (Layout table.now index.now) × (Ready sheet.now pos before) × (group < length (schema table.now)) × (shallow (schema table.now) depth group ≡ true) }
-    ensures { Finds sheet.now before (static_of table.now levels depth group) pos result }
+) -> Result<Step, Fault>
+    requires { (Layout table.now index.now) × (Ready sheet.now place before) × (group < length (schema table.now)) × (shallow (schema table.now) depth group ≡ true) }
+    ensures { Finds sheet.now before (static_of table.now levels depth group) place result }
 {
     let start = schema::group_place(index, group);
     let total = schema::field_count(table, start);
     let deeper = depth - 1;
-    let mut i = 0;
     let mut field = start + 16;
-    let mut next = pos;
-    let mut length = before;
-    while i < total {
+    let mut step = Step {
+        next: place,
+        length: before,
+    };
+    for _ in 0..total {
         let plain = schema::plain_width(table, field);
-        if plain != 0 {
-            let fault = record_fault(sheet, next, VA, plain);
-            if fault != 0 {
-                return refused(fault, next);
-            }
-            next += 2 + plain;
-            field += 16;
-            i += 1;
-            continue;
-        }
-        let answer = check_field(table, index, sheet, levels, deeper, field, next, length);
-        if answer.number != 0 {
-            return answer;
-        }
-        next = answer.place;
-        length = answer.length;
+        step = if plain != 0 {
+            check_plain(sheet, plain, step.next, step.length)?
+        } else {
+            check_field(
+                table,
+                index,
+                sheet,
+                levels,
+                deeper,
+                field,
+                step.next,
+                step.length,
+            )?
+        };
         field += 16;
-        i += 1;
     }
-    passed(next, length)
+    Ok(step)
 }
 
 // The field whose record stands at `field` of the table: absent, "`SQ` count u32, then the items", or
@@ -483,27 +434,27 @@ fn check_field(
     levels: usize,
     depth: usize,
     field: usize,
-    pos: usize,
+    place: usize,
     before: usize,
-) -> Step
-    requires { (Layout table.now index.now) × (Ready sheet.now pos before) × (field + 16 ≤ length table.now) × (shallow_kind (shallow (schema table.now) depth) (width_of table.now depth) (field_at (enums table.now) (drop field table.now)).kind ≡ true) }
-    ensures { Finds sheet.now before (field_of table.now levels depth field) pos result }
+) -> Result<Step, Fault>
+    requires { (Layout table.now index.now) × (Ready sheet.now place before) × (field + 16 ≤ length table.now) × (shallow_kind (shallow (schema table.now) depth) (width_of table.now depth) (field_at (enums table.now) (drop field table.now)).kind ≡ true) }
+    ensures { Finds sheet.now before (field_of table.now levels depth field) place result }
 {
-    if is_absent(table, sheet, field, pos) {
-        return passed(pos + 2, before);
+    if is_absent(table, sheet, field, place) {
+        return Ok(Step {
+            next: place + 2,
+            length: before,
+        });
     }
     let kind = schema::kind_at(table, field);
     let width = schema::kind_width(index, kind);
     let mut total = 1;
-    let mut start = pos;
+    let mut start = place;
     let mut length = before;
     if schema::is_sequence(table, field) {
-        let fault = record_fault(sheet, pos, SQ, 4);
-        if fault != 0 {
-            return refused(fault, pos);
-        }
-        total = wire::read_u32(sheet, pos + 2);
-        start = pos + 6;
+        check_record(sheet, place, SQ, 4)?;
+        total = wire::read_u32(sheet, place + 2);
+        start = place + 6;
         length = longer(before, 4 + total * width);
     } else if let schema::FieldKind::Dynamic { allowed } = kind {
         return check_group(
@@ -513,7 +464,7 @@ fn check_field(
             levels,
             5,
             schema::Scope::Whole { allowed },
-            pos,
+            place,
             before,
         );
     }
@@ -534,31 +485,35 @@ fn check_items(
     kind: schema::FieldKind,
     width: usize,
     total: usize,
-    pos: usize,
+    place: usize,
     before: usize,
-) -> Step
-    requires { (Layout table.now index.now) × (Ready sheet.now pos before) × (width ≡ kind_width (width_of table.now depth) (kind_from (enums table.now) kind)) × (shallow_kind (shallow (schema table.now) depth) (width_of table.now depth) (kind_from (enums table.now) kind) ≡ true) }
-    ensures { Finds sheet.now before (items_w width (item_of table.now levels depth kind) total) pos result }
+) -> Result<Step, Fault>
+    requires { (Layout table.now index.now) × (Ready sheet.now place before) × (width ≡ kind_width (width_of table.now depth) (kind_from (enums table.now) kind)) × (shallow_kind (shallow (schema table.now) depth) (width_of table.now depth) (kind_from (enums table.now) kind) ≡ true) }
+    ensures { Finds sheet.now before (items_w width (item_of table.now levels depth kind) total) place result }
 {
     if let schema::FieldKind::Plain { width: plain } = kind {
-        return check_plains(sheet, wire::wide(plain), total, pos, before);
+        return check_plains(sheet, usize::from(plain), total, place, before);
     }
     if let schema::FieldKind::Indirect { utf8 } = kind {
-        return check_texts(sheet, utf8, total, pos, before);
+        return check_texts(sheet, utf8, total, place, before);
     }
-    let mut i = 0;
-    let mut next = pos;
-    let mut length = before;
-    while i < total {
-        let item = check_item(table, index, sheet, levels, depth, kind, next, length);
-        if item.number != 0 {
-            return item;
-        }
-        next = item.place;
-        length = item.length;
-        i += 1;
+    let mut step = Step {
+        next: place,
+        length: before,
+    };
+    for _ in 0..total {
+        step = check_item(
+            table,
+            index,
+            sheet,
+            levels,
+            depth,
+            kind,
+            step.next,
+            step.length,
+        )?;
     }
-    passed(next, length)
+    Ok(step)
 }
 
 #[cycle(parse)]
@@ -569,26 +524,23 @@ fn check_item(
     levels: usize,
     depth: usize,
     kind: schema::FieldKind,
-    pos: usize,
+    place: usize,
     before: usize,
-) -> Step
-    requires { (Layout table.now index.now) × (Ready sheet.now pos before) × (shallow_kind (shallow (schema table.now) depth) (width_of table.now depth) (kind_from (enums table.now) kind) ≡ true) }
-    ensures { Finds sheet.now before (item_of table.now levels depth kind) pos result }
+) -> Result<Step, Fault>
+    requires { (Layout table.now index.now) × (Ready sheet.now place before) × (shallow_kind (shallow (schema table.now) depth) (width_of table.now depth) (kind_from (enums table.now) kind) ≡ true) }
+    ensures { Finds sheet.now before (item_of table.now levels depth kind) place result }
 {
     match kind {
-        schema::FieldKind::Plain { width } => check_plain(sheet, wire::wide(width), pos, before),
+        schema::FieldKind::Plain { width } => check_plain(sheet, usize::from(width), place, before),
         schema::FieldKind::Number { tested } => check_number(
-            table, index, sheet, tested, pos, before,
+            table, index, sheet, tested, place, before,
         ),
         schema::FieldKind::Inline { utf8, capacity } => check_inline(
-            sheet, utf8, capacity, pos, before,
+            sheet, utf8, capacity, place, before,
         ),
-        schema::FieldKind::Indirect { utf8 } => check_text(sheet, utf8, pos, before),
+        schema::FieldKind::Indirect { utf8 } => check_text(sheet, utf8, place, before),
         schema::FieldKind::Static { group } => {
-            let fault = record_fault(sheet, pos, SG, 0);
-            if fault != 0 {
-                return refused(fault, pos);
-            }
+            check_record(sheet, place, SG, 0)?;
             check_group(
                 table,
                 index,
@@ -596,7 +548,7 @@ fn check_item(
                 levels,
                 depth,
                 schema::Scope::Fields { group },
-                pos + 2,
+                place + 2,
                 before,
             )
         }
@@ -607,7 +559,7 @@ fn check_item(
             levels,
             5,
             schema::Scope::Whole { allowed },
-            pos,
+            place,
             before,
         ),
     }
@@ -620,25 +572,25 @@ fn check_extension(
     index: &[u16],
     sheet: &[u8],
     levels: usize,
-    pos: usize,
+    place: usize,
     before: usize,
-) -> Step
-    requires { (Layout table.now index.now) × (Ready sheet.now pos before) }
-    ensures { Finds sheet.now before (extension_of table.now levels) pos result }
+) -> Result<Step, Fault>
+    requires { (Layout table.now index.now) × (Ready sheet.now place before) }
+    ensures { Finds sheet.now before (extension_of table.now levels) place result }
 {
-    if stands(sheet, pos, XT) {
-        let fault = record_fault(sheet, pos, XT, 4);
-        if fault != 0 {
-            return refused(fault, pos);
-        }
-        let count = wire::read_u32(sheet, pos + 2);
-        if count == 0 {
-            return refused(44, pos);
-        }
-        let body = longer(before, 4 + count * 4);
-        return check_groups(table, index, sheet, levels, count, pos + 6, body);
+    if !stands(sheet, place, XT) {
+        return Ok(Step {
+            next: place,
+            length: before,
+        });
     }
-    passed(pos, before)
+    check_record(sheet, place, XT, 4)?;
+    let count = wire::read_u32(sheet, place + 2);
+    if count == 0 {
+        return Err(Fault { number: 44, place });
+    }
+    let body = longer(before, 4 + count * 4);
+    check_groups(table, index, sheet, levels, count, place + 6, body)
 }
 
 #[cycle(parse)]
@@ -648,25 +600,20 @@ fn check_groups(
     sheet: &[u8],
     levels: usize,
     total: usize,
-    pos: usize,
+    place: usize,
     before: usize,
-) -> Step
-    requires { (Layout table.now index.now) × (Ready sheet.now pos before) }
-    ensures { Finds sheet.now before (items_w 4 (extending_of table.now levels) total) pos result }
+) -> Result<Step, Fault>
+    requires { (Layout table.now index.now) × (Ready sheet.now place before) }
+    ensures { Finds sheet.now before (items_w 4 (extending_of table.now levels) total) place result }
 {
-    let mut i = 0;
-    let mut next = pos;
-    let mut length = before;
-    while i < total {
-        let group = check_extending(table, index, sheet, levels, next, length);
-        if group.number != 0 {
-            return group;
-        }
-        next = group.place;
-        length = group.length;
-        i += 1;
+    let mut step = Step {
+        next: place,
+        length: before,
+    };
+    for _ in 0..total {
+        step = check_extending(table, index, sheet, levels, step.next, step.length)?;
     }
-    passed(next, length)
+    Ok(step)
 }
 
 // A group of the extension; one of unknown type is kept as bytes.
@@ -676,14 +623,14 @@ fn check_extending(
     index: &[u16],
     sheet: &[u8],
     levels: usize,
-    pos: usize,
+    place: usize,
     before: usize,
-) -> Step
-    requires { (Layout table.now index.now) × (Ready sheet.now pos before) }
-    ensures { Finds sheet.now before (extending_of table.now levels) pos result }
+) -> Result<Step, Fault>
+    requires { (Layout table.now index.now) × (Ready sheet.now place before) }
+    ensures { Finds sheet.now before (extending_of table.now levels) place result }
 {
-    if stands(sheet, pos, XU) {
-        return check_kept(table, index, sheet, pos, before);
+    if stands(sheet, place, XU) {
+        return check_kept(table, index, sheet, place, before);
     }
     check_group(
         table,
@@ -692,7 +639,7 @@ fn check_extending(
         levels,
         5,
         schema::Scope::Whole { allowed: 0 },
-        pos,
+        place,
         before,
     )
 }
@@ -705,10 +652,10 @@ pub fn check_sheet(table: &[u8], index: &[u16], sheet: &[u8]) -> Result<usize, F
     ensures { result ≡ parsed_of (sheet_w (schema table.now) sheet.now) }
 {
     if 1048576 < sheet.len() {
-        return Parsed::Refused {
+        return Err(Fault {
             number: 42,
             place: 0,
-        };
+        });
     }
     let group = check_group(
         table,
@@ -719,20 +666,12 @@ pub fn check_sheet(table: &[u8], index: &[u16], sheet: &[u8]) -> Result<usize, F
         schema::Scope::Whole { allowed: 0 },
         0,
         0,
-    );
-    if group.number != 0 {
-        return Parsed::Refused {
-            number: (group.number % 256) as u8,
-            place: group.place,
-        };
-    }
-    if group.place < sheet.len() {
-        return Parsed::Refused {
+    )?;
+    if group.next < sheet.len() {
+        return Err(Fault {
             number: 43,
-            place: group.place,
-        };
+            place: group.next,
+        });
     }
-    Parsed::Counted {
-        length: group.length,
-    }
+    Ok(group.length)
 }

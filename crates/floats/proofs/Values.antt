@@ -1,13 +1,13 @@
 -- Laws of the numbers that limbs stand for.
-use Prim.Native.Nat.{ℕ, zero, suc, ◌+◌, ◌-◌, ◌*◌, ◌/◌, ◌%◌, ◌^◌, ◌<◌, ◌≤◌}
+use Prim.Native.Nat.{ℕ, suc, ◌+◌, ◌-◌, ◌*◌, ◌^◌, ◌<◌, ◌≤◌}
 use mathlib.Core.Path.{◌≡◌, refl, sym, ap, ◌∙◌}
 use mathlib.Core.Bool.{Bool, true, false, cond}
 use mathlib.Core.List.{List, [], ◌∷◌, ◌++◌, reverse}
 use native.Mathlib.Omega.{arith}
 use native.Mathlib.Numerals.{add-one}
-use native.Mathlib.Nat.{pow-suc, mul_comm, mul_assoc, mul-add, mul_left_comm, mul_right_comm, mul-zero, add-zero, mul-le-mul, mul-le-mul_left, suc-mul}
+use native.Mathlib.Nat.{pow-suc, mul_comm, mul_assoc, mul-add, mul_left_comm, mul_right_comm, mul-zero, add-zero, mul-le-mul_left}
 use lib.ListN.{length, get_or, set, take, drop, get_or-eq_default}
-use lib.Seq.{take-suc, take-suc-set, length-take-le, drop-cons, drop-length, drop-set-lt, get_or-drop, drop-drop, take_all}
+use lib.Seq.{take-suc, take-suc-set, length-take-le, drop-set-lt, get_or-drop, drop-drop}
 use lib.Dec.{ltb, eqb}
 use Rattle.std.specs.Ordering.{is_lt, nat_cmp, ordering_then}
 use Rattle.std.specs.Cmp.Lexicographic.{slice_cmp}

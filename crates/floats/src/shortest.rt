@@ -134,7 +134,14 @@ fn generate(r: &mut [u32], s: &[u32], m: &mut [u32], t: &mut [u32], gap: Gap) ->
 }
 
 // s times ten until r + plus * m stays below it. Answers the scale, counted on from the least.
-fn settle(r: &[u32], s: &mut [u32], m: &[u32], t: &mut [u32], gap: Gap, least: usize) -> Option<usize>
+fn settle(
+    r: &[u32],
+    s: &mut [u32],
+    m: &[u32],
+    t: &mut [u32],
+    gap: Gap,
+    least: usize,
+) -> Option<usize>
     requires { (length s.old ≡ length r.now) × (length m.now ≡ length r.now) × (length t.old ≡ length r.now) }
     ensures { IfSome result (λ k. (k < 800) × Settled gap.closed gap.plus (value r.now) (value s.old) (value m.now) (value s.new) least k) }
 {
@@ -177,7 +184,14 @@ fn put(a: &mut [u32], n: u64)
 }
 
 // r / s = top / bottom * 2 ^ (power - 1074), and m, in rooms of zeros.
-fn load(r: &mut [u32], s: &mut [u32], m: &mut [u32], top: u64, bottom: u64, power: usize) -> Option<()>
+fn load(
+    r: &mut [u32],
+    s: &mut [u32],
+    m: &mut [u32],
+    top: u64,
+    bottom: u64,
+    power: usize,
+) -> Option<()>
     requires { (2 ≤ length r.old) × (2 ≤ length s.old) × (2 ≤ length m.old) }
 {
     put(r, top);

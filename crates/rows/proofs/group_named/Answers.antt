@@ -15,5 +15,5 @@ returns c = let t = c.args.table.now in
     c.unwrap_or.ensures
     ∙ place-named t c.args.id _
     (find_from_yields_List (named t c.args.id) _ _ _ c.find.ensures.ran
-      (YieldsList-from_map _ (λ k. 16 * k) (YieldsList-at c.map.ensures.source (YieldsList-from_range 0 _ (length t / 16) refl (omega arith))) c.map.ensures.closure (λ x r q k. search (rules, tests)))
-      (λ x b q k. search (rules, tests)))
+    (YieldsList-from_map _ (λ k. 16 * k) (YieldsList-at c.map.ensures.source (YieldsList-from_range 0 _ (length t / 16) refl (omega arith))) c.map.ensures.closure (λ x r q k. search (rules, tests)))
+    (λ x b q k. search (rules, tests)))

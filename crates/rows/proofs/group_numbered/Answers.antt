@@ -15,6 +15,6 @@ returns c = let t = c.args.table.now in
     c.unwrap_or.ensures
     ∙ place-numbered t c.args.number _
     (nth_from_yields_List _ _ _ c.nth.ensures.ran
-      (YieldsList-from_filter _ (λ at. group_marked (drop at t))
-        (YieldsList-at c.filter.ensures.source (YieldsList-from_map _ (λ k. 16 * k) (YieldsList-at c.map.ensures.source (YieldsList-from_range 0 _ (length t / 16) refl (omega arith))) c.map.ensures.closure (λ x r q k. search (rules, tests))))
-        c.filter.ensures.closure (λ x r q k. search (rules, tests))))
+    (YieldsList-from_filter _ (λ at. group_marked (drop at t))
+    (YieldsList-at c.filter.ensures.source (YieldsList-from_map _ (λ k. 16 * k) (YieldsList-at c.map.ensures.source (YieldsList-from_range 0 _ (length t / 16) refl (omega arith))) c.map.ensures.closure (λ x r q k. search (rules, tests))))
+    c.filter.ensures.closure (λ x r q k. search (rules, tests))))

@@ -1,9 +1,10 @@
 -- Laws of the characters' definitions.
 use Prim.Native.Nat.{ℕ, zero, suc, ◌+◌, ◌-◌, ◌<◌, ◌≤◌}
-use mathlib.Core.Path.{◌≡◌, refl}
+use mathlib.Core.Path.{◌≡◌, refl, ap, ◌∙◌}
 use mathlib.Core.Bool.{Bool, true, false, ◌&&◌, and-eq-true_iff, false≢true}
 use mathlib.Core.List.{List}
 use native.Mathlib.Omega.{arith}
+use native.Mathlib.Nat.{add-zero}
 use lib.ListN.{length, get_or, take, drop, length-drop, get_or-eq_default}
 use lib.Seq.{take_all, get_or-drop}
 use lib.Dec.{leb, ltb}
@@ -39,9 +40,16 @@ module _ (b c d e : ℕ) where
     unfolding piece_of
     piece-none t u v = simp (le-ltb _ _ h, t, u, v, piece_of)
 
--- a byte of what is left of a text
-pub left : (s : List ℕ) (at k : ℕ) → at ≤ length s → get_or (take (length s - at) (drop at s)) k 0 ≡ get_or s (at + k) 0
-left s at k h = rw (take_all (length s - at) (drop at s) (simp length-drop (omega arith))) (get_or-drop at s k 0)
+-- what begins with the bytes of what is left of a text
+abbrev pub left : List ℕ → ℕ → ℕ → ℕ
+left s i k = get_or (take (length s - i) (drop i s)) k 0
+
+pub read : (s : List ℕ) (i : ℕ) (p : Piece) {b c d e : ℕ} → i ≤ length s → p ≡ piece_of b c d e → b ≡ left s i 0 → c ≡ left s i 1 → d ≡ left s i 2 → e ≡ left s i 3
+    → p ≡ piece_of (get_or s i 0) (get_or s (i + 1) 0) (get_or s (i + 2) 0) (get_or s (i + 3) 0)
+read s i p h x b c d e = cc (byte 1, byte 2, byte 3, byte 0 ∙ ap (λ (k : ℕ). get_or s k 0) (add-zero i))
+  where
+    byte : (k : ℕ) → left s i k ≡ get_or s (i + k) 0
+    byte k = rw (take_all (length s - i) (drop i s) (simp length-drop (omega arith))) (get_or-drop i s k 0)
 
 -- A byte of a text that goes on with a character stands inside the text.
 inside : (s : List ℕ) (i : ℕ) → follows (get_or s i 0) ≡ true → i < length s

@@ -33,7 +33,7 @@ fn year_in(n: u64) -> u64
     100 * hundreds + 4 * (rest / 1461) + ones
 }
 
-// Day n of the round that begins in March of the year `from - less`.
+// Day n of the round that begins in March of the year `from - less`: no signed year, as `day_in` of specs/ has it.
 fn day_in(n: u64, from: u64, less: u64) -> Day
     requires { (n < 146097) × (from < 2 ^ 62) × (less < 2 ^ 62) }
     ensures { result ≡ day_in n from less }

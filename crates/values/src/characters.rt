@@ -16,7 +16,7 @@ pub enum Kind {
 }
 
 // The `length` bytes of a text that are a character, with its code point, or one broken byte. Behind the text's end the
-// length is 0.
+// length is 0, and no `None`: `piece_at` and `plain_from` of specs/ state it so.
 #[derive(Clone, Copy)]
 pub struct Piece {
     pub length: usize,

@@ -1,4 +1,5 @@
 // Digits and marks, put into the room for a text. Each function answers where the next goes.
+// The room and the place in it are no struct: `Wrote` of specs/ states them apart, and the callers' rooms are `[u8; 48]`.
 ghost use Rattle.std.specs.Prelude.{◌≡◌, [], ◌∷◌, ◌+◌, ◌*◌, ◌<◌, ◌≤◌, ◌^◌, length};
 ghost use Rattle.io.specs.Digits.{last_digits as Digits·digits};
 ghost use Rattle.values.specs.Spelling.{Wrote, places};

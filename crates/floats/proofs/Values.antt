@@ -1,15 +1,21 @@
 -- Laws of the numbers that limbs stand for.
-use Prim.Native.Nat.{ℕ, zero, suc, ◌+◌, ◌-◌, ◌*◌, ◌/◌, ◌%◌, ◌^◌, ◌<◌, ◌≤◌}
+use Prim.Native.Nat.{ℕ, suc, ◌+◌, ◌-◌, ◌*◌, ◌^◌, ◌<◌, ◌≤◌}
 use mathlib.Core.Path.{◌≡◌, refl, sym, ap, ◌∙◌}
-use mathlib.Core.Bool.{Bool, true, false}
-use mathlib.Core.List.{List, [], ◌∷◌, ◌++◌}
+use mathlib.Core.Bool.{Bool, true, false, cond}
+use mathlib.Core.List.{List, [], ◌∷◌, ◌++◌, reverse}
 use native.Mathlib.Omega.{arith}
 use native.Mathlib.Numerals.{add-one}
-use native.Mathlib.Nat.{pow-suc, mul_comm, mul_assoc, mul-add, mul_left_comm, mul_right_comm, mul-zero, add-zero, mul-le-mul, mul-le-mul_left, suc-mul}
-use lib.ListN.{length, get_or, set, take, drop, drop_of_length-le}
-use lib.Seq.{take-suc, take-suc-set, length-take-le, drop-cons, drop-length, drop-set-lt, get_or-drop, drop-drop, take_all}
-use lib.Dec.{ltb}
-use borrow.Author.Tests.{lt-ltb, le-ltb, ltb-true, ltb-false}
+use native.Mathlib.Nat.{pow-suc, mul_comm, mul_assoc, mul-add, mul_left_comm, mul_right_comm, mul-zero, add-zero, mul-le-mul_left}
+use lib.ListN.{length, get_or, set, take, drop, get_or-eq_default}
+use lib.Seq.{take-suc, take-suc-set, length-take-le, drop-set-lt, get_or-drop, drop-drop}
+use lib.Dec.{ltb, eqb}
+use Rattle.std.specs.Ordering.{is_lt, nat_cmp, ordering_then}
+use Rattle.std.specs.Cmp.Lexicographic.{slice_cmp}
+use Rattle.std.proofs.lemmas.List.{get_or-reverse, length-reverse, reverse-append, reverse-reverse}
+use Rattle.std.proofs.lemmas.Bool.Decides.{nat_tests}
+use Rattle.std.specs.declared.cmp.Ordering.{Ordering}
+use Rattle.std.specs.declared.cmp.Ordering.TheVariants.{Less, Equal, Greater}
+use borrow.Author.Tests.{lt-ltb, le-ltb, ltb-true, ltb-false, eqb-true}
 use Rattle.floats.specs.Limbs.{value}
 
 -- ONE LIMB MORE
@@ -56,52 +62,28 @@ subtract-turn p v w u x a b c d h e =
 next_power : (i : ℕ) → 4294967296 ^ (i + 1) ≡ 4294967296 ^ i * 4294967296
 next_power i = rw (add-one, pow-suc)
 
-module _ (out a b : List ℕ) (i k over : ℕ) (same : length out ≡ length a) (alike : length b ≡ length a) where
-  pub mix-again : (x y : ℕ) → y ≡ x % 4294967296 → i < length out → value (take i out) + over * 4294967296 ^ i ≡ value (take i a) + k * value (take i b)
-      → x ≡ k * get_or b i 0 + get_or a i 0 + over
-      → value (take (i + 1) (set out i y)) + x / 4294967296 * 4294967296 ^ (i + 1) ≡ value (take (i + 1) a) + k * value (take (i + 1) b)
-  mix-again x y low h e is =
-      rw (value-stored out i y h, value-more a i (omega arith), value-more b i (omega arith), next_power i)
-      (mix-turn _ _ k _ _ over _ _ _ _ e (omega arith))
+-- what one more limb makes of out = a + k * b, of a = k * a, and of a = a - b; a₀ is what a held
+module _ (i y d : ℕ) where
+  pub mix-more : (out a b : List ℕ) (k over : ℕ) → i < length out → length out ≡ length a → length b ≡ length a
+      → value (take i out) + over * 4294967296 ^ i ≡ value (take i a) + k * value (take i b) → y + d * 4294967296 ≡ k * get_or b i 0 + get_or a i 0 + over
+      → value (take (i + 1) (set out i y)) + d * 4294967296 ^ (i + 1) ≡ value (take (i + 1) a) + k * value (take (i + 1) b)
+  mix-more out a b k over h l m e is =
+      rw (value-stored out i y h, value-more a i (omega arith), value-more b i (omega arith), next_power i) (mix-turn _ _ k _ _ over _ _ _ _ e (omega arith))
 
-  pub mix-end : i ≤ length out → length out ≤ i → value (take i out) + over * 4294967296 ^ i ≡ value (take i a) + k * value (take i b)
-      → value out + over * 4294967296 ^ length a ≡ value a + k * value b
-  mix-end h l e =
-      let n : i ≡ length a = omega arith in
-      rw (take_all i out l, take_all i a (omega arith), take_all i b (omega arith), n) at e
-
-module _ (a a₀ : List ℕ) (i k over : ℕ) (same : length a ≡ length a₀) where
-  pub times-again : (x y : ℕ) → y ≡ x % 4294967296 → i < length a → drop i a ≡ drop i a₀ → value (take i a) + over * 4294967296 ^ i ≡ k * value (take i a₀)
-      → x ≡ k * get_or a i 0 + 0 + over
-      → value (take (i + 1) (set a i y)) + x / 4294967296 * 4294967296 ^ (i + 1) ≡ k * value (take (i + 1) a₀)
-  times-again x y low h r e is =
+  pub times-more : (a a₀ : List ℕ) (k over : ℕ) → i < length a → length a ≡ length a₀ → drop i a ≡ drop i a₀
+      → value (take i a) + over * 4294967296 ^ i ≡ k * value (take i a₀) → y + d * 4294967296 ≡ k * get_or a i 0 + over
+      → value (take (i + 1) (set a i y)) + d * 4294967296 ^ (i + 1) ≡ k * value (take (i + 1) a₀)
+  times-more a a₀ k over h l r e is =
       let p = 4294967296 ^ i in
-      let f = mix-turn p (value (take i a)) k 0 (get_or a₀ i 0) over y (x / 4294967296) 0 (value (take i a₀)) (omega arith)
-      (rw (← limb-kept a a₀ i r) (omega arith)) in
+      let f = mix-turn p (value (take i a)) k 0 (get_or a₀ i 0) over y d 0 (value (take i a₀)) (omega arith) (rw (← limb-kept a a₀ i r) (omega arith)) in
       rw (value-stored a i y h, value-more a₀ i (omega arith), next_power i) (omega (arith, f, mul-zero p))
 
-  pub times-end : i ≤ length a₀ → length a ≤ i → value (take i a) + over * 4294967296 ^ i ≡ k * value (take i a₀)
-      → value a + over * 4294967296 ^ length a₀ ≡ k * value a₀
-  times-end h l e =
-      let n : i ≡ length a₀ = omega arith in
-      rw (take_all i a l, take_all i a₀ (omega arith), n) at e
-
-module _ (a a₀ b : List ℕ) (i owed : ℕ) (same : length a ≡ length a₀) (alike : length b ≡ length a₀) where
-  pub subtract-again : (x y : ℕ) → y ≡ x % 4294967296 → i < length a → drop i a ≡ drop i a₀ → owed ≤ 1
-      → value (take i a) + value (take i b) ≡ value (take i a₀) + owed * 4294967296 ^ i
-      → x + get_or b i 0 + owed ≡ 4294967296 + get_or a i 0 → x < 8589934592
-      → value (take (i + 1) (set a i y)) + value (take (i + 1) b)
-      ≡ value (take (i + 1) a₀) + (1 - x / 4294967296) * 4294967296 ^ (i + 1)
-  subtract-again x y low h r o e is most =
+  pub subtract-more : (a a₀ b : List ℕ) (owed : ℕ) → i < length a → length a ≡ length a₀ → length b ≡ length a₀ → drop i a ≡ drop i a₀
+      → value (take i a) + value (take i b) ≡ value (take i a₀) + owed * 4294967296 ^ i → y + get_or b i 0 + owed ≡ get_or a i 0 + d * 4294967296
+      → value (take (i + 1) (set a i y)) + value (take (i + 1) b) ≡ value (take (i + 1) a₀) + d * 4294967296 ^ (i + 1)
+  subtract-more a a₀ b owed h l m r e is =
       let k = limb-kept a a₀ i r in
-      rw (value-stored a i y h, value-more a₀ i (omega arith), value-more b i (omega arith), next_power i)
-      (subtract-turn _ _ _ _ _ _ _ owed _ e (omega arith))
-
-  pub subtract-end : i ≤ length a₀ → length a ≤ i → value (take i a) + value (take i b) ≡ value (take i a₀) + owed * 4294967296 ^ i
-      → value a + value b ≡ value a₀ + owed * 4294967296 ^ length a₀
-  subtract-end h l e =
-      let n : i ≡ length a₀ = omega arith in
-      rw (take_all i a l, take_all i b (omega arith), take_all i a₀ (omega arith), n) at e
+      rw (value-stored a i y h, value-more a₀ i (omega arith), value-more b i (omega arith), next_power i) (subtract-turn _ _ _ _ _ _ _ owed _ e (omega arith))
 
 -- what is stored stays below the power of its limbs
 pub stored-below : (s : List ℕ) (i x : ℕ) → i < length s → x < 4294967296 → value (take i s) < 4294967296 ^ i
@@ -111,65 +93,53 @@ stored-below s i x h l e =
     let m : p * x ≤ p * 4294967295 = mul-le-mul_left p (omega arith) in
     rw (value-stored s i x h, next_power i) (omega (arith, m))
 
-pub all-below : (s : List ℕ) (i n : ℕ) → length s ≡ n → i ≤ n → length s ≤ i → value (take i s) < 4294967296 ^ i → value s < 4294967296 ^ n
-all-below s i n l h g e =
-    let k : i ≡ n = omega arith in
-    rw (take_all i s g, k) at e
-
--- nothing went over
-pub kept : (x y p over : ℕ) → over ≡ 0 → x + over * p ≡ y → x ≡ y
-kept x y p over z e = omega (arith, rw z at e)
-
--- nothing was owed
-pub paid : (x b a p owed : ℕ) → x + b ≡ a + owed * p → x < p → b ≤ a → x + b ≡ a
-paid x b a p zero e h l = omega arith
-paid x b a p (suc owed) e h l = omega (arith, suc-mul owed p)
-
 -- ORDER
-
--- the highest limb that differs says which number is less
-less : (a b : List ℕ) (i : ℕ) → length b ≡ length a → i < length a → ((j : ℕ) → get_or a j 0 < 4294967296)
-    → drop (suc i) a ≡ drop (suc i) b → get_or a i 0 < get_or b i 0 → value a < value b
-unfolding value
-less [] b i l h f e t = omega arith
-less (x ∷ a) [] i l h f e t = omega arith
-less (x ∷ a) (y ∷ b) zero l h f e t = omega (arith, ap value e)
-less (x ∷ a) (y ∷ b) (suc i) l h f e t =
-    omega (arith, f 0, less a b i (omega arith) (omega arith) (λ j. f (suc j)) e t)
 
 pub value-below : (a : List ℕ) → ((j : ℕ) → get_or a j 0 < 4294967296) → value a < 4294967296 ^ length a
 unfolding value
 value-below [] f = omega arith
 value-below (x ∷ a) f = rw (pow-suc) (omega (arith, f 0, value-below a (λ j. f (suc j))))
 
--- the limbs above all, and one more from above
-pub none_above : (a b : List ℕ) → length b ≡ length a → drop (length a) a ≡ drop (length a) b
-none_above a b l = rw (drop-length a, drop_of_length-le b {i = length a} (omega arith))
+below-reversed : (p : List ℕ) → ((j : ℕ) → get_or p j 0 < 4294967296) → (j : ℕ) → get_or (reverse p) j 0 < 4294967296
+below-reversed p f j = go (ltb j (length p)) refl where
+  go : (t : Bool) → ltb j (length p) ≡ t → get_or (reverse p) j 0 < 4294967296
+  go true e = rw (get_or-reverse p j 0 (ltb-true _ _ e)) (f (length p - 1 - j))
+  go false e = rw (get_or-eq_default (reverse p) 0 {n = j} (rw (length-reverse p) (ltb-false _ _ e))) (omega arith)
 
-pub same_above : (a b : List ℕ) (i j : ℕ) → i ≡ j + 1 → i ≤ length a → length b ≡ length a → drop i a ≡ drop i b → get_or a j 0 ≡ get_or b j 0 → drop j a ≡ drop j b
-same_above a b i j is h l e x =
-    let f : drop (suc j) a ≡ drop (suc j) b = rw (is, add-one) at e in
-    rw (drop-cons a j 0 (omega arith), drop-cons b j 0 (omega arith), x, f)
+value-high : (x : ℕ) (p : List ℕ) → value (reverse (x ∷ p)) ≡ value (reverse p) + 4294967296 ^ length p * x
+value-high x p = ap value (reverse-append (x ∷ []) p) ∙ value-snoc (reverse p) x ∙ rw (length-reverse p) refl
 
-pub same-all : (a b : List ℕ) (i : ℕ) → i ≤ 0 → drop i a ≡ drop i b → false ≡ ltb (value a) (value b)
-same-all a b i h e =
-    let z : i ≡ 0 = omega arith in
-    let f : a ≡ b = rw z at e in
-    sym (le-ltb (value a) (value b) (omega (arith, ap value f)))
+-- the highest limb that differs says which number is less
+step : (x y p u v : ℕ) (o : Ordering) → u < p → v < p → is_lt o ≡ ltb u v → is_lt (ordering_then (nat_cmp x y) o) ≡ ltb (u + p * x) (v + p * y)
+step x y p u v o h l e = go (ltb x y) (eqb x y) refl refl
+  where
+    higher : (x y u v : ℕ) → u < p → x < y → u + p * x < v + p * y
+    higher x y u v h l = let m : p * (x + 1) ≤ p * y = mul-le-mul_left p (omega arith) in omega (arith, m, mul-add p x 1)
 
--- where the limbs above are the same, those at j say it
-pub below_at : (a b : List ℕ) (i j : ℕ) → i ≡ j + 1 → length b ≡ length a → i ≤ length a → ((j : ℕ) → get_or a j 0 < 4294967296) → ((j : ℕ) → get_or b j 0 < 4294967296)
-    → drop i a ≡ drop i b → (get_or a j 0 ≡ get_or b j 0 → ⊥) → ltb (get_or a j 0) (get_or b j 0) ≡ ltb (value a) (value b)
-below_at a b i j is l h f g e n = go (ltb (get_or a j 0) (get_or b j 0)) refl where
-  go : (t : Bool) → ltb (get_or a j 0) (get_or b j 0) ≡ t → ltb (get_or a j 0) (get_or b j 0) ≡ ltb (value a) (value b)
-  go true s = s ∙ sym (lt-ltb _ _ (less a b j l (omega arith) f (rw (is, add-one) at e) (ltb-true _ _ s)))
-  go false s =
-      let t : get_or b j 0 ≤ get_or a j 0 = ltb-false _ _ s in
-      let u : get_or b j 0 < get_or a j 0 = omega arith in
-      s ∙ sym (le-ltb (value a) (value b) (omega (arith, less b a j (sym l) (omega arith) g (sym (rw (is, add-one) at e)) u)))
+    same : (w : ℕ) → ltb u v ≡ ltb (u + w) (v + w)
+    same w = grind (arith, nat_tests)
 
--- PRODUCTS
+    go : (s t : Bool) → ltb x y ≡ s → eqb x y ≡ t → is_lt (ordering_then (cond s Less (cond t Equal Greater)) o) ≡ ltb (u + p * x) (v + p * y)
+    go true t a b = sym (lt-ltb _ _ (higher x y u v h (ltb-true _ _ a)))
+    go false true a b = let z = eqb-true x y b in rw z (e ∙ same (p * y))
+    go false false a b = let z : y < x = grind (arith, nat_tests) in let k = higher y x v u l z in sym (le-ltb _ _ (omega arith))
 
--- a product of two limbs
-pub product-below : (k x : ℕ) → k < 4294967296 → x < 4294967296 → k * x ≤ 18446744065119617025
-product-below k x h l = mul-le-mul {n₂ = 4294967295} {m₂ = 4294967295} (omega arith) (omega arith)
+order : (p q : List ℕ) → length q ≡ length p → ((j : ℕ) → get_or p j 0 < 4294967296) → ((j : ℕ) → get_or q j 0 < 4294967296)
+    → is_lt (slice_cmp nat_cmp p q) ≡ ltb (value (reverse p)) (value (reverse q))
+unfolding value
+order [] [] l f g = refl
+order [] (y ∷ q) l f g = absurd (omega arith)
+order (x ∷ p) [] l f g = absurd (omega arith)
+order (x ∷ p) (y ∷ q) l f g =
+    let n : length q ≡ length p = omega arith in
+    let f' = λ (j : ℕ). f (suc j) in
+    let g' = λ (j : ℕ). g (suc j) in
+    let u = value-below (reverse p) (below-reversed p f') in
+    let v = value-below (reverse q) (below-reversed q g') in
+    rw (value-high x p, value-high y q, n)
+    (step x y (4294967296 ^ length p) (value (reverse p)) (value (reverse q)) _ (rw (length-reverse p) at u) (rw (length-reverse q, n) at v) (order p q n f' g'))
+
+pub below-is : (a b : List ℕ) → length b ≡ length a → ((j : ℕ) → get_or a j 0 < 4294967296) → ((j : ℕ) → get_or b j 0 < 4294967296)
+    → is_lt (slice_cmp nat_cmp (reverse a) (reverse b)) ≡ ltb (value a) (value b)
+below-is a b l f g =
+    order (reverse a) (reverse b) (simp length-reverse l) (below-reversed a f) (below-reversed b g) ∙ rw (reverse-reverse a, reverse-reverse b) refl

@@ -2,7 +2,7 @@
 // bytes, and the bytes that a number lacks are zeros.
 #![tactic(auto)]
 
-ghost use Rattle.std.specs.Prelude.{◌≡◌, ◌&&◌, ◌+◌, ◌*◌, ◌<◌, ◌^◌, take, drop, get_or, eqb};
+ghost use Rattle.std.specs.Prelude.{◌≡◌, ℕ, ◌&&◌, ◌+◌, ◌*◌, ◌<◌, ◌^◌, take, drop, get_or, eqb};
 ghost use Rattle.wire.specs.Bytes.{part, le, same};
 ghost use Rattle.schema.specs.Table.{group_marked, type_id, id_flag, field_count, field_type, field_size, reference};
 ghost use Rattle.rows.specs.Rows.{place_of, place_named};
@@ -15,62 +15,58 @@ use table::{GR, GW};
 pub fn rest(s: &[u8], at: usize) -> &[u8]
     ensures { result.now ≡ drop at s.now }
 {
-    if s.len() < at {
-        return &s[0..0];
-    }
-    &s[at..]
+    &s[at.min(s.len())..]
 }
 
 // The n bytes at `at`, or as many as there are.
 pub fn part(s: &[u8], at: usize, n: usize) -> &[u8]
     ensures { result.now ≡ part n at s.now }
 {
-    if s.len() < at {
-        return &s[0..0];
-    }
-    if s.len() - at < n {
-        return &s[at..];
-    }
-    &s[at..at + n]
+    let left = rest(s, at);
+    &left[..n.min(left.len())]
 }
 
 pub fn byte_at(s: &[u8], at: usize) -> u8
     ensures { result ≡ get_or s.now at 0 }
 {
-    if at < s.len() {
-        return s[at];
-    }
-    0
+    s.get(at).copied().unwrap_or(0)
+}
+
+// The first N bytes.
+fn first<const N: usize>(s: &[u8]) -> [u8; N]
+    ensures { (k : ℕ) → k < N → get_or result k 0 ≡ get_or s.now k 0 }
+{
+    let mut bytes = [0; N];
+    let n = s.len().min(N);
+    bytes[..n].copy_from_slice(&s[..n]);
+    bytes
 }
 
 // The number of the first two, four or eight bytes.
 
 fn first_u16(s: &[u8]) -> usize
-    ensures { (result ≡ le (take 2 s.now)) × (result < 2 ^ 16) }
+    ensures { result ≡ le (take 2 s.now) }
 {
-    wire::wide(byte_at(s, 0)) + 256 * wire::wide(byte_at(s, 1))
+    usize::from(u16::from_le_bytes(first(s)))
 }
 
 pub fn first_u32(s: &[u8]) -> usize
     ensures { (result ≡ le (take 4 s.now)) × (result < 2 ^ 32) }
 {
-    first_u16(s) + 65536 * first_u16(rest(s, 2))
+    u32::from_le_bytes(first(s)) as usize
 }
 
 pub fn first_u64(s: &[u8]) -> u64
     ensures { result ≡ le (take 8 s.now) }
 {
-    (first_u32(s) + 4294967296 * first_u32(rest(s, 4))) as u64
+    u64::from_le_bytes(first(s))
 }
 
 // Whether a mark stands first.
 pub fn has_mark(s: &[u8], mark: [u8; 2]) -> bool
     ensures { result ≡ same (take 2 s.now) mark }
 {
-    if s.len() < 2 {
-        return false;
-    }
-    wire::has_mark(s, 0, mark)
+    s.starts_with(&mark)
 }
 
 // A GROUP'S RECORD
@@ -80,54 +76,41 @@ pub fn has_mark(s: &[u8], mark: [u8; 2]) -> bool
 fn is_group(row: &[u8]) -> bool
     ensures { result ≡ group_marked row.now }
 {
-    has_mark(row, GR) | has_mark(row, GW)
+    has_mark(row, GR) || has_mark(row, GW)
 }
 
 fn is_named(row: &[u8], id: u64) -> bool
     ensures { result ≡ group_marked row.now && (eqb (id_flag row.now) 1 && eqb (type_id row.now) id) }
 {
-    is_group(row) & ((byte_at(row, 10) == 1) & (first_u64(rest(row, 2)) == id))
+    is_group(row) && byte_at(row, 10) == 1 && first_u64(rest(row, 2)) == id
 }
 
 // The place of the record of the group with this type id, or the end of the table.
 pub fn group_named(table: &[u8], id: u64) -> usize
     ensures { result ≡ place_named table.now id }
 {
-    let n = table.len() / 16;
-    let mut i = 0;
-    while i < n {
-        if is_named(rest(table, 16 * i), id) {
-            return 16 * i;
-        }
-        i += 1;
-    }
-    table.len()
+    (0..table.len() / 16)
+        .map(|i| 16 * i)
+        .find(|at| is_named(rest(table, *at), id))
+        .unwrap_or(table.len())
 }
 
 // The place of the record of group `number`, or the end of the table.
 fn group_numbered(table: &[u8], number: usize) -> usize
     ensures { result ≡ place_of table.now number }
 {
-    let n = table.len() / 16;
-    let mut i = 0;
-    let mut left = number;
-    while i < n {
-        if is_group(rest(table, 16 * i)) {
-            if left == 0 {
-                return 16 * i;
-            }
-            left -= 1;
-        }
-        i += 1;
-    }
-    table.len()
+    (0..table.len() / 16)
+        .map(|i| 16 * i)
+        .filter(|at| is_group(rest(table, *at)))
+        .nth(number)
+        .unwrap_or(table.len())
 }
 
 // How many fields the group has.
 pub fn field_count(row: &[u8]) -> usize
     ensures { result ≡ field_count row.now }
 {
-    wire::wide(byte_at(row, 13))
+    usize::from(byte_at(row, 13))
 }
 
 // A FIELD'S RECORD
@@ -136,10 +119,10 @@ pub fn field_count(row: &[u8]) -> usize
 pub fn field_record(table: &[u8], group: usize, field: usize) -> &[u8]
     ensures { result.now ≡ drop (16 + 16 * field) (drop group table.now) }
 {
-    if table.len() / 16 < field {
-        return &table[0..0];
-    }
-    rest(rest(table, group), 16 + 16 * field)
+    rest(
+        rest(table, group),
+        field.saturating_add(1).saturating_mul(16),
+    )
 }
 
 pub fn field_type(row: &[u8]) -> u8

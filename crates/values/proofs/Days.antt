@@ -1,45 +1,27 @@
 -- Laws of the calendar's definitions.
-use Prim.Native.Nat.{ℕ, suc, ◌+◌, ◌-◌, ◌*◌, ◌/◌, ◌%◌, ◌^◌, ◌<◌, ◌≤◌, min}
-use mathlib.Core.Path.{◌≡◌, sym, ap, ◌∙◌}
+use Prim.Native.Nat.{ℕ, zero, suc, ◌+◌, ◌-◌, ◌*◌, ◌/◌, ◌%◌, ◌^◌, ◌<◌, ◌≤◌, min}
+use mathlib.Core.Path.{◌≡◌, refl, sym}
+use mathlib.Core.Bool.{true, false, false≢true}
 use native.Mathlib.Omega.{arith}
-use lib.IntN.{ℤ, pos, negsuc, sub_ℕ}
-use borrow.Author.Tests.{lt-ltb, le-ltb}
+use native.Mathlib.Nat.{sub-zero, add-zero}
+use lib.IntN.{ℤ, pos, negsuc, sub_ℕ, ◌-ℤ◌, nat_abs}
+use lib.Signed.{lt_z}
+use borrow.Author.Tests.{lt-ltb, le-ltb, ltb-true}
 use mir.Syntax.{w64}
-use mir.Val.{SFits, to_z, of_z}
-use mir.Facts.{to_z-of_z}
-use Rattle.wire.specs.Bytes.{signed, pattern}
+use mir.Val.{to_z, of_z}
+use Rattle.std.proofs.lemmas.Int.{ints}
 use Rattle.values.specs.declared.calendar.Day.{Day}
-use Rattle.values.specs.Calendar.{year_start, hundreds, rest, year_in, month_of, day_of_month, named, day_in}
+use Rattle.values.specs.Calendar.{year_start, hundreds, rest, year_in, month_of, day_of_month, named, day_in, day_of}
 
--- A SIGNED NUMBER BY ITS BITS
+-- SIGNED NUMBERS
 
-module _ (b : ℕ) where
-  positive : (z : ℤ) → SFits w64 z → b ≡ pattern 63 z → b < 2 ^ 63 → z ≡ pos b
-  unfolding pattern
-  positive (pos n) f e h = ap pos (sym e)
-  positive (negsuc n) f e h = let l = f.sfits in absurd (omega arith)
+sub-is : (a b : ℕ) → sub_ℕ a b ≡ pos a -ℤ pos b
+sub-is a zero = rw (le-ltb a 0 (omega arith), sub-zero, add-zero) refl
+sub-is a (suc b) = refl
 
-  below-zero : (z : ℤ) → SFits w64 z → b ≡ pattern 63 z → 2 ^ 63 ≤ b → z ≡ negsuc (2 ^ 64 - 1 - b)
-  unfolding pattern
-  below-zero (pos n) f e h = let l = f.sfits in absurd (omega arith)
-  below-zero (negsuc n) f e h = let l = f.sfits in ap negsuc (omega arith)
-
-  -- the machine keeps z as its bits, so it hands on `to_z w64 (of_z w64 z)`
-  module _ (z : ℤ) (f : SFits w64 z) (e : b ≡ pattern 63 (to_z w64 (of_z w64 z))) where
-    pub not_negative : b < 2 ^ 63 → z ≡ pos b
-    not_negative = positive z f (e ∙ ap (pattern 63) (to_z-of_z f))
-
-    pub negative : 2 ^ 63 ≤ b → z ≡ negsuc (2 ^ 64 - 1 - b)
-    negative = below-zero z f (e ∙ ap (pattern 63) (to_z-of_z f))
-
--- and the bits of a difference
-pub minus-below : (a b : ℕ) → a < b → b < 2 ^ 63 → signed 63 (2 ^ 64 - 1 - (b - a - 1)) ≡ sub_ℕ a b
-minus-below a b h l =
-    let e : 2 ^ 64 - 1 - (2 ^ 64 - 1 - (b - a - 1)) ≡ b - suc a = omega arith in
-    rw (le-ltb (2 ^ 64 - 1 - (b - a - 1)) (2 ^ 63) (omega arith), lt-ltb a b h) (ap negsuc e)
-
-pub minus-above : (a b : ℕ) → b ≤ a → a < 2 ^ 63 → signed 63 (a - b) ≡ sub_ℕ a b
-minus-above a b h l = rw (lt-ltb (a - b) (2 ^ 63) (omega arith), le-ltb a b h)
+-- a difference that may be negative, as the machine hands it on
+pub difference : (a b : ℕ) → a < 2 ^ 63 → b < 2 ^ 63 → to_z w64 (of_z w64 (to_z w64 a -ℤ to_z w64 b)) ≡ sub_ℕ a b
+difference a b h l = let e = sub-is a b in omega (arith, ints)
 
 -- THE YEAR OF A ROUND
 
@@ -103,3 +85,14 @@ module _ (n from less y s : ℕ) (z : ℤ) (e : y ≡ year_in n) (f : s ≡ year
   in-next h i =
       let k : 10 ≤ month_of (n - year_start (year_in n)) = rw (f, e) at h in
       rw (i, f, e) (rw (le-ltb _ _ k))
+
+-- days before 2000 and from then on
+pub day-before : (z : ℤ) → lt_z z (pos 0) ≡ true → day_in (146096 - (nat_abs z + 59) % 146097) 1600 (400 * ((nat_abs z + 59) / 146097)) ≡ day_of z
+unfolding day_of
+day-before (pos n) h = let k = ltb-true n 0 h in absurd (omega arith)
+day-before (negsuc n) h = let e : suc n + 59 ≡ n + 60 = omega arith in rw e refl
+
+pub day-from : (z : ℤ) → lt_z z (pos 0) ≡ false → day_in ((nat_abs z + 146037) % 146097) (1600 + 400 * ((nat_abs z + 146037) / 146097)) 0 ≡ day_of z
+unfolding day_of
+day-from (pos n) h = refl
+day-from (negsuc n) h = absurd (false≢true (sym h))

@@ -1,14 +1,15 @@
 -- Laws of what is put into a room.
-use Prim.Native.Nat.{ℕ, zero, suc, ◌+◌, ◌-◌, ◌/◌, ◌%◌, ◌^◌, ◌<◌, ◌≤◌}
+use Prim.Native.Nat.{ℕ, zero, suc, ◌+◌, ◌-◌, ◌*◌, ◌/◌, ◌%◌, ◌^◌, ◌<◌, ◌≤◌, max}
 use mathlib.Core.Path.{◌≡◌, refl, sym, ap, ◌∙◌}
 use mathlib.Core.Bool.{Bool, true, false, cond}
 use mathlib.Core.List.{List, [], ◌∷◌, ◌++◌}
 use native.Mathlib.Omega.{arith}
-use native.Mathlib.Nat.{pow-le-pow_right}
+use native.Mathlib.Nat.{pow-le-pow_right, pow-succ'}
+use native.Mathlib.Numerals.{add-one}
 use lib.ListN.{length, set, take, length-append, length-set}
 use lib.Dec.{ltb}
 use borrow.Author.Tests.{lt-ltb, ltb-true, ltb-false}
-use Rattle.io.specs.Digits.{last_digits, IsDigitCount}
+use Rattle.io.specs.Digits.{last_digits}
 use Rattle.io.specs.Counts.{IsPrefixLen}
 use Rattle.wire.specs.Bytes.{splice}
 use Rattle.wire.proofs.Laws.{splice-cons, splice-nil, splice-append, splice-before, part-splice}
@@ -67,29 +68,26 @@ places-are (suc f) k p n a b c d = go (ltb n (10 ^ k)) refl (λ x. places-are f 
   go true e on = same k p n a d (ltb-true _ _ e) (ltb k p) refl
   go false e on = on (more k p n a c (ltb-false _ _ e) (ltb k p) refl)
 
--- what `io::decimal` counts, made up to `least`
-module _ (least n r : ℕ) (h : 0 < least) (l : least ≤ 20) (m : r ≤ 20) (f : IsDigitCount 10 1 n r) where
-  pub places-least : r < least → least ≡ places least n
-  unfolding places
-  places-least b =
-      let z = pow-le-pow_right {n = 10} (omega arith) {i = r} {j = least} (omega arith) in
-      let y = f.1 in
-      sym (places-are 20 least least n (omega arith) (omega arith) (omega arith) (λ q. absurd (omega arith)))
+-- counted by a logarithm, and made up to `least`
+pub places-count : (least n l : ℕ) → 0 < least → least ≤ 20 → l < 20 → 10 ^ l ≤ max n 1 → max n 1 < 10 * 10 ^ l → max (l + 1) least ≡ places least n
+unfolding places
+places-count least n l z m b h k = go (ltb l least) refl
+  where
+    next : 10 ^ (l + 1) ≡ 10 * 10 ^ l
+    next = rw (add-one, pow-succ')
 
-  pub places_count : least ≤ r → r ≡ places least n
-  unfolding places
-  places_count b = sym (places-are 20 least r n b (omega arith) f.1 (λ q. f.2 (omega arith)))
-
-fewest-most : (n r : ℕ) → n < 2 ^ 64 → IsDigitCount 10 1 n r → (t : Bool) → ltb 20 r ≡ t → r ≤ 20
-fewest-most n r h f true l =
-    let l' = ltb-true 20 r l in
-    let y = f.2 (omega arith) in
-    let z : 10 ^ 20 ≤ 10 ^ (r - 1) = pow-le-pow_right {n = 10} (omega arith) {i = 20} {j = r - 1} (omega arith) in
-    absurd (omega arith)
-fewest-most n r h f false l = ltb-false 20 r l
-
-pub at_most : (n r : ℕ) → n < 2 ^ 64 → IsDigitCount 10 1 n r → r ≤ 20
-at_most n r h f = fewest-most n r h f (ltb 20 r) refl
+    go : (t : Bool) → ltb l least ≡ t → max (l + 1) least ≡ places_from 20 least n
+    go true e =
+        let i = ltb-true l least e in
+        let y = pow-le-pow_right {n = 10} (omega arith) {i = l + 1} {j = least} (omega arith) in
+        let p : max (l + 1) least ≡ least = omega arith in
+        p ∙ sym (places-are 20 least least n (omega arith) (omega arith) (omega (arith, next)) (λ q. absurd (omega arith)))
+    go false e =
+        let i = ltb-false l least e in
+        let y = pow-le-pow_right {n = 10} (omega arith) {i = 1} {j = l} (omega arith) in
+        let p : max (l + 1) least ≡ l + 1 = omega arith in
+        let r : l + 1 - 1 ≡ l = omega arith in
+        p ∙ sym (places-are 20 least (l + 1) n (omega arith) (omega arith) (omega (arith, next)) (λ q. rw r (omega arith)))
 
 under : (k n : ℕ) → k ≤ 20 → n < 10 ^ 20 → 10 ^ k ≤ n → (t : Bool) → ltb k 20 ≡ t → suc k ≤ 20
 under k n a b x true l = let l' = ltb-true k 20 l in omega arith

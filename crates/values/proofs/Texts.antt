@@ -1,27 +1,17 @@
 -- Laws of the characters' definitions.
 use Prim.Native.Nat.{ℕ, zero, suc, ◌+◌, ◌-◌, ◌<◌, ◌≤◌}
-use mathlib.Core.Path.{◌≡◌, refl, sym}
-use mathlib.Core.Bool.{Bool, true, false, ◌&&◌, ◌||◌, or_assoc, or-false, and-eq-true_iff, false≢true}
+use mathlib.Core.Path.{◌≡◌, refl, ap, ◌∙◌}
+use mathlib.Core.Bool.{Bool, true, false, ◌&&◌, and-eq-true_iff, false≢true}
 use mathlib.Core.List.{List}
 use native.Mathlib.Omega.{arith}
-use lib.ListN.{length, get_or, get_or-eq_default}
-use lib.Dec.{leb, ltb, eqb}
-use borrow.Author.Tests.{lt-ltb, le-ltb, le-leb, leb-true, ltb-true, ltb-false}
+use native.Mathlib.Nat.{add-zero}
+use lib.ListN.{length, get_or, take, drop, length-drop, get_or-eq_default}
+use lib.Seq.{take_all, get_or-drop}
+use lib.Dec.{leb, ltb}
+use borrow.Author.Tests.{lt-ltb, le-ltb, leb-true, ltb-true, ltb-false}
 use Rattle.values.specs.declared.characters.Piece.{Piece}
 use Rattle.values.specs.declared.characters.Kind.TheVariants.{Broken}
-use Rattle.values.specs.Characters.{has, is_in, shown, is_shown, follows, is_two, is_three, is_four, two, three, four, whole, piece_of, piece_at, Stays, is_plain, plain_from}
-
--- twelve tests, one after the other, as a list has them
-twelve : (a' a b c d e f g h i j k l : Bool) → a ≡ a'
-    → (a || b || c || d || e || f || g || h || i || j || k || l) ≡ (a' || (b || (c || (d || (e || (f || (g || (h || (i || (j || (k || (l || false))))))))))))
-twelve a' a b c d e f g h i j k l t = rw t (simp (or_assoc, or-false))
-
-pub shown-is : (n : ℕ)
-    → (leb n 0x1F || (leb 0x7F n && leb n 0x9F) || eqb n 0xAD || eqb n 0x61C || eqb n 0x180E || (leb 0x200B n && leb n 0x200F) || (leb 0x2028 n && leb n 0x202E) || (leb 0x2060 n && leb n 0x206F) || (leb 0xD800 n && leb n 0xDFFF) || eqb n 0xFEFF || (leb 0xFFF9 n && leb n 0xFFFB) || (leb 0xE0000 n && leb n 0xE007F)) ≡ is_shown n
-unfolding is_shown shown is_in has
-shown-is n =
-    twelve (leb 0x0 n && leb n 0x1F) (leb n 0x1F) (leb 0x7F n && leb n 0x9F) (eqb n 0xAD) (eqb n 0x61C) (eqb n 0x180E) (leb 0x200B n && leb n 0x200F)
-    (leb 0x2028 n && leb n 0x202E) (leb 0x2060 n && leb n 0x206F) (leb 0xD800 n && leb n 0xDFFF) (eqb n 0xFEFF) (leb 0xFFF9 n && leb n 0xFFFB) (leb 0xE0000 n && leb n 0xE007F) (sym (rw (le-leb 0 n (omega arith))))
+use Rattle.values.specs.Characters.{follows, is_two, is_three, is_four, two, three, four, whole, piece_of, piece_at, Stays, is_plain, plain_from}
 
 -- WHAT BEGINS WITH A BYTE
 
@@ -50,8 +40,16 @@ module _ (b c d e : ℕ) where
     unfolding piece_of
     piece-none t u v = simp (le-ltb _ _ h, t, u, v, piece_of)
 
-pub piece-same : (b b' c c' d d' e e' : ℕ) → b ≡ b' → c ≡ c' → d ≡ d' → e ≡ e' → piece_of b c d e ≡ piece_of b' c' d' e'
-piece-same b b' c c' d d' e e' p q r t = cc
+-- what begins with the bytes of what is left of a text
+abbrev pub left : List ℕ → ℕ → ℕ → ℕ
+left s i k = get_or (take (length s - i) (drop i s)) k 0
+
+pub read : (s : List ℕ) (i : ℕ) (p : Piece) {b c d e : ℕ} → i ≤ length s → p ≡ piece_of b c d e → b ≡ left s i 0 → c ≡ left s i 1 → d ≡ left s i 2 → e ≡ left s i 3
+    → p ≡ piece_of (get_or s i 0) (get_or s (i + 1) 0) (get_or s (i + 2) 0) (get_or s (i + 3) 0)
+read s i p h x b c d e = cc (byte 1, byte 2, byte 3, byte 0 ∙ ap (λ (k : ℕ). get_or s k 0) (add-zero i))
+  where
+    byte : (k : ℕ) → left s i k ≡ get_or s (i + k) 0
+    byte k = rw (take_all (length s - i) (drop i s) (simp length-drop (omega arith))) (get_or-drop i s k 0)
 
 -- A byte of a text that goes on with a character stands inside the text.
 inside : (s : List ℕ) (i : ℕ) → follows (get_or s i 0) ≡ true → i < length s
@@ -151,6 +149,10 @@ module _ (s : List ℕ) (i : ℕ) (p : Piece) (e : p ≡ piece_at s i) where
   run-stop zero t = refl
   run-stop (suc k) t = let u = rw e at t in rw u
 
-pub run_end : (s : List ℕ) (i k : ℕ) → length s ≤ i → plain_from k s i ≡ 0
+-- nothing plain stands behind the end
+pub plain_inside : (s : List ℕ) (i : ℕ) (p : Piece) → p ≡ piece_at s i → is_plain p.kind ≡ true → i < length s
 unfolding is_plain
-run_end s i k h = run-stop s i _ (sym (behind s i h)) k refl
+plain_inside s i p e t = go (ltb i (length s)) refl where
+  go : (b : Bool) → ltb i (length s) ≡ b → i < length s
+  go true l = ltb-true _ _ l
+  go false l = let u = rw (e, behind s i (ltb-false _ _ l)) at t in absurd (false≢true u)

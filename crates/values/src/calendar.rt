@@ -2,8 +2,7 @@
 // before 1 is 0).
 //
 // A year is taken to begin in March here, so that the leap day is its last. 400 such years, 146097 days, are a round.
-ghost use Rattle.std.specs.Prelude.{◌≡◌, ◌+◌, ◌<◌, ◌≤◌, ◌^◌, min};
-ghost use Rattle.std.proofs.Math.IntN.{sub_ℕ};
+ghost use Rattle.std.specs.Prelude.{◌≡◌, ◌+◌, ◌<◌, ◌≤◌, ◌^◌};
 ghost use Rattle.values.specs.Calendar.{year_start, year_in, day_in, day_of};
 
 #[derive(Clone, Copy)]
@@ -13,24 +12,8 @@ pub struct Day {
     pub day: u8,
 }
 
-// A difference that may be negative.
-pub fn minus(a: u64, b: u64) -> i64
-    requires { (a < 2 ^ 63) × (b < 2 ^ 63) }
-    ensures { result ≡ sub_ℕ a b }
-{
-    if a < b {
-        return wire::i64_from_bits(0xffff_ffff_ffff_ffff - (b - a - 1));
-    }
-    wire::i64_from_bits(a - b)
-}
-
-fn least(a: u64, b: u64) -> u64
-    ensures { result ≡ min a b }
-{
-    if a < b { a } else { b }
-}
-
 // How many days of the round come before its year y.
+#[tactic(auto, unfolding(crate::specs::Calendar::year_start))]
 fn year_start(y: u64) -> u64
     requires { y < 400 }
     ensures { result ≡ year_start y }
@@ -44,13 +27,13 @@ fn year_in(n: u64) -> u64
     requires { n < 146097 }
     ensures { (result ≡ year_in n) × (result < 400) × (year_start result ≤ n) × (n < year_start result + 366) }
 {
-    let hundreds = least(n / 36524, 3);
+    let hundreds = (n / 36524).min(3);
     let rest = n - 36524 * hundreds;
-    let ones = least(rest % 1461 / 365, 3);
+    let ones = (rest % 1461 / 365).min(3);
     100 * hundreds + 4 * (rest / 1461) + ones
 }
 
-// Day n of the round that begins in March of the year `from - less`.
+// Day n of the round that begins in March of the year `from - less`: no signed year, as `day_in` of specs/ has it.
 fn day_in(n: u64, from: u64, less: u64) -> Day
     requires { (n < 146097) × (from < 2 ^ 62) × (less < 2 ^ 62) }
     ensures { result ≡ day_in n from less }
@@ -58,18 +41,15 @@ fn day_in(n: u64, from: u64, less: u64) -> Day
     let y = year_in(n);
     let d = n - year_start(y);
     let m = (5 * d + 2) / 153;
-    let day = (d - (153 * m + 2) / 5 + 1) as u8;
-    if m < 10 {
-        return Day {
-            year: minus(from + y, less),
-            month: (m + 3) as u8,
-            day,
-        };
-    }
+    let (year, month) = if m < 10 {
+        (from + y, m + 3)
+    } else {
+        (from + y + 1, m - 9)
+    };
     Day {
-        year: minus(from + y + 1, less),
-        month: (m - 9) as u8,
-        day,
+        year: year as i64 - less as i64,
+        month: month as u8,
+        day: (d - (153 * m + 2) / 5 + 1) as u8,
     }
 }
 
@@ -77,11 +57,10 @@ fn day_in(n: u64, from: u64, less: u64) -> Day
 pub fn day_of(days: i64) -> Day
     ensures { result ≡ day_of days }
 {
-    let bits = wire::i64_to_bits(days);
-    if bits < 0x8000_0000_0000_0000 {
-        let n = bits + 146037;
-        return day_in(n % 146097, 1600 + 400 * (n / 146097), 0);
+    if days < 0 {
+        let n = days.unsigned_abs() + 59;
+        return day_in(146096 - n % 146097, 1600, 400 * (n / 146097));
     }
-    let n = 0xffff_ffff_ffff_ffff - bits + 60;
-    day_in(146096 - n % 146097, 1600, 400 * (n / 146097))
+    let n = days as u64 + 146037;
+    day_in(n % 146097, 1600 + 400 * (n / 146097), 0)
 }

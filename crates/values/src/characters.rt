@@ -1,6 +1,6 @@
 // What stands in a text, character by character, for a reader who must not be misled.
 ghost use Rattle.std.specs.Prelude.{◌≡◌, ◌+◌, ◌<◌, ◌≤◌, max, length, get_or};
-ghost use Rattle.values.specs.Characters.{is_shown, kind_of, follows, two, three, four, is_two, is_three, is_four, whole, piece_of, piece_at, Stays, is_plain, plain_run};
+ghost use Rattle.values.specs.Characters.{is_shown, kind_of, follows, two, three, four, is_two, is_three, is_four, whole, piece_of, piece_at, Stays, plain_run};
 
 // How a character is printed.
 #[derive(Clone, Copy)]
@@ -16,7 +16,7 @@ pub enum Kind {
 }
 
 // The `length` bytes of a text that are a character, with its code point, or one broken byte. Behind the text's end the
-// length is 0.
+// length is 0, and no `None`: `piece_at` and `plain_from` of specs/ state it so.
 #[derive(Clone, Copy)]
 pub struct Piece {
     pub length: usize,
@@ -25,26 +25,30 @@ pub struct Piece {
 }
 
 // Whether a byte goes on with a character.
+#[tactic(auto, unfolding(crate::specs::Characters::follows))]
 fn follows(c: u32) -> bool
     ensures { result ≡ follows c }
 {
-    (0x80 <= c) & (c < 0xc0)
+    (0x80..0xc0).contains(&c)
 }
 
 // Their codes: six bits of each byte that follows.
 
+#[tactic(auto, unfolding(crate::specs::Characters::two))]
 fn two(b: u32, c: u32) -> u32
     ensures { result ≡ two b c }
 {
     64 * (b % 32) + c % 64
 }
 
+#[tactic(auto, unfolding(crate::specs::Characters::three))]
 fn three(b: u32, c: u32, d: u32) -> u32
     ensures { result ≡ three b c d }
 {
     4096 * (b % 16) + 64 * (c % 64) + d % 64
 }
 
+#[tactic(auto, unfolding(crate::specs::Characters::four))]
 fn four(b: u32, c: u32, d: u32, e: u32) -> u32
     ensures { result ≡ four b c d e }
 {
@@ -53,61 +57,65 @@ fn four(b: u32, c: u32, d: u32, e: u32) -> u32
 
 // Whether bytes are a character of two, three or four bytes: one with a code that fewer bytes have is none.
 
+#[tactic(auto, unfolding(crate::specs::Characters::is_two))]
 fn is_two(b: u32, c: u32) -> bool
     ensures { result ≡ is_two b c }
 {
-    (0xc2 <= b) & (b < 0xe0) & follows(c)
+    (0xc2..0xe0).contains(&b) && follows(c)
 }
 
+#[tactic(auto, unfolding(crate::specs::Characters::is_three))]
 fn is_three(b: u32, c: u32, d: u32) -> bool
     ensures { result ≡ is_three b c d }
 {
-    (0xe0 <= b) & (b < 0xf0) & follows(c) & follows(d) & (0x800 <= three(b, c, d))
+    (0xe0..0xf0).contains(&b) && follows(c) && follows(d) && 0x800 <= three(b, c, d)
 }
 
+#[tactic(auto, unfolding(crate::specs::Characters::is_four))]
 fn is_four(b: u32, c: u32, d: u32, e: u32) -> bool
     ensures { result ≡ is_four b c d e }
 {
-    let code = four(b, c, d, e);
-    (0xf0 <= b)
-        & (b < 0xf8)
-        & follows(c)
-        & follows(d)
-        & follows(e)
-        & (0x10000 <= code)
-        & (code <= 0x10ffff)
+    (0xf0..0xf8).contains(&b)
+        && follows(c)
+        && follows(d)
+        && follows(e)
+        && (0x10000..=0x10ffff).contains(&four(b, c, d, e))
 }
 
 // Whether a character is shown as its number.
+#[tactic(auto, unfolding(crate::specs::Characters::is_shown, crate::specs::Characters::shown, crate::specs::Characters::is_in, crate::specs::Characters::has))]
 fn is_shown(n: u32) -> bool
     ensures { result ≡ is_shown n }
 {
-    (n <= 0x1f)
-        | ((0x7f <= n) & (n <= 0x9f))
-        | (n == 0xad)
-        | (n == 0x61c)
-        | (n == 0x180e)
-        | ((0x200b <= n) & (n <= 0x200f))
-        | ((0x2028 <= n) & (n <= 0x202e))
-        | ((0x2060 <= n) & (n <= 0x206f))
-        | ((0xd800 <= n) & (n <= 0xdfff))
-        | (n == 0xfeff)
-        | ((0xfff9 <= n) & (n <= 0xfffb))
-        | ((0xe0000 <= n) & (n <= 0xe007f))
+    matches!(
+        n,
+        0..=0x1f
+            | 0x7f..=0x9f
+            | 0xad
+            | 0x61c
+            | 0x180e
+            | 0x200b..=0x200f
+            | 0x2028..=0x202e
+            | 0x2060..=0x206f
+            | 0xd800..=0xdfff
+            | 0xfeff
+            | 0xfff9..=0xfffb
+            | 0xe0000..=0xe007f
+    )
 }
 
+#[tactic(auto, unfolding(crate::specs::Characters::kind_of))]
 fn kind_of(code: u32) -> Kind
     ensures { result ≡ kind_of code }
 {
-    if (code == 0x22) | (code == 0x5c) {
-        return Kind::Quoted;
+    match code {
+        0x22 | 0x5c => Kind::Quoted,
+        _ if is_shown(code) => Kind::Numbered,
+        _ => Kind::Plain,
     }
-    if is_shown(code) {
-        return Kind::Numbered;
-    }
-    Kind::Plain
 }
 
+#[tactic(auto, unfolding(crate::specs::Characters::whole))]
 fn whole(length: usize, code: u32) -> Piece
     ensures { result ≡ whole length code }
 {
@@ -119,6 +127,7 @@ fn whole(length: usize, code: u32) -> Piece
 }
 
 // What begins with the byte b, with the three that follow it.
+#[tactic(auto, unfolding(crate::specs::Characters::piece_of))]
 fn piece_of(b: u32, c: u32, d: u32, e: u32) -> Piece
     ensures { result ≡ piece_of b c d e }
 {
@@ -141,17 +150,11 @@ fn piece_of(b: u32, c: u32, d: u32, e: u32) -> Piece
     }
 }
 
-// The byte that stands `next` bytes behind `at`, or 0 behind the text's end: a 0 goes on with nothing.
-fn byte_at(text: &[u8], at: usize, next: usize) -> u32
-    ensures { result ≡ get_or text.now (at + next) 0 }
+// A byte of a text, or 0 behind the text's end: a 0 goes on with nothing.
+fn byte_at(text: &[u8], at: usize) -> u32
+    ensures { result ≡ get_or text.now at 0 }
 {
-    if text.len() <= at {
-        return 0;
-    }
-    if text.len() - at <= next {
-        return 0;
-    }
-    text[at + next] as u32
+    text.get(at).copied().map_or(0, u32::from)
 }
 
 // What stands at `at`. Nothing stands behind the text's end.
@@ -166,22 +169,13 @@ pub fn piece_at(text: &[u8], at: usize) -> Piece
             kind: Kind::Broken,
         };
     }
-    let b = byte_at(text, at, 0);
-    let c = byte_at(text, at, 1);
-    let d = byte_at(text, at, 2);
-    let e = byte_at(text, at, 3);
-    piece_of(b, c, d, e)
-}
-
-fn is_plain(kind: Kind) -> bool
-    ensures { result ≡ is_plain kind }
-{
-    match kind {
-        Kind::Plain => true,
-        Kind::Quoted => false,
-        Kind::Numbered => false,
-        Kind::Broken => false,
-    }
+    let rest = &text[at..];
+    piece_of(
+        byte_at(rest, 0),
+        byte_at(rest, 1),
+        byte_at(rest, 2),
+        byte_at(rest, 3),
+    )
 }
 
 // How many bytes from `at` on are characters that are printed as they are.
@@ -189,14 +183,14 @@ pub fn plain_run(text: &[u8], at: usize) -> usize
     ensures value { result ≡ plain_run text.now at }
     ensures result_bound { at + result ≤ max at (length text.now) }
 {
-    let mut i = at;
-    while i < text.len() {
-        let piece = piece_at(text, i);
-        let kind = piece.kind;
-        if !is_plain(kind) {
-            return i - at;
-        }
-        i += piece.length;
+    let mut end = at;
+    while let Piece {
+        length,
+        kind: Kind::Plain,
+        ..
+    } = piece_at(text, end)
+    {
+        end += length;
     }
-    i - at
+    end - at
 }

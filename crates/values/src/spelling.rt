@@ -1,4 +1,5 @@
 // Digits and marks, put into the room for a text. Each function answers where the next goes.
+// The room and the place in it are no struct: `Wrote` of specs/ states them apart, and the callers' rooms are `[u8; 48]`.
 ghost use Rattle.std.specs.Prelude.{◌≡◌, [], ◌∷◌, ◌+◌, ◌*◌, ◌<◌, ◌≤◌, ◌^◌, length};
 ghost use Rattle.io.specs.Digits.{last_digits as Digits·digits};
 ghost use Rattle.values.specs.Spelling.{Wrote, places};
@@ -16,11 +17,9 @@ pub fn digits(out: &mut [u8], at: usize, k: usize, n: u64) -> usize
     requires { at + k ≤ length out.old }
     ensures { Wrote out.old out.new at k (Digits·digits 10 k n) result }
 {
-    let mut i = k;
     let mut rest = n;
-    while 0 < i {
-        i -= 1;
-        out[at + i] = 48 + (rest % 10) as u8;
+    for i in (0..k).rev() {
+        out[at + i] = b'0' + (rest % 10) as u8;
         rest /= 10;
     }
     at + k
@@ -31,12 +30,8 @@ fn places(n: u64, least: usize) -> usize
     requires { (0 < least) × (least ≤ 20) }
     ensures { (result ≡ places least n) × (result ≤ 20) }
 {
-    let mut text = [0u8; 20];
-    let k = io::decimal(n, &mut text);
-    if k < least {
-        return least;
-    }
-    k
+    let count = n.max(1).ilog10() as usize + 1;
+    count.max(least)
 }
 
 // n with zeros in front up to `least` digits.

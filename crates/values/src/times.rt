@@ -12,16 +12,16 @@ fn put_year(out: &mut [u8], year: i64) -> usize
     requires { 48 ≤ length out.old }
     ensures { (result ≤ 21) × Wrote out.old out.new 0 (length (year_text year)) (year_text year) result }
 {
-    let bits = wire::i64_to_bits(year);
-    if bits < 10000 {
-        return spelling::digits(out, 0, 4, bits);
+    let size = year.unsigned_abs();
+    if year < 0 {
+        let at = spelling::mark(out, 0, b'-');
+        return spelling::padded(out, at, 4, size);
     }
-    if bits < 0x8000_0000_0000_0000 {
+    if 10000 <= size {
         let at = spelling::mark(out, 0, b'+');
-        return spelling::padded(out, at, 4, bits);
+        return spelling::padded(out, at, 4, size);
     }
-    let at = spelling::mark(out, 0, b'-');
-    spelling::padded(out, at, 4, 0xffff_ffff_ffff_ffff - bits + 1)
+    spelling::digits(out, 0, 4, size)
 }
 
 fn put_date(out: &mut [u8], days: i64) -> usize
@@ -31,9 +31,9 @@ fn put_date(out: &mut [u8], days: i64) -> usize
     let day = calendar::day_of(days);
     let at = put_year(out, day.year);
     let month = spelling::mark(out, at, b'-');
-    let next = spelling::digits(out, month, 2, day.month as u64);
+    let next = spelling::digits(out, month, 2, u64::from(day.month));
     let last = spelling::mark(out, next, b'-');
-    spelling::digits(out, last, 2, day.day as u64)
+    spelling::digits(out, last, 2, u64::from(day.day))
 }
 
 // 08:30:00
@@ -75,13 +75,32 @@ pub fn date(days: i64, out: &mut [u8; 48]) -> usize
     put_date(out, days)
 }
 
+// A time of day in parts of a second: `unit` of them are one, and their number has `count` digits.
+fn put_time(out: &mut [u8], unit: u64, count: usize, n: u64) -> usize
+    requires { (48 ≤ length out.old) × (0 < unit) × (count ≤ 9) }
+    ensures { (result ≤ 48) × Wrote out.old out.new 0 (length (time_text unit count n)) (time_text unit count n) result }
+{
+    let dot = put_clock(out, 0, n / unit);
+    put_fraction(out, dot, count, n % unit)
+}
+
+// A moment in such parts since 1970-01-01.
+fn put_instant(out: &mut [u8], unit: u64, count: usize, n: i64) -> usize
+    requires { (48 ≤ length out.old) × (0 < unit) × (unit ≤ 1000000000) × (count ≤ 9) }
+    ensures { (result ≤ 48) × Wrote out.old out.new 0 (length (moment_text unit count n)) (moment_text unit count n) result }
+{
+    let long = (86400 * unit) as i64;
+    let days = n.div_euclid(long) - 10957;
+    let part = n.rem_euclid(long) as u64;
+    put_moment(out, days, part / unit, part % unit, count)
+}
+
 // 08:30:00.123, for a number of milliseconds since midnight.
 pub fn time_of_day_milli(ms: u64, out: &mut [u8; 48]) -> usize
     ensures prefix_len { IsPrefixLen result out.new }
     ensures out_after { take result out.new ≡ time_text 1000 3 ms }
 {
-    let dot = put_clock(out, 0, ms / 1000);
-    put_fraction(out, dot, 3, ms % 1000)
+    put_time(out, 1000, 3, ms)
 }
 
 // 08:30:00.123456789
@@ -89,8 +108,7 @@ pub fn time_of_day_nano(ns: u64, out: &mut [u8; 48]) -> usize
     ensures prefix_len { IsPrefixLen result out.new }
     ensures out_after { take result out.new ≡ time_text 1000000000 9 ns }
 {
-    let dot = put_clock(out, 0, ns / 1000000000);
-    put_fraction(out, dot, 9, ns % 1000000000)
+    put_time(out, 1000000000, 9, ns)
 }
 
 // 2026-11-17T08:30:00.123Z, for a number of milliseconds since 1970-01-01.
@@ -98,16 +116,7 @@ pub fn millitime(ms: i64, out: &mut [u8; 48]) -> usize
     ensures prefix_len { IsPrefixLen result out.new }
     ensures out_after { take result out.new ≡ moment_text 1000 3 ms }
 {
-    let bits = wire::i64_to_bits(ms);
-    if bits < 0x8000_0000_0000_0000 {
-        let day = calendar::minus(bits / 86400000, 10957);
-        let n = bits % 86400000;
-        return put_moment(out, day, n / 1000, n % 1000, 3);
-    }
-    let before = 0xffff_ffff_ffff_ffff - bits;
-    let day = calendar::minus(0, before / 86400000 + 10958);
-    let n = 86399999 - before % 86400000;
-    put_moment(out, day, n / 1000, n % 1000, 3)
+    put_instant(out, 1000, 3, ms)
 }
 
 // 2026-11-17T08:30:00.123456789Z
@@ -115,14 +124,5 @@ pub fn nanotime(ns: i64, out: &mut [u8; 48]) -> usize
     ensures prefix_len { IsPrefixLen result out.new }
     ensures out_after { take result out.new ≡ moment_text 1000000000 9 ns }
 {
-    let bits = wire::i64_to_bits(ns);
-    if bits < 0x8000_0000_0000_0000 {
-        let day = calendar::minus(bits / 86400000000000, 10957);
-        let n = bits % 86400000000000;
-        return put_moment(out, day, n / 1000000000, n % 1000000000, 9);
-    }
-    let before = 0xffff_ffff_ffff_ffff - bits;
-    let day = calendar::minus(0, before / 86400000000000 + 10958);
-    let n = 86399999999999 - before % 86400000000000;
-    put_moment(out, day, n / 1000000000, n % 1000000000, 9)
+    put_instant(out, 1000000000, 9, ns)
 }

@@ -1,9 +1,6 @@
-use mathlib.Core.Path.{ap}
 use native.Mathlib.Omega.{arith}
-use Rattle.wire.specs.Bytes.{le}
-use lib.ListN.{take}
-use Rattle.rows.proofs.Numbers.{le_four}
+use Rattle.rows.proofs.Numbers.{le-none, le-more}
 use Rattle.rows.proofs.first_u32.Goals as goal
 
 pub returns : goal.returns
-returns c = let r = ap (λ s. le (take 2 s)) c.rest.ensures in omega (arith, le_four c.args.s.now, r, c.first_u16-2.ensures.0)
+returns c = (omega (arith, le-none c.args.s.now, le-more 0 c.args.s.now, le-more 1 c.args.s.now, le-more 2 c.args.s.now, le-more 3 c.args.s.now, c.first.ensures 0 (omega arith), c.first.ensures 1 (omega arith), c.first.ensures 2 (omega arith), c.first.ensures 3 (omega arith)), omega arith)

@@ -1,17 +1,19 @@
-use mathlib.Core.Path.{sym, ◌∙◌}
+use mathlib.Core.Path.{◌∙◌, refl}
+use Prim.Native.Nat.{◌*◌, ◌/◌}
 use native.Mathlib.Omega.{arith}
-use Rattle.rows.proofs.Places.{name-all, name-hit, name-skip, places-end}
+use lib.ListN.{length}
+use borrow.Author.Tests.{tests}
 use borrow.Author.Rules.{rules}
+use Rattle.std.proofs.lemmas.Iterator.{YieldsList-from_range, YieldsList-from_map}
+use Rattle.std.proofs.lemmas.Iterator.Consumers.{YieldsList-at}
+use Rattle.std.proofs.lemmas.Iterator.Search.{find_from_yields_List}
+use Rattle.rows.proofs.Places.{named, place-named}
 use Rattle.rows.proofs.group_named.Goals as goal
 
-pub loop-i-init : goal.loop-i-init
-loop-i-init c = (search rules, name-all c.args.table.now c.args.id)
-
-pub returns-then-is_named : goal.returns-then-is_named
-returns-then-is_named c = sym (c.loop-i.invariant.1 ∙ name-hit c.args.table.now c.loop-i.i (omega arith) c.args.id (cc (c.if-is_named.true, c.is_named.ensures, c.rest.ensures)))
-
-pub loop-i-preserved : goal.loop-i-preserved
-loop-i-preserved c = (search rules, c.loop-i.invariant.1 ∙ name-skip c.args.table.now c.loop-i.i (omega arith) c.args.id (cc (c.if-is_named.false, c.is_named.ensures, c.rest.ensures)))
-
 pub returns : goal.returns
-returns c = sym (c.loop-i.invariant.1 ∙ places-end c.args.table.now c.loop-i.i _ (omega arith))
+returns c = let t = c.args.table.now in
+    c.unwrap_or.ensures
+    ∙ place-named t c.args.id _
+    (find_from_yields_List (named t c.args.id) _ _ _ c.find.ensures.ran
+    (YieldsList-from_map _ (λ k. 16 * k) (YieldsList-at c.map.ensures.source (YieldsList-from_range 0 _ (length t / 16) refl (omega arith))) c.map.ensures.closure (λ x r q k. search (rules, tests)))
+    (λ x b q k. search (rules, tests)))

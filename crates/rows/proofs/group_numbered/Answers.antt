@@ -1,26 +1,20 @@
-use Prim.Native.Nat.{◌+◌}
-use mathlib.Core.Path.{sym, ap, ◌∙◌}
+use mathlib.Core.Path.{◌∙◌, refl}
+use Prim.Native.Nat.{◌*◌, ◌/◌}
 use native.Mathlib.Omega.{arith}
-use lib.ListN.{length, get_or}
-use Rattle.rows.proofs.Places.{places_left, number-all, number-hit, number-next, number-skip, places-end}
+use lib.ListN.{length, drop}
+use borrow.Author.Tests.{tests}
 use borrow.Author.Rules.{rules}
+use Rattle.std.proofs.lemmas.Iterator.{YieldsList-from_range, YieldsList-from_map}
+use Rattle.std.proofs.lemmas.Iterator.Consumers.{YieldsList-at, YieldsList-from_filter, nth_from_yields_List}
+use Rattle.schema.specs.Table.{group_marked}
+use Rattle.rows.proofs.Places.{place-numbered}
 use Rattle.rows.proofs.group_numbered.Goals as goal
-use Rattle.rows.proofs.group_numbered.Goals.{then-is_group+else-left-eq0, else-is_group}
-
-pub loop-i-init : goal.loop-i-init
-loop-i-init c = (search rules, number-all c.args.table.now c.args.number)
-
-pub returns-then-left-eq0 : goal.returns-then-left-eq0
-returns-then-left-eq0 c = sym (c.loop-i.invariant.1 ∙ number-hit c.args.table.now c.loop-i.i (omega arith) _ (cc (c.if-is_group.true, c.is_group.ensures, c.rest.ensures)) c.if-left-eq0.true)
-
-pub loop-i-preserved : goal.loop-i-preserved
-loop-i-preserved c = let t = c.args.table.now in let l = c.loop-i in (
-  search rules,
-  elim c.if-is_group.branch [
-    | then-is_group+else-left-eq0 w ↦ l.invariant.1 ∙ number-next t l.i (omega arith) l.left (cc (w.if-is_group.true, c.is_group.ensures, c.rest.ensures)) w.if-left-eq0.false ∙ ap (λ n. get_or (places_left t (l.i + 1)) n (length t)) (sym w.left-is)
-    | else-is_group w ↦ l.invariant.1 ∙ number-skip t l.i (omega arith) l.left (cc (w.if-is_group.false, c.is_group.ensures, c.rest.ensures)) ∙ ap (λ n. get_or (places_left t (l.i + 1)) n (length t)) (sym w.left-is)
-  ],
-)
 
 pub returns : goal.returns
-returns c = sym (c.loop-i.invariant.1 ∙ places-end c.args.table.now c.loop-i.i _ (omega arith))
+returns c = let t = c.args.table.now in
+    c.unwrap_or.ensures
+    ∙ place-numbered t c.args.number _
+    (nth_from_yields_List _ _ _ c.nth.ensures.ran
+    (YieldsList-from_filter _ (λ at. group_marked (drop at t))
+    (YieldsList-at c.filter.ensures.source (YieldsList-from_map _ (λ k. 16 * k) (YieldsList-at c.map.ensures.source (YieldsList-from_range 0 _ (length t / 16) refl (omega arith))) c.map.ensures.closure (λ x r q k. search (rules, tests))))
+    c.filter.ensures.closure (λ x r q k. search (rules, tests))))

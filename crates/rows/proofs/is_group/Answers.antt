@@ -1,5 +1,10 @@
 use Rattle.schema.specs.Table.{group_marked}
 use Rattle.rows.proofs.is_group.Goals as goal
 
-pub returns : goal.returns
-returns c = unfold group_marked in cc (c.has_mark.ensures, c.has_mark-2.ensures)
+pub returns-then-has_mark : goal.returns-then-has_mark
+unfolding group_marked
+returns-then-has_mark c = rw (← c.has_mark.ensures, c.if-has_mark.true)
+
+pub returns-else-has_mark : goal.returns-else-has_mark
+unfolding group_marked
+returns-else-has_mark c = rw (← c.has_mark.ensures, c.if-has_mark.false) c.has_mark-else-has_mark.ensures

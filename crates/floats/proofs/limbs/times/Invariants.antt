@@ -1,11 +1,8 @@
-use Prim.Native.Nat.{◌+◌, ◌-◌, ◌*◌, ◌^◌, ◌<◌, ◌≤◌}
+use Prim.Native.Nat.{◌+◌, ◌*◌, ◌^◌}
 use mathlib.Core.Path.{◌≡◌}
-use lib.ListN.{length, take, drop}
+use lib.ListN.{take, drop}
 use Rattle.floats.specs.Limbs.{value}
 use Rattle.floats.proofs.limbs.times.Given as goal
 
-abbrev pub invariant-loop-i : goal.invariant-loop-i
-invariant-loop-i l = (l.i ≤ length l.initial.a) × (length l.a ≡ length l.initial.a) × (l.over < 4294967296) × (drop l.i l.a ≡ drop l.i l.initial.a) × (value (take l.i l.a) + l.over * 4294967296 ^ l.i ≡ l.k * value (take l.i l.initial.a))
-
-abbrev pub decreases-loop-i : goal.decreases-loop-i
-decreases-loop-i l = length l.initial.a - l.i
+abbrev pub invariant-loop-x : goal.invariant-loop-x
+invariant-loop-x l = record { rest : drop l.x-index l.a ≡ drop l.x-index l.initial.a; front : value (take l.x-index l.a) + l.over * 4294967296 ^ l.x-index ≡ l.k * value (take l.x-index l.initial.a) }

@@ -1,16 +1,12 @@
-use mathlib.Core.Path.{◌∙◌}
-use mir.Syntax.{w64}
-use mir.Facts.{to_z-of_z}
-use borrow.Author.Rules.{sfits_of}
-use Rattle.values.proofs.Days.{in-year, in-next}
+use Prim.Native.Nat.{◌+◌}
+use native.Mathlib.Omega.{arith}
+use Rattle.values.proofs.Days.{difference, in-year, in-next}
 use Rattle.values.proofs.calendar.day_in.Goals as goal
-
-pub returns-then-m-lt10 : goal.returns-then-m-lt10
-returns-then-m-lt10 c = let a = c.args in
-    in-year a.n a.from a.less _ _ _ c.year_in-y.ensures.0 c.year_start.ensures c.if-m-lt10.true
-    (to_z-of_z {w = w64} {z = c.minus.result} (sfits_of c.minus.type_inv) ∙ c.minus.ensures)
+use Rattle.values.proofs.calendar.day_in.Goals.{then-m-lt10, else-m-lt10}
 
 pub returns : goal.returns
-returns c = let a = c.args in
-    in-next a.n a.from a.less _ _ _ c.year_in-y.ensures.0 c.year_start.ensures c.if-m-lt10.false
-    (to_z-of_z {w = w64} {z = c.minus-2.result} (sfits_of c.minus-2.type_inv) ∙ c.minus-2.ensures)
+returns c = let a = c.args in let y = c.year_in-y in
+    elim c.if-m-lt10.branch [
+      | then-m-lt10 w ↦ rw w.year-is (in-year a.n a.from a.less _ _ _ y.ensures.0 c.year_start.ensures w.if-m-lt10.true (difference (a.from + y.result) a.less (omega arith) (omega arith)))
+      | else-m-lt10 w ↦ rw w.year-is (in-next a.n a.from a.less _ _ _ y.ensures.0 c.year_start.ensures w.if-m-lt10.false (difference (a.from + y.result + 1) a.less (omega arith) (omega arith)))
+    ]

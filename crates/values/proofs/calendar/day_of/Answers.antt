@@ -1,12 +1,14 @@
-use mathlib.Core.Path.{sym, ap, ◌∙◌}
-use Rattle.values.specs.Calendar.{day_of}
-use Rattle.values.proofs.Days.{not_negative, negative}
+use mathlib.Core.Path.{◌∙◌}
+use Rattle.std.proofs.lemmas.Int.{to_z-of_z}
+use mir.Syntax.{w64}
+use Rattle.values.proofs.Days.{day-before, day-from}
 use Rattle.values.proofs.calendar.day_of.Goals as goal
 
-pub returns-then-bits-lt9223372036854775808 : goal.returns-then-bits-lt9223372036854775808
-unfolding day_of
-returns-then-bits-lt9223372036854775808 c = c.day_in.ensures ∙ sym (ap day_of (not_negative _ c.args.days c.ranges.days c.i64_to_bits-bits.ensures c.if-bits-lt9223372036854775808.true))
+pub returns-then-days-lt0 : goal.returns-then-days-lt0
+returns-then-days-lt0 c = let e = to_z-of_z w64 c.args.days c.ranges.days in
+    let u = c.unsigned_abs-n.ensures.value in
+    c.day_in.ensures ∙ rw (u, e) (day-before c.args.days (rw e at c.if-days-lt0.true))
 
 pub returns : goal.returns
-unfolding day_of
-returns c = c.day_in-2.ensures ∙ sym (ap day_of (negative _ c.args.days c.ranges.days c.i64_to_bits-bits.ensures c.if-bits-lt9223372036854775808.false))
+returns c = let e = to_z-of_z w64 c.args.days c.ranges.days in
+    c.day_in-2.ensures ∙ rw e (day-from c.args.days (rw e at c.if-days-lt0.false))

@@ -1,27 +1,41 @@
-use Prim.Native.Nat.{◌-◌}
-use mathlib.Core.Path.{sym, ◌∙◌}
+use Prim.Native.Nat.{◌-◌, ◌<◌}
+use mathlib.Core.Path.{◌≡◌, ap}
+use mathlib.Core.Bool.{true, false}
 use native.Mathlib.Omega.{arith}
+use borrow.Author.Rules.{rules}
 use lib.ListN.{length}
-use Rattle.values.specs.Characters.{plain_run}
-use Rattle.values.proofs.Texts.{run_on, run-stop, run_end}
+use Rattle.values.specs.declared.characters.Kind.TheVariants.{Plain}
+use Rattle.values.specs.Characters.{is_plain, plain_run}
+use Rattle.values.proofs.Texts.{run_on, run-stop, plain_inside}
 use Rattle.values.proofs.characters.plain_run.Goals as goal
 
-pub loop-i-init : goal.loop-i-init
+pub loop-length-init : goal.loop-length-init
 unfolding plain_run
-loop-i-init c = (length c.args.text.now, omega arith, omega arith, omega arith, omega arith)
+loop-length-init c = (length c.args.text.now, omega arith, omega arith, omega arith, omega arith)
 
-pub returns-then-not-is_plain : goal.returns-then-not-is_plain
-returns-then-not-is_plain c = let v = c.loop-i.invariant in
-    let z = run-stop c.args.text.now c.loop-i.i _ c.piece_at-piece.ensures.value v.0 (sym c.is_plain.ensures ∙ c.if-not-is_plain.true) in
-    record { value = omega (arith, v.4, z); result_bound = omega (arith, v.1, v.2) }
+plain : (c : goal.In-Plain) → is_plain c.piece_at.result.kind ≡ true
+unfolding is_plain
+plain c = let h : c.piece_at.result.kind ≡ Plain = cc in ap is_plain h
 
-pub loop-i-preserved : goal.loop-i-preserved
-loop-i-preserved c = let v = c.loop-i.invariant in
-    let st = c.piece_at-piece.ensures.stays in
-    let z = run_on c.args.text.now c.loop-i.i _ c.piece_at-piece.ensures.value v.0 (omega (arith, v.3, c.loop-i-test.true)) (sym c.is_plain.ensures ∙ c.if-not-is_plain.false) in
+inside : (c : goal.In-Plain) → c.loop-length.end < length c.args.text.now
+inside c = plain_inside c.args.text.now c.loop-length.end _ c.piece_at.ensures.value (plain c)
+
+pub overflow_add-end : goal.overflow_add-end
+overflow_add-end c = let st = c.piece_at.ensures.stays in omega (arith, inside c, st.inside)
+
+pub loop-length-smaller : goal.loop-length-smaller
+loop-length-smaller c = let st = c.piece_at.ensures.stays in omega (arith, inside c, st.some)
+
+pub loop-length-preserved : goal.loop-length-preserved
+loop-length-preserved c = let v = c.loop-length.invariant in
+    let st = c.piece_at.ensures.stays in
+    let l = inside c in
+    let z = run_on c.args.text.now c.loop-length.end _ c.piece_at.ensures.value v.0 (omega (arith, v.3)) (plain c) in
     (v.0 - 1, omega (arith, v.1), omega (arith, v.2, st.inside), omega (arith, v.3, st.some), omega (arith, v.4, v.1, z))
 
-pub returns : goal.returns
-returns c = let v = c.loop-i.invariant in
-    let z = run_end c.args.text.now c.loop-i.i v.0 c.loop-i-test.false in
-    record { value = omega (arith, v.4, z); result_bound = omega (arith, v.1, v.2) }
+pub returns-clause-value : goal.returns-clause-value
+unfolding is_plain
+returns-clause-value c = let v = c.loop-length.invariant in
+    let h : is_plain c.piece_at.result.kind ≡ false = search rules in
+    let z = run-stop c.args.text.now c.loop-length.end _ c.piece_at.ensures.value v.0 h in
+    omega (arith, v.4, z)

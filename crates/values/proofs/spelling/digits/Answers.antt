@@ -1,15 +1,14 @@
 use mathlib.Core.Path.{refl, sym, ◌∙◌}
 use native.Mathlib.Omega.{arith}
 use Rattle.values.proofs.Rooms.{length_digits, digits-turn, digits-end}
-use borrow.Author.Rules.{rules}
 use Rattle.values.proofs.spelling.digits.Goals as goal
 
 pub loop-i-init : goal.loop-i-init
-loop-i-init c = (search rules, refl, refl)
+loop-i-init c = refl
 
 pub loop-i-preserved : goal.loop-i-preserved
-loop-i-preserved c = (search rules, search rules, c.loop-i.invariant.2 ∙ digits-turn c.loop-i.i c.args.at c.loop-i.rest c.loop-i.out c.loop-i-test.true (omega arith))
+loop-i-preserved c = let l = c.loop-i in l.invariant ∙ digits-turn l.i c.args.at l.rest l.out c.loop-i-test.true (omega arith)
 
 pub returns : goal.returns
-returns c = let a = c.args in
-    record { next = refl; size = length_digits a.k a.n; kept = c.loop-i.invariant.1; wrote = sym (c.loop-i.invariant.2 ∙ digits-end c.loop-i.i a.at c.loop-i.rest c.loop-i.out c.loop-i-test.false) }
+returns c = let a = c.args in let l = c.loop-i in
+    record { next = refl; size = length_digits a.k a.n; kept = l.auto.out; wrote = sym (l.invariant ∙ digits-end l.i a.at l.rest l.out c.loop-i-test.false) }

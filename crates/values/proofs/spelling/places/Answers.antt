@@ -1,15 +1,8 @@
+use mathlib.Core.Path.{◌∙◌}
 use native.Mathlib.Omega.{arith}
-use Rattle.values.proofs.Rooms.{places-least, places_count, at_most}
+use Rattle.values.proofs.Rooms.{places-count}
 use Rattle.values.proofs.spelling.places.Goals as goal
 
-pub returns-then-k-least : goal.returns-then-k-least
-returns-then-k-least c = let a = c.args in
-    let p = c.requires in
-    let m = at_most a.n c.decimal-k.result (omega arith) c.decimal-k.ensures.len in
-    (places-least a.least a.n c.decimal-k.result p.0 p.1 m c.decimal-k.ensures.len c.if-k-least.true, omega arith)
-
 pub returns : goal.returns
-returns c = let a = c.args in
-    let p = c.requires in
-    let m = at_most a.n c.decimal-k.result (omega arith) c.decimal-k.ensures.len in
-    (places_count a.least a.n c.decimal-k.result p.0 p.1 m c.decimal-k.ensures.len c.if-k-least.false, omega arith)
+returns c = let k = c.ilog10.ensures in let m = c.max.ensures in
+    (c.max-2.ensures ∙ places-count c.args.least c.args.n c.ilog10.result c.requires.0 c.requires.1 k.bound (rw m at k.power_le) (rw m at k.next_power_gt), omega (arith, k.bound))

@@ -13,5 +13,5 @@ returns c = let y = c.put_year-at.ensures in
     let t3 = wrote_then t2 c.mark-last.ensures (omega (arith, c.requires, y.0, c.mark-month.ensures.next, c.digits-next.ensures.next, c.mark-last.ensures.next)) in
     let t4 = wrote_then t3 c.digits.ensures (omega (arith, c.requires, y.0, c.mark-month.ensures.next, c.digits-next.ensures.next, c.mark-last.ensures.next, c.digits.ensures.next)) in (
       omega (arith, y.0, c.mark-month.ensures.next, c.digits-next.ensures.next, c.mark-last.ensures.next, c.digits.ensures.next),
-      wrote-text _ t4 (date-is c.day_of-day.result _ c.args.days _ c.day_of-day.ensures (to_z-of_z {w = w64} c.ranges.days) (search rules)),
+      wrote-text _ t4 (date-is c.day_of-day.result _ c.args.days _ c.from.result c.from-2.result c.day_of-day.ensures (to_z-of_z {w = w64} c.ranges.days) (search rules) c.from.ensures c.from-2.ensures),
     )

@@ -19,12 +19,8 @@ pub fn writes(question: Question) -> bool
     ensures { result ≡ writes question }
 {
     match question {
-        Question::Read { field: _, item: _ } => false,
-        Question::Show => false,
-        Question::Dump => false,
-        Question::Sheet => true,
-        Question::Write => true,
-        Question::Rewrite => true,
+        Question::Read { .. } | Question::Show | Question::Dump => false,
+        Question::Sheet | Question::Write | Question::Rewrite => true,
     }
 }
 
@@ -33,12 +29,8 @@ fn spares_input(question: Question) -> bool
     ensures { result ≡ spares_input question }
 {
     match question {
-        Question::Read { field: _, item: _ } => false,
-        Question::Show => false,
-        Question::Dump => false,
-        Question::Sheet => true,
-        Question::Write => true,
-        Question::Rewrite => false,
+        Question::Read { .. } | Question::Show | Question::Dump | Question::Rewrite => false,
+        Question::Sheet | Question::Write => true,
     }
 }
 

@@ -119,6 +119,7 @@ fn check_messages(
 }
 
 // How much room the input takes: one byte more than a sheet or a message may have, so that a longer one is refused by its number.
+#[tactic(auto, unfolding(crate::specs::Questions::room_of))]
 fn room_of(question: Question) -> usize
     ensures { result ≡ room_of question }
 {
@@ -295,6 +296,7 @@ fn ask(
 // THE COMMAND
 
 // With no options a message is asked about with no store, so that nothing is ignored.
+#[tactic(auto, unfolding(crate::specs::Questions::customer_of))]
 fn customer_of(options: Option<u16>) -> u16
     ensures { result ≡ customer_of options }
 {

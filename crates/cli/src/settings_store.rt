@@ -26,6 +26,7 @@ pub fn fits(rt: &HostRuntime, i: usize, length: usize) -> bool {
 }
 
 // Which plain argument names the store.
+#[tactic(auto, unfolding(crate::specs::Questions::store_at))]
 fn place(question: StoreQuestion) -> usize
     ensures { result ≡ store_at question }
 {

@@ -3,7 +3,7 @@
 //
 // `options` refuses an option whose value is missing or is an option. So an argument is plain if neither it nor the one before it is an
 // option.
-ghost use Rattle.std.specs.Prelude.{◌≡◌, ◌<◌, ◌≤◌, ◌-◌, true, length};
+ghost use Rattle.std.specs.Prelude.{◌≡◌, ◌<◌, ◌≤◌, ◌-◌, true, length, IfSome};
 ghost use Rattle.std.specs.Iterator.{at_most};
 
 use crate::words;
@@ -18,7 +18,9 @@ pub fn is_there(rt: &HostRuntime, i: usize) -> bool
 }
 
 // Argument `i`, in the room; of a longer one, as much as fits, and of one that is missing, nothing.
-pub fn read<'a>(rt: &HostRuntime, i: usize, room: &'a mut [u8]) -> &'a [u8] {
+pub fn read<'a>(rt: &HostRuntime, i: usize, room: &'a mut [u8]) -> &'a [u8]
+    ensures { length result.now ≤ length room.old }
+{
     match rt.arg(i, room) {
         Ok(n) => &room[..n],
         Err(FillError::TooLong) => room,
@@ -27,7 +29,9 @@ pub fn read<'a>(rt: &HostRuntime, i: usize, room: &'a mut [u8]) -> &'a [u8] {
 }
 
 // The same; of one that is longer than the room, nothing.
-pub fn read_whole<'a>(rt: &HostRuntime, i: usize, room: &'a mut [u8]) -> &'a [u8] {
+pub fn read_whole<'a>(rt: &HostRuntime, i: usize, room: &'a mut [u8]) -> &'a [u8]
+    ensures { length result.now ≤ length room.old }
+{
     match rt.arg(i, room) {
         Ok(n) => &room[..n],
         Err(_) => &[],
@@ -70,13 +74,17 @@ pub struct PlainIndices<'a> {
 }
 
 impl<'a> PlainIndices<'a> {
-    pub fn new(rt: &'a HostRuntime) -> PlainIndices<'a> {
+    pub fn new(rt: &'a HostRuntime) -> PlainIndices<'a>
+        ensures { result.next ≡ 1 }
+    {
         PlainIndices { rt, next: 1 }
     }
 }
 
 impl Iterator for PlainIndices<'_> {
     type Item = usize;
+
+    ghost next_gives = { λ s r t. IfSome r (λ i. (s.next ≤ i) × (i < t.next)) };
 
     ghost remaining = { λ s. at_most (18446744073709551615 - s.next) };
 

@@ -15,6 +15,7 @@ use printing::print::Page;
 use std::io::{Error, ErrorKind};
 
 // Whether the question writes a file.
+#[tactic(auto, unfolding(crate::specs::Destinations::writes))]
 pub fn writes(question: Question) -> bool
     ensures { result ≡ writes question }
 {
@@ -25,6 +26,7 @@ pub fn writes(question: Question) -> bool
 }
 
 // Whether OUT may not be the message or the sheet that is asked about. A message may be rewritten in its place.
+#[tactic(auto, unfolding(crate::specs::Destinations::spares_input))]
 fn spares_input(question: Question) -> bool
     ensures { result ≡ spares_input question }
 {

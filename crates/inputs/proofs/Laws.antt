@@ -1,5 +1,5 @@
 -- Laws of words, and of numbers as text.
-use Rattle.std.proofs.Common.{rules, arith, refl, sym, ◌∙◌, ap, List, [], ◌∷◌, ◌++◌, ℕ, ◌≡◌, ◌≢◌, ◌<◌, ◌^◌, Bool, true, false, cond, ◌&&◌, length, get_or, drop, Option, Some, None, Result, Ok, Err}
+use Rattle.std.proofs.Common.{rules, arith, refl, ap, List, [], ◌∷◌, ℕ, ◌≡◌, ◌≢◌, ◌<◌, ◌^◌, Bool, true, false, cond, ◌&&◌, length, get_or, Some, None, Result, Ok, Err}
 use Rattle.std.specs.Bool.{Decides}
 use Rattle.std.specs.List.{starts_with}
 use Rattle.std.specs.Result.{OkIff, result_ok}

@@ -2,6 +2,7 @@
 use crate::rooms;
 use answers::outcome::Outcome;
 use answers::{outcome, questions, refusal};
+use inputs::arguments::PlainIndices;
 use inputs::{arguments, command};
 use printing::print::Page;
 use printing::{letters, print};
@@ -30,9 +31,7 @@ fn check_one(
 
 // The name of the file that argument `i` names.
 fn print_name(rt: &HostRuntime, page: &mut Page, i: usize) {
-    let mut name = io::buffer();
-    let n = arguments::read(rt, i, &mut name);
-    letters::print_text(page, rows::part(&name, 0, n));
+    letters::print_text(page, arguments::read(rt, i, &mut io::buffer()));
     print::text(page, b": ");
 }
 
@@ -66,11 +65,9 @@ fn check_each(
     scratch: &mut [u8],
 ) -> Outcome {
     let mut worst = Outcome::Answered;
-    let mut i = arguments::plain(rt, command::INPUT);
-    while arguments::is_there(rt, i) {
+    for i in PlainIndices::new(rt).skip(command::INPUT - 1) {
         let next = check_at(rt, page, i, table, store, customer, room, scratch);
         worst = outcome::worse(worst, next);
-        i = arguments::next_plain(rt, i);
     }
     worst
 }

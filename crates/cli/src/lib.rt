@@ -14,7 +14,6 @@ use answers::outcome::Outcome;
 use answers::{outcome, questions, refusal};
 use files::loading;
 use inputs::command::{Command, Question};
-use inputs::options::Options;
 use inputs::{arguments, command, help, options, request};
 use printing::print;
 use printing::print::Page;
@@ -64,10 +63,9 @@ fn read_table(rt: &HostRuntime, room: &mut [u8]) -> Input {
 
 // The store that the options name. None is an empty one, which has no settings.
 fn read_store(rt: &HostRuntime, room: &mut [u8]) -> Input {
-    let i = options::store(rt);
-    if i == 0 {
+    let Some(i) = options::store(rt) else {
         return loaded::none();
-    }
+    };
     let read = loaded::read(rt, i, room);
     let of = read.of;
     Input {
@@ -121,16 +119,17 @@ fn check_messages(
 }
 
 // How much room the input takes: one byte more than a sheet or a message may have, so that a longer one is refused by its number.
+#[tactic(auto, unfolding(crate::specs::Questions::room_of))]
 fn room_of(question: Question) -> usize
     ensures { result ≡ room_of question }
 {
     match question {
-        Question::Read { field: _, item: _ } => 65537,
-        Question::Show => 65537,
-        Question::Dump => 65537,
-        Question::Sheet => 65537,
+        Question::Read { .. }
+        | Question::Show
+        | Question::Dump
+        | Question::Sheet
+        | Question::Rewrite => 65537,
         Question::Write => 1048577,
-        Question::Rewrite => 65537,
     }
 }
 
@@ -297,14 +296,11 @@ fn ask(
 // THE COMMAND
 
 // With no options a message is asked about with no store, so that nothing is ignored.
-fn customer_of(options: Options) -> u16
+#[tactic(auto, unfolding(crate::specs::Questions::customer_of))]
+fn customer_of(options: Option<u16>) -> u16
     ensures { result ≡ customer_of options }
 {
-    match options {
-        Options::Missing => 0,
-        Options::Given { customer } => customer,
-        Options::Wrong => 0,
-    }
+    options.unwrap_or(0)
 }
 
 // What needs no room.
@@ -346,9 +342,10 @@ fn run(
     output: &mut [u8],
     labels: &mut [u64],
 ) -> Outcome {
-    let request = request::read(rt);
-    let options = request.options;
-    let customer = customer_of(options);
+    let Ok(request) = request::read(rt) else {
+        return refusal::fail(page);
+    };
+    let customer = customer_of(request.customer);
     let command = request.command;
     match command {
         Command::Message { question } => ask(

@@ -26,22 +26,13 @@ pub fn fits(rt: &HostRuntime, i: usize, length: usize) -> bool {
 }
 
 // Which plain argument names the store.
+#[tactic(auto, unfolding(crate::specs::Questions::store_at))]
 fn place(question: StoreQuestion) -> usize
     ensures { result ≡ store_at question }
 {
     match question {
         StoreQuestion::List => store_command::LISTED,
-        StoreQuestion::Get {
-            customer: _,
-            version: _,
-        } => store_command::STORE,
-        StoreQuestion::Add {
-            customer: _,
-            version: _,
-            absent: _,
-            pads: _,
-            unused: _,
-        } => store_command::STORE,
+        StoreQuestion::Get { .. } | StoreQuestion::Add { .. } => store_command::STORE,
     }
 }
 
@@ -79,10 +70,8 @@ fn answer(rt: &HostRuntime, page: &mut Page, question: StoreQuestion, store: &mu
         StoreQuestion::Add {
             customer,
             version,
-            absent,
-            pads,
-            unused,
-        } => add(rt, page, store, customer, version, absent, pads, unused),
+            ignored,
+        } => add(rt, page, store, customer, version, ignored),
     }
 }
 
@@ -122,11 +111,16 @@ fn add(
     store: &mut [u8],
     customer: u16,
     version: u16,
-    absent: u8,
-    pads: u8,
-    unused: u8,
+    ignored: store_command::Ignored,
 ) -> Outcome {
-    let v = codec::add_settings(store, customer, version, absent, pads, unused);
+    let v = codec::add_settings(
+        store,
+        customer,
+        version,
+        ignored.absent,
+        ignored.pads,
+        ignored.unused,
+    );
     match v {
         Verdict::Accepted => destination::replace(
             rt,

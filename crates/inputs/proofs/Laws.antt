@@ -1,84 +1,60 @@
--- Laws of words, of numbers as text, and of how many arguments a command takes.
-use Prim.Native.Nat.{ℕ, ◌+◌, ◌-◌, ◌*◌, ◌<◌, ◌≤◌}
-use mathlib.Core.Path.{◌≡◌, refl, ap}
-use mathlib.Core.Bool.{Bool, true, false, cond, ◌&&◌, and-false, or-true}
-use mathlib.Core.List.{List, [], ◌∷◌}
-use native.Mathlib.Omega.{arith}
-use lib.ListN.{length, get_or, drop}
-use lib.Seq.{drop-length, take_all}
-use lib.Dec.{ltb}
-use borrow.Author.Tests.{lt-ltb, le-ltb, le-leb, lt-leb}
-use Rattle.wire.specs.Bytes.{part, same}
-use Rattle.wire.proofs.Laws.{drop_more, same-eq}
-use Rattle.inputs.specs.declared.numbers.Count.{Count}
-use Rattle.inputs.specs.declared.numbers.Count.TheVariants.{Is, Wrong as NoCount}
-use Rattle.inputs.specs.declared.words.Word.{Word}
-use Rattle.inputs.specs.declared.store_command.Ignored.{Ignored}
-use Rattle.inputs.specs.declared.command.Command.TheVariants.{Wrong}
-use Rattle.inputs.specs.Commands.{least_of, most_of, asked_of, command_of}
+-- Laws of words, and of numbers as text.
+use Rattle.std.proofs.Common.{rules, arith, refl, ap, List, [], ◌∷◌, ℕ, ◌≡◌, ◌≢◌, ◌<◌, ◌^◌, Bool, true, false, cond, ◌&&◌, length, get_or, Some, None, Result, Ok, Err}
+use Rattle.std.specs.Bool.{Decides}
+use Rattle.std.specs.List.{starts_with}
+use Rattle.std.specs.Result.{OkIff, result_ok}
+use Rattle.std.specs.Str.{IsUtf8}
+use Rattle.std.specs.Str.Parse.{ParsesUnsigned}
+use Rattle.std.proofs.lemmas.Bool.Decides.{Decides-eqb}
+use Rattle.std.proofs.lemmas.Fmt.{IsAscii-from_digits}
+use Rattle.std.proofs.lemmas.Slice.Eq.{compares_Decides, starts_is}
+use Rattle.std.proofs.lemmas.Str.{IsUtf8-from_ascii}
+use Rattle.std.proofs.lemmas.Str.Parse.{IsNumeralModel, numerals_by_fold, not_in_digits, parse_plain}
+use lib.Dec.{eqb, ltb}
+use mathlib.Core.Bool.{and-eq-true_iff}
+use Rattle.std.proofs.lemmas.Bool.{lt-ltb, ltb-true}
+use Rattle.wire.specs.Bytes.{same}
 use Rattle.inputs.specs.Numbers.{all_digits, value_from, decimal_of}
 
 -- WORDS
 
-pub same_not : (x y : List ℕ) → (length x ≡ length y → ⊥) → same x y ≡ false
-same_not x y h = go (same x y) refl
-  where
-    go : (t : Bool) → same x y ≡ t → t ≡ false
-    go true e = absurd (h (ap length (same-eq x y e)))
-    go false e = refl
-
-pub same_whole : (n : ℕ) (x y : List ℕ) → length x ≡ n → length y ≡ n → same (part n 0 x) (part n 0 y) ≡ same x y
-same_whole n x y h k = rw (take_all n x (omega arith), take_all n y (omega arith))
+pub same-decides : (x y : List ℕ) → Decides (same x y) (x ≡ y)
+unfolding same
+same-decides = compares_Decides same (search rules)
 
 -- NUMBERS
 
--- the number of digits that follow those of n
-unfoldable pub number_from : ℕ → List ℕ → Count
-number_from n s = cond (all_digits s && ltb (value_from n s) 18446744073709551616) (Is (value_from n s)) NoCount
+numerals : IsNumeralModel (λ s. all_digits s ≡ true) (value_from 0)
+unfolding all_digits value_from
+numerals = numerals_by_fold _ (search rules) value_from (search rules)
 
-pub number-all : (s : List ℕ) → (length s ≡ 0 → ⊥) → decimal_of s ≡ number_from 0 s
-unfolding decimal_of number_from
-number-all s h = rw (lt-ltb 0 (length s) (omega arith))
+-- what keeps a text from being a number
+none : (s : List ℕ) → (all_digits s ≡ true → 0 < length s → value_from 0 s < 18446744073709551616 → ⊥) → None ≡ decimal_of s
+unfolding decimal_of
+none s h = go _ refl
+  where
+    go : (b : Bool) → (ltb 0 (length s) && (all_digits s && ltb (value_from 0 s) 18446744073709551616)) ≡ b → None ≡ cond b (Some (value_from 0 s)) None
+    go false e = refl
+    go true e =
+        let f = (and-eq-true_iff (ltb 0 (length s)) (all_digits s && ltb (value_from 0 s) 18446744073709551616)).0 e in
+        let g = (and-eq-true_iff (all_digits s) (ltb (value_from 0 s) 18446744073709551616)).0 f.1 in
+        absurd (h g.0 (ltb-true _ _ f.0) (ltb-true _ _ g.1))
 
-value-least : (n : ℕ) (s : List ℕ) → n ≤ value_from n s
-unfolding value_from
-value-least n [] = omega arith
-value-least n (d ∷ s) = let l = value-least (10 * n + (d - 48)) s in omega arith
+pub number-not_text : (s : List ℕ) → (IsUtf8 s → ⊥) → None ≡ decimal_of s
+number-not_text s h = none s (λ d _ _. h (IsUtf8-from_ascii s (IsAscii-from_digits s (numerals.to s d))))
 
-module _ (n i : ℕ) (s : List ℕ) where
-  pub number-low : i < length s → get_or s i 0 < 48 → number_from n (drop i s) ≡ NoCount
-  unfolding number_from all_digits
-  number-low h l = rw (drop_more s i h, lt-leb 48 _ l)
+pub number-plus : (s : List ℕ) (r : Bool) → r ≡ starts_with eqb s (43 ∷ []) → r ≡ true → None ≡ decimal_of s
+number-plus s r h e =
+    none s (λ d l _. not_in_digits numerals s 43 d (λ i. omega (arith, i.0)) 0 l (ap (λ t. get_or t 0 0) ((starts_is Decides-eqb s (43 ∷ []) r h).0 e)))
 
-  pub number-high : i < length s → 57 < get_or s i 0 → number_from n (drop i s) ≡ NoCount
-  unfolding number_from all_digits
-  number-high h l = rw (drop_more s i h, le-leb 48 (get_or s i 0) (omega arith), lt-leb (get_or s i 0) 57 l)
+no_plus : (s : List ℕ) (r : Bool) → r ≡ starts_with eqb s (43 ∷ []) → r ≡ false → get_or s 0 0 ≢ 43
+no_plus [] r h e f = omega (arith, f)
+no_plus (d ∷ ds) r h e f = let t = (starts_is Decides-eqb (d ∷ ds) (43 ∷ []) r h).1 ds (ap (λ x. x ∷ ds) f) in cc
 
-  pub number-large : i < length s → 18446744073709551615 < 10 * n + (get_or s i 0 - 48) → number_from n (drop i s) ≡ NoCount
-  unfolding number_from value_from
-  number-large h l =
-      let m = value-least (10 * n + (get_or s i 0 - 48)) (drop (i + 1) s) in
-      rw (drop_more s i h, le-ltb (value_from (10 * n + (get_or s i 0 - 48)) (drop (i + 1) s)) 18446744073709551616 (omega arith), and-false)
-
-  pub number-turn : i < length s → 48 ≤ get_or s i 0 → get_or s i 0 ≤ 57 → number_from n (drop i s) ≡ number_from (10 * n + (get_or s i 0 - 48)) (drop (i + 1) s)
-  unfolding number_from all_digits value_from
-  number-turn h l m = rw (drop_more s i h, le-leb 48 (get_or s i 0) l, le-leb (get_or s i 0) 57 m)
-
-  pub number-end : i ≡ length s → n < 18446744073709551616 → number_from n (drop i s) ≡ Is n
-  unfolding number_from all_digits value_from
-  number-end e h = rw (e, drop-length s, lt-ltb n 18446744073709551616 h)
-
--- COMMANDS
-
-module _ (w : Word) (last : ℕ) (second fourth fifth : Count) (ignored : Ignored) where
-  pub too_few : last < least_of w → command_of w last second fourth fifth ignored ≡ Wrong
-  unfolding command_of
-  too_few h = rw (lt-ltb last (least_of w) h)
-
-  pub too_many : most_of w < last → command_of w last second fourth fifth ignored ≡ Wrong
-  unfolding command_of
-  too_many h = rw (lt-ltb (most_of w) last h, or-true)
-
-  pub as_many : least_of w ≤ last → last ≤ most_of w → command_of w last second fourth fifth ignored ≡ asked_of w last second fourth fifth ignored
-  unfolding command_of
-  as_many h k = rw (le-ltb last (least_of w) h, le-ltb (most_of w) last k)
+pub number-parsed : {E : Type 0} (s : List ℕ) (r : Bool) → r ≡ starts_with eqb s (43 ∷ []) → r ≡ false → (n : Result ℕ E) → ParsesUnsigned 64 10 s n → result_ok n ≡ decimal_of s
+unfolding decimal_of
+number-parsed {E = E} s r h e n p = go n (parse_plain numerals 64 s n p (no_plus s r h e))
+  where
+    go : (n : Result ℕ E) → OkIff n ((all_digits s ≡ true) × (0 < length s) × (value_from 0 s < 2 ^ 64)) (value_from 0 s) → result_ok n ≡ decimal_of s
+    go (Ok x) (q, v) = rw (lt-ltb 0 (length s) q.1, q.0, lt-ltb (value_from 0 s) 18446744073709551616 (omega (arith, q.2))) (ap Some v)
+    go (Err _) q = none s (λ a b c. q (a, b, omega (arith, c)))

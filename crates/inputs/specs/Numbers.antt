@@ -1,9 +1,5 @@
 -- Numbers as text.
-use Rattle.std.specs.Prelude.{Bool, true, cond, ◌&&◌, List, [], ◌∷◌, ℕ, ◌+◌, ◌-◌, ◌*◌, length, leb, ltb}
-use Rattle.inputs.specs.declared.numbers.Count.{Count}
-use Rattle.inputs.specs.declared.numbers.Count.TheVariants.{Is, Wrong}
-use Rattle.inputs.specs.declared.numbers.Short.{Short}
-use Rattle.inputs.specs.declared.numbers.Short.TheVariants.{Is as IsShort, Wrong as NoShort}
+use Rattle.std.specs.Prelude.{Bool, true, cond, ◌&&◌, List, [], ◌∷◌, ℕ, ◌+◌, ◌-◌, ◌*◌, length, leb, ltb, Option, Some, None}
 
 -- 48 is the digit 0, and 57 the digit 9.
 unfoldable pub all_digits : List ℕ → Bool
@@ -16,9 +12,9 @@ value_from n [] = n
 value_from n (d ∷ ds) = value_from (10 * n + (d - 48)) ds
 
 -- A number is digits, at least one, and below 2 ^ 64.
-unfoldable pub decimal_of : List ℕ → Count
-decimal_of s = cond (ltb 0 (length s) && (all_digits s && ltb (value_from 0 s) 18446744073709551616)) (Is (value_from 0 s)) Wrong
+unfoldable pub decimal_of : List ℕ → Option ℕ
+decimal_of s = cond (ltb 0 (length s) && (all_digits s && ltb (value_from 0 s) 18446744073709551616)) (Some (value_from 0 s)) None
 
-unfoldable pub short_of : Count → Short
-short_of (Is n) = cond (leb n 65535) (IsShort n) NoShort
-short_of Wrong = NoShort
+unfoldable pub short_of : Option ℕ → Option ℕ
+short_of (Some n) = cond (leb n 65535) (Some n) None
+short_of None = None

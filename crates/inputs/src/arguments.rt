@@ -3,61 +3,48 @@
 //
 // `options` refuses an option whose value is missing or is an option. So an argument is plain if neither it nor the one before it is an
 // option.
-ghost use Rattle.std.specs.Prelude.{◌≡◌, ◌<◌, true};
-ghost use Rattle.io.specs.Counts.{IsPrefixLen};
+ghost use Rattle.std.specs.Prelude.{◌≡◌, ◌<◌, ◌≤◌, ◌-◌, true, length, IfSome};
+ghost use Rattle.std.specs.Iterator.{at_most};
 
 use crate::words;
 use std::env::FillError;
 use std::rt::Env;
 
-const MOST: usize = 0xffff_ffff_ffff_ffff;
-
 // Whether there is an argument `i`.
 pub fn is_there(rt: &HostRuntime, i: usize) -> bool
     ensures { result ≡ true → i < 18446744073709551615 }
 {
-    if i == MOST {
-        return false;
-    }
-    match rt.arg(i, &mut [0u8; 0]) {
-        Ok(_) => true,
-        Err(FillError::TooLong) => true,
-        Err(FillError::NotPresent) => false,
+    i < usize::MAX && !matches!(rt.arg(i, &mut []), Err(FillError::NotPresent))
+}
+
+// Argument `i`, in the room; of a longer one, as much as fits, and of one that is missing, nothing.
+pub fn read<'a>(rt: &HostRuntime, i: usize, room: &'a mut [u8]) -> &'a [u8]
+    ensures { length result.now ≤ length room.old }
+{
+    match rt.arg(i, room) {
+        Ok(n) => &room[..n],
+        Err(FillError::TooLong) => room,
+        Err(FillError::NotPresent) => &[],
     }
 }
 
-// Puts argument `i` into the room and answers its length; of a longer one, the room's.
-pub fn read(rt: &HostRuntime, i: usize, room: &mut [u8]) -> usize
-    ensures { IsPrefixLen result room.new }
+// The same; of one that is longer than the room, nothing.
+pub fn read_whole<'a>(rt: &HostRuntime, i: usize, room: &'a mut [u8]) -> &'a [u8]
+    ensures { length result.now ≤ length room.old }
 {
     match rt.arg(i, room) {
-        Ok(n) => n,
-        Err(FillError::TooLong) => room.len(),
-        Err(FillError::NotPresent) => 0,
-    }
-}
-
-// The same; of one that is missing or longer than the room, 0.
-pub fn read_whole(rt: &HostRuntime, i: usize, room: &mut [u8]) -> usize
-    ensures { IsPrefixLen result room.new }
-{
-    match rt.arg(i, room) {
-        Ok(n) => n,
-        Err(_) => 0,
+        Ok(n) => &room[..n],
+        Err(_) => &[],
     }
 }
 
 // No word of the command has more letters.
 pub fn is_word(rt: &HostRuntime, i: usize, word: &[u8]) -> bool {
-    let mut argument = [0u8; 16];
-    let n = read_whole(rt, i, &mut argument);
-    words::is_word(&argument[..n], word)
+    words::is_word(read_whole(rt, i, &mut [0; 16]), word)
 }
 
 fn has_hyphens(rt: &HostRuntime, i: usize) -> bool {
-    let mut start = [0u8; 2];
-    read(rt, i, &mut start);
-    words::is_option(&start)
+    words::is_option(read(rt, i, &mut [0; 2]))
 }
 
 // Two commands look like options.
@@ -75,62 +62,68 @@ pub fn is_option(rt: &HostRuntime, i: usize) -> bool {
 }
 
 fn is_plain(rt: &HostRuntime, i: usize) -> bool {
-    if i == 0 {
-        return false;
-    }
-    !is_option(rt, i) && !is_option(rt, i - 1)
+    i > 0 && !is_option(rt, i) && !is_option(rt, i - 1)
 }
 
-// The next plain argument behind argument `i`; where there is none, the number of arguments or more.
-pub fn next_plain(rt: &HostRuntime, i: usize) -> usize
-    requires { i < 18446744073709551615 }
-    ensures { i < result }
-{
-    let mut next = i + 1;
-    while is_there(rt, next) {
-        if is_plain(rt, next) {
-            return next;
+// Which arguments are plain, in their order.
+#[derive(Drop)]
+pub struct PlainIndices<'a> {
+    rt: &'a HostRuntime,
+    // The first that has not been looked at.
+    next: usize,
+}
+
+impl<'a> PlainIndices<'a> {
+    pub fn new(rt: &'a HostRuntime) -> PlainIndices<'a>
+        ensures { result.next ≡ 1 }
+    {
+        PlainIndices { rt, next: 1 }
+    }
+}
+
+impl Iterator for PlainIndices<'_> {
+    type Item = usize;
+
+    ghost next_gives = { λ s r t. IfSome r (λ i. (s.next ≤ i) × (i < t.next)) };
+
+    ghost remaining = { λ s. at_most (18446744073709551615 - s.next) };
+
+    fn next(&mut self) -> Option<usize> {
+        while is_there(self.rt, self.next) {
+            let i = self.next;
+            self.next += 1;
+            if is_plain(self.rt, i) {
+                return Some(i);
+            }
         }
-        next += 1;
+        None
     }
-    next
 }
 
-// Which argument is plain argument `number`; where there are fewer, the number of arguments or more.
+// Which argument is plain argument `number`, counted from 1; where there are fewer, a place with no argument.
+// No `Option`: whoever reads an argument answers for one that is missing, so that a second refusal here would only be carried along.
 pub fn plain(rt: &HostRuntime, number: usize) -> usize {
-    let mut i = next_plain(rt, 0);
-    let mut left = number;
-    while is_there(rt, i) {
-        if left <= 1 {
-            return i;
-        }
-        left -= 1;
-        i = next_plain(rt, i);
-    }
-    i
+    PlainIndices::new(rt)
+        .nth(number.saturating_sub(1))
+        .unwrap_or(usize::MAX)
 }
 
 // How many are plain: the number of the last one.
 pub fn count_plain(rt: &HostRuntime) -> usize {
-    let mut i = next_plain(rt, 0);
-    let mut n = 0;
-    while is_there(rt, i) {
-        n += 1;
-        i = next_plain(rt, i);
-    }
-    n
+    PlainIndices::new(rt).count()
 }
 
-// Which argument is the value of this option; 0 where it is not given.
-pub fn value_of(rt: &HostRuntime, option: &[u8]) -> usize {
-    let mut i = 1;
-    while is_there(rt, i) {
-        if is_word(rt, i, option) {
-            return i + 1;
+// Which argument is the value of this option, where it is given.
+pub fn value_of(rt: &HostRuntime, option: &[u8]) -> Option<usize> {
+    for i in 1..usize::MAX {
+        if !is_there(rt, i) {
+            break;
         }
-        i += 1;
+        if is_word(rt, i, option) {
+            return Some(i + 1);
+        }
     }
-    0
+    None
 }
 
 // Whether argument `i` is there as an option's value.

@@ -1,9 +1,9 @@
 // What the arguments ask for: `named` decides by the command's word and the plain arguments. Where it is nothing, `explain` says why.
-ghost use Rattle.std.specs.Prelude.{◌≡◌, ◌≤◌};
+ghost use Rattle.std.specs.Prelude.{◌≡◌, ◌≤◌, Some as OptionSome};
 ghost use Rattle.inputs.specs.declared.command.Command.TheVariants.{Message};
-ghost use Rattle.inputs.specs.Commands.{least_of, most_of, faults_of, fault_of, check_of, read_of, reading_of, asked_of, command_of};
+ghost use Rattle.inputs.specs.Commands.{least_of, most_of, faults_of, check_of, read_of, asked_of, command_of};
 
-use crate::numbers::Count;
+use crate::complaints::Complained;
 use crate::store_command::Ignored;
 use crate::words::Word;
 use crate::{arguments, complaints, numbers, store_command, words};
@@ -24,8 +24,6 @@ pub enum Command {
     Message { question: Question },
     Store { question: StoreQuestion },
     NewStore { records: usize },
-    // Standard error has said why.
-    Wrong,
 }
 
 // On a table, and a message or a sheet.
@@ -50,9 +48,7 @@ pub enum StoreQuestion {
     Add {
         customer: u16,
         version: u16,
-        absent: u8,
-        pads: u8,
-        unused: u8,
+        ignored: Ignored,
     },
 }
 
@@ -73,30 +69,19 @@ const FIELD: usize = 4;
 
 const ITEM: usize = 5;
 
-const MANY: usize = 0xffff_ffff_ffff_ffff;
-
 // The number of the last plain argument that a command must have.
 fn least(word: Word) -> usize
     ensures { (result ≡ least_of word) × (result ≤ 5) }
 {
     match word {
-        Word::Help => 1,
-        Word::Version => 1,
-        Word::Faults => 1,
-        Word::Check => TABLE,
+        Word::Help | Word::Version | Word::Faults | Word::Other => WORD,
+        Word::Check | Word::Table => TABLE,
+        Word::Show | Word::Dump | Word::Tape => INPUT,
         Word::Read => FIELD,
-        Word::Show => INPUT,
-        Word::Dump => INPUT,
-        Word::Tape => INPUT,
-        Word::Table => TABLE,
-        Word::Sheet => OUT,
-        Word::Write => OUT,
-        Word::Rewrite => OUT,
+        Word::Sheet | Word::Write | Word::Rewrite => OUT,
         Word::Settings => store_command::LISTED,
-        Word::Get => store_command::VERSION,
-        Word::Add => store_command::VERSION,
+        Word::Get | Word::Add => store_command::VERSION,
         Word::New => store_command::RECORDS,
-        Word::Other => 1,
     }
 }
 
@@ -105,134 +90,104 @@ fn most(word: Word) -> usize
     ensures { result ≡ most_of word }
 {
     match word {
-        Word::Help => MANY,
-        Word::Version => 1,
+        Word::Help | Word::Check | Word::Other => usize::MAX,
+        Word::Version => WORD,
         Word::Faults => NUMBER,
-        Word::Check => MANY,
-        Word::Read => ITEM,
-        Word::Show => INPUT,
-        Word::Dump => INPUT,
-        Word::Tape => INPUT,
         Word::Table => TABLE,
-        Word::Sheet => OUT,
-        Word::Write => OUT,
-        Word::Rewrite => OUT,
+        Word::Show | Word::Dump | Word::Tape => INPUT,
+        Word::Read => ITEM,
+        Word::Sheet | Word::Write | Word::Rewrite => OUT,
         Word::Settings => store_command::LISTED,
         Word::Get => store_command::VERSION,
         Word::Add => store_command::LAST_FAULT,
         Word::New => store_command::RECORDS,
-        Word::Other => MANY,
     }
 }
 
-fn about(question: Question) -> Command
-    ensures { result ≡ Message question }
+fn about(question: Question) -> Option<Command>
+    ensures { result ≡ OptionSome (Message question) }
 {
-    Command::Message { question }
+    Some(Command::Message { question })
 }
 
-fn faults(last: usize, number: Count) -> Command
+#[tactic(auto, unfolding(crate::specs::Commands::faults_of, crate::specs::Commands::fault_of))]
+fn faults(last: usize, number: Option<usize>) -> Option<Command>
     ensures { result ≡ faults_of last number }
 {
     if last < NUMBER {
-        return Command::Faults;
+        return Some(Command::Faults);
     }
-    fault(number)
+    let number = u8::try_from(number?).ok()?;
+    Some(Command::Fault { number })
 }
 
-fn fault(number: Count) -> Command
-    ensures { result ≡ fault_of number }
-{
-    match number {
-        Count::Is(n) => {
-            if 255 < n {
-                return Command::Wrong;
-            }
-            Command::Fault { number: n as u8 }
-        }
-        Count::Wrong => Command::Wrong,
-    }
-}
-
+#[tactic(auto, unfolding(crate::specs::Commands::check_of))]
 fn check(last: usize) -> Command
     ensures { result ≡ check_of last }
 {
     if last < INPUT {
-        return Command::CheckTable;
+        Command::CheckTable
+    } else {
+        Command::Check
     }
-    Command::Check
 }
 
 // The first item, where none is named.
-fn read_field(last: usize, field: Count, item: Count) -> Command
+#[tactic(auto, unfolding(crate::specs::Commands::read_of))]
+fn read_field(last: usize, field: Option<usize>, item: Option<usize>) -> Option<Command>
     ensures { result ≡ read_of last field item }
 {
-    if last < ITEM {
-        return read_item(field, Count::Is(0));
-    }
-    read_item(field, item)
-}
-
-fn read_item(field: Count, item: Count) -> Command
-    ensures { result ≡ reading_of field item }
-{
-    match field {
-        Count::Is(field) => match item {
-            Count::Is(item) => about(Question::Read { field, item }),
-            Count::Wrong => Command::Wrong,
-        },
-        Count::Wrong => Command::Wrong,
-    }
+    let field = field?;
+    let item = if last < ITEM { 0 } else { item? };
+    about(Question::Read { field, item })
 }
 
 // By the word, where the plain arguments are as many as it takes. The numbers are what plain arguments 2, 4 and 5 are.
 fn asked(
     word: Word,
     last: usize,
-    second: Count,
-    fourth: Count,
-    fifth: Count,
-    ignored: Ignored,
-) -> Command
+    second: Option<usize>,
+    fourth: Option<usize>,
+    fifth: Option<usize>,
+    ignored: Option<Ignored>,
+) -> Option<Command>
     ensures { result ≡ asked_of word last second fourth fifth ignored }
 {
     match word {
-        Word::Help => Command::Help,
-        Word::Version => Command::Version,
+        Word::Help => Some(Command::Help),
+        Word::Version => Some(Command::Version),
         Word::Faults => faults(last, second),
-        Word::Check => check(last),
+        Word::Check => Some(check(last)),
         Word::Read => read_field(last, fourth, fifth),
         Word::Show => about(Question::Show),
         Word::Dump => about(Question::Dump),
-        Word::Tape => Command::Tape,
-        Word::Table => Command::ListTable,
+        Word::Tape => Some(Command::Tape),
+        Word::Table => Some(Command::ListTable),
         Word::Sheet => about(Question::Sheet),
         Word::Write => about(Question::Write),
         Word::Rewrite => about(Question::Rewrite),
-        Word::Settings => store_command::list(),
+        Word::Settings => Some(store_command::list()),
         Word::Get => store_command::get(fourth, fifth),
         Word::Add => store_command::add(fourth, fifth, ignored),
         Word::New => store_command::create(fourth),
-        Word::Other => Command::Wrong,
+        Word::Other => None,
     }
 }
 
 // The same for any number of plain arguments.
+#[tactic(auto, unfolding(crate::specs::Commands::command_of))]
 fn named(
     word: Word,
     last: usize,
-    second: Count,
-    fourth: Count,
-    fifth: Count,
-    ignored: Ignored,
-) -> Command
+    second: Option<usize>,
+    fourth: Option<usize>,
+    fifth: Option<usize>,
+    ignored: Option<Ignored>,
+) -> Option<Command>
     ensures { result ≡ command_of word last second fourth fifth ignored }
 {
-    if last < least(word) {
-        return Command::Wrong;
-    }
-    if most(word) < last {
-        return Command::Wrong;
+    if last < least(word) || most(word) < last {
+        return None;
     }
     asked(word, last, second, fourth, fifth, ignored)
 }
@@ -241,164 +196,123 @@ fn named(
 
 // The command that argument `i` names.
 pub fn word_at(rt: &HostRuntime, i: usize) -> Word {
-    let mut word = [0u8; 16];
-    let n = arguments::read_whole(rt, i, &mut word);
-    words::word_of(&word[..n])
+    words::word_of(arguments::read_whole(rt, i, &mut [0; 16]))
 }
 
 // `settings` may have a word of its own behind it.
 fn read_word(rt: &HostRuntime) -> Word {
-    let word = word_at(rt, arguments::plain(rt, WORD));
-    match word {
-        Word::Settings => read_store_word(rt),
-        _ => word,
+    match word_at(rt, arguments::plain(rt, WORD)) {
+        Word::Settings => {
+            let i = arguments::plain(rt, store_command::LISTED);
+            words::store_word(arguments::read_whole(rt, i, &mut [0; 16]))
+        }
+        word => word,
     }
 }
 
-fn read_store_word(rt: &HostRuntime) -> Word {
-    let mut word = [0u8; 16];
-    let i = arguments::plain(rt, store_command::LISTED);
-    let n = arguments::read_whole(rt, i, &mut word);
-    words::store_word(&word[..n])
-}
-
-fn decimal(rt: &HostRuntime, number: usize) -> Count {
+fn decimal(rt: &HostRuntime, number: usize) -> Option<usize> {
     numbers::decimal(rt, arguments::plain(rt, number))
 }
 
 // WHY THERE IS NO COMMAND
 
-// The first argument too many.
-fn extra(rt: &HostRuntime, command: &[u8], number: usize) {
-    let mut argument = io::buffer();
-    let n = arguments::read(rt, arguments::plain(rt, number), &mut argument);
-    complaints::complain_extra(command, &argument[..n]);
-}
-
-fn extra_of_word(rt: &HostRuntime, number: usize) {
-    let mut command = io::buffer();
-    let n = arguments::read(rt, arguments::plain(rt, WORD), &mut command);
-    extra(rt, &command[..n], number);
-}
-
-fn explain_extra(rt: &HostRuntime, word: Word, number: usize) {
+// What it is called: its word as it was written, or both words.
+fn name<'a>(rt: &HostRuntime, word: Word, room: &'a mut [u8]) -> &'a [u8] {
     match word {
-        Word::Get => extra(rt, b"settings get", number),
-        Word::Add => extra(rt, b"settings add", number),
-        Word::New => extra(rt, b"settings new", number),
-        _ => extra_of_word(rt, number),
+        Word::Get => b"settings get",
+        Word::Add => b"settings add",
+        Word::New => b"settings new",
+        _ => arguments::read(rt, arguments::plain(rt, WORD), room),
     }
 }
 
-fn missing_of_word(rt: &HostRuntime, name: &[u8]) {
-    let mut command = io::buffer();
-    let n = arguments::read(rt, arguments::plain(rt, WORD), &mut command);
-    complaints::complain_missing(&command[..n], name);
+// Plain argument `number` is the first too many.
+fn explain_extra(rt: &HostRuntime, word: Word, number: usize) -> Complained {
+    let mut room = io::buffer();
+    let argument = arguments::read(rt, arguments::plain(rt, number), &mut room);
+    complaints::complain_extra(name(rt, word, &mut io::buffer()), argument)
 }
 
-// The first argument that is missing, by its name in the help.
-fn missing(rt: &HostRuntime, word: Word, name: &[u8]) {
-    match word {
-        Word::Get => complaints::complain_missing(b"settings get", name),
-        Word::Add => complaints::complain_missing(b"settings add", name),
-        Word::New => complaints::complain_missing(b"settings new", name),
-        _ => missing_of_word(rt, name),
+// A plain argument's name in the help.
+fn help_name(word: Word, number: usize) -> &'static [u8] {
+    match (number, word) {
+        (2, Word::Settings) => b"STORE",
+        (2, _) => b"TABLE",
+        (3, Word::Tape) => b"TAPE",
+        (3, Word::Write) => b"SHEET",
+        (3, Word::Get | Word::Add | Word::New) => b"STORE",
+        (3, _) => b"MESSAGE",
+        (4, Word::Read) => b"FIELD",
+        (4, Word::Get | Word::Add) => b"CUSTOMER",
+        (4, Word::New) => b"RECORDS",
+        (4, _) => b"OUT",
+        _ => b"VERSION",
     }
 }
 
-fn explain_second(rt: &HostRuntime, word: Word) {
-    match word {
-        Word::Settings => missing(rt, word, b"STORE"),
-        _ => missing(rt, word, b"TABLE"),
+// Plain argument `number` is the first that is missing.
+fn explain_missing(rt: &HostRuntime, word: Word, number: usize) -> Complained {
+    if number == WORD {
+        return complaints::complain_none(b"COMMAND");
     }
+    complaints::complain_missing(name(rt, word, &mut io::buffer()), help_name(word, number))
 }
 
-fn explain_third(rt: &HostRuntime, word: Word) {
-    match word {
-        Word::Tape => missing(rt, word, b"TAPE"),
-        Word::Write => missing(rt, word, b"SHEET"),
-        Word::Get | Word::Add | Word::New => missing(rt, word, b"STORE"),
-        _ => missing(rt, word, b"MESSAGE"),
-    }
+fn explain_read(rt: &HostRuntime) -> Result<(), Complained> {
+    numbers::number(rt, arguments::plain(rt, FIELD), b"FIELD")?;
+    numbers::number(rt, arguments::plain(rt, ITEM), b"ITEM")?;
+    Ok(())
 }
 
-fn explain_fourth(rt: &HostRuntime, word: Word) {
-    match word {
-        Word::Read => missing(rt, word, b"FIELD"),
-        Word::Get | Word::Add => missing(rt, word, b"CUSTOMER"),
-        Word::New => missing(rt, word, b"RECORDS"),
-        _ => missing(rt, word, b"OUT"),
-    }
-}
-
-fn explain_missing(rt: &HostRuntime, word: Word, number: usize) {
-    match number {
-        1 => complaints::complain_none(b"COMMAND"),
-        2 => explain_second(rt, word),
-        3 => explain_third(rt, word),
-        4 => explain_fourth(rt, word),
-        _ => missing(rt, word, b"VERSION"),
-    }
-}
-
-fn explain_read(rt: &HostRuntime) {
-    if numbers::is_number(rt, arguments::plain(rt, FIELD), b"FIELD") {
-        numbers::is_number(rt, arguments::plain(rt, ITEM), b"ITEM");
-    }
-}
-
-fn explain_word(rt: &HostRuntime) {
-    let mut word = io::buffer();
-    let n = arguments::read(rt, arguments::plain(rt, WORD), &mut word);
-    complaints::complain(&word[..n], b"no such command");
+fn explain_word(rt: &HostRuntime, word: Word) -> Complained {
+    complaints::complain(name(rt, word, &mut io::buffer()), b"no such command")
 }
 
 // They are as many as the command takes, and one of them is wrong.
-fn explain_value(rt: &HostRuntime, word: Word) {
+fn explain_value(rt: &HostRuntime, word: Word) -> Result<(), Complained> {
     match word {
-        Word::Faults => numbers::complain(
+        Word::Faults => Err(numbers::complain(
             rt,
             arguments::plain(rt, NUMBER),
             b"NUMBER",
             b"is not a number from 0 to 255",
-        ),
+        )),
         Word::Read => explain_read(rt),
         Word::Get => store_command::explain_get(rt),
         Word::Add => store_command::explain_add(rt),
-        Word::New => store_command::explain_new(rt),
-        _ => explain_word(rt),
+        Word::New => Err(store_command::explain_new(rt)),
+        _ => Err(explain_word(rt, word)),
     }
 }
 
-fn explain(rt: &HostRuntime, word: Word, last: usize) {
+fn explain(rt: &HostRuntime, word: Word, last: usize) -> Result<(), Complained> {
     let least = least(word);
     if last < least {
-        explain_missing(rt, word, last + 1);
-        return;
+        return Err(explain_missing(rt, word, last + 1));
     }
     let most = most(word);
     if most < last {
-        explain_extra(rt, word, most + 1);
-        return;
+        return Err(explain_extra(rt, word, most + 1));
     }
-    explain_value(rt, word);
+    explain_value(rt, word)
 }
 
-pub fn read(rt: &HostRuntime) -> Command {
+pub fn read(rt: &HostRuntime) -> Result<Command, Complained> {
     let word = read_word(rt);
     let last = arguments::count_plain(rt);
-    let ignored = store_command::read_ignored(rt, last);
     let command = named(
         word,
         last,
         decimal(rt, 2),
         decimal(rt, 4),
         decimal(rt, 5),
-        ignored,
+        store_command::read_ignored(rt, last),
     );
     match command {
-        Command::Wrong => explain(rt, word, last),
-        _ => {}
+        Some(command) => Ok(command),
+        None => {
+            explain(rt, word, last)?;
+            Err(Complained)
+        }
     }
-    command
 }

@@ -2,23 +2,15 @@
 ghost use Rattle.std.specs.Prelude.{◌≡◌, ◌<◌};
 ghost use Rattle.inputs.specs.Commands.{is_known, options_of};
 
-use crate::numbers::Short;
+use crate::complaints::Complained;
 use crate::{arguments, complaints, numbers, words};
 
-#[derive(Clone, Copy)]
-pub enum Options {
-    Missing,
-    Given { customer: u16 },
-    // Standard error has said why.
-    Wrong,
-}
-
-// Which argument names the store; 0 where none does.
-pub fn store(rt: &HostRuntime) -> usize {
+// Which argument names the store.
+pub fn store(rt: &HostRuntime) -> Option<usize> {
     arguments::value_of(rt, b"--settings")
 }
 
-fn customer(rt: &HostRuntime) -> usize {
+fn customer(rt: &HostRuntime) -> Option<usize> {
     arguments::value_of(rt, b"--customer")
 }
 
@@ -28,84 +20,48 @@ fn is_known(option: &[u8]) -> bool
     words::is_either(option, b"--settings", b"--customer")
 }
 
-pub fn read(rt: &HostRuntime) -> Options {
-    if !are_right(rt) {
-        return Options::Wrong;
+// The customer, where the options are given.
+pub fn read(rt: &HostRuntime) -> Result<Option<u16>, Complained> {
+    check_all(rt)?;
+    match (store(rt), customer(rt)) {
+        (None, None) => Ok(None),
+        (None, Some(_)) => Err(complaints::complain(b"--customer", b"goes with --settings STORE")),
+        (Some(_), None) => Err(complaints::complain(b"--settings", b"goes with --customer N")),
+        (Some(_), Some(i)) => given_by(numbers::short(rt, i, b"--customer").ok()),
     }
-    read_both(rt, store(rt), customer(rt))
 }
 
-fn read_both(rt: &HostRuntime, store: usize, customer: usize) -> Options {
-    if store == 0 {
-        if customer == 0 {
-            return Options::Missing;
-        }
-        return one_alone(b"--customer", b"goes with --settings STORE");
-    }
-    if customer == 0 {
-        return one_alone(b"--settings", b"goes with --customer N");
-    }
-    read_customer(rt, customer)
-}
-
-fn one_alone(option: &[u8], reason: &[u8]) -> Options {
-    complaints::complain(option, reason);
-    Options::Wrong
-}
-
-fn read_customer(rt: &HostRuntime, i: usize) -> Options {
-    if !numbers::is_short(rt, i, b"--customer") {
-        return Options::Wrong;
-    }
-    given_by(numbers::short_of(numbers::decimal(rt, i)))
-}
-
-fn given_by(customer: Short) -> Options
+// Where the customer is no such number, standard error has said so.
+fn given_by(customer: Option<u16>) -> Result<Option<u16>, Complained>
     ensures { result ≡ options_of customer }
 {
-    match customer {
-        Short::Is(customer) => Options::Given { customer },
-        Short::Wrong => Options::Wrong,
-    }
+    customer.map(Some).ok_or(Complained)
 }
 
-// Whether each option is known, has its value, and comes once.
-fn are_right(rt: &HostRuntime) -> bool {
-    let mut i = 1;
-    while arguments::is_there(rt, i) {
-        if !is_right(rt, i) {
-            return false;
+// Each option is known, has its value, and comes once.
+fn check_all(rt: &HostRuntime) -> Result<(), Complained> {
+    for i in 1..usize::MAX {
+        if !arguments::is_there(rt, i) {
+            break;
         }
-        i += 1;
+        if arguments::is_option(rt, i) {
+            check(rt, i, arguments::read(rt, i, &mut io::buffer()))?;
+        }
     }
-    true
+    Ok(())
 }
 
-fn is_right(rt: &HostRuntime, i: usize) -> bool
-    requires { i < 18446744073709551615 }
-{
-    if !arguments::is_option(rt, i) {
-        return true;
-    }
-    let mut argument = io::buffer();
-    let n = arguments::read(rt, i, &mut argument);
-    is_right_option(rt, i, &argument[..n])
-}
-
-fn is_right_option(rt: &HostRuntime, i: usize, option: &[u8]) -> bool
+fn check(rt: &HostRuntime, i: usize, option: &[u8]) -> Result<(), Complained>
     requires { i < 18446744073709551615 }
 {
     if !is_known(option) {
-        complaints::complain(option, b"no such option");
-        return false;
+        return Err(complaints::complain(option, b"no such option"));
     }
     if !arguments::is_value(rt, i + 1) {
-        complaints::complain(option, b"its value is missing");
-        return false;
+        return Err(complaints::complain(option, b"its value is missing"));
     }
-    if arguments::value_of(rt, option) != i + 1 {
-        complaints::complain(option, b"given twice");
-        return false;
+    if arguments::value_of(rt, option) != Some(i + 1) {
+        return Err(complaints::complain(option, b"given twice"));
     }
-    true
+    Ok(())
 }

@@ -1,18 +1,19 @@
 // What is asked of a settings store. Plain argument 2 is a word, or the store itself.
-ghost use Rattle.std.specs.Prelude.{◌≡◌};
+ghost use Rattle.std.specs.Prelude.{◌≡◌, Some as OptionSome};
 ghost use Rattle.inputs.specs.declared.command.Command.TheVariants.{Store};
 ghost use Rattle.inputs.specs.declared.command.StoreQuestion.TheVariants.{List};
-ghost use Rattle.inputs.specs.Commands.{ignored_of, get_of, add_of, getting, adding, making, making_of};
+ghost use Rattle.inputs.specs.Commands.{ignored_of, get_of, add_of, making_of};
 
 use crate::command::{Command, StoreQuestion};
-use crate::numbers::{Count, Short};
+use crate::complaints::Complained;
 use crate::{arguments, numbers};
 
 // The faults to ignore: 1 for each that is.
 #[derive(Clone, Copy)]
-pub enum Ignored {
-    Are { absent: u8, pads: u8, unused: u8 },
-    Wrong,
+pub struct Ignored {
+    pub absent: u8,
+    pub pads: u8,
+    pub unused: u8,
 }
 
 // Which plain arguments are what.
@@ -38,109 +39,70 @@ const MOST: usize = 7281;
 
 // DECISIONS
 
-fn about(question: StoreQuestion) -> Command
-    ensures { result ≡ Store question }
-{
-    Command::Store { question }
-}
-
 pub fn list() -> Command
     ensures { result ≡ Store List }
 {
-    about(StoreQuestion::List)
+    Command::Store {
+        question: StoreQuestion::List,
+    }
 }
 
-pub fn get(customer: Count, version: Count) -> Command
+pub fn get(customer: Option<usize>, version: Option<usize>) -> Option<Command>
     ensures { result ≡ get_of customer version }
 {
-    get_short(numbers::short_of(customer), numbers::short_of(version))
+    let customer = numbers::short_of(customer)?;
+    let version = numbers::short_of(version)?;
+    Some(Command::Store {
+        question: StoreQuestion::Get { customer, version },
+    })
 }
 
-fn get_short(customer: Short, version: Short) -> Command
-    ensures { result ≡ getting customer version }
-{
-    match customer {
-        Short::Is(customer) => match version {
-            Short::Is(version) => about(StoreQuestion::Get { customer, version }),
-            Short::Wrong => Command::Wrong,
-        },
-        Short::Wrong => Command::Wrong,
-    }
-}
-
-pub fn add(customer: Count, version: Count, ignored: Ignored) -> Command
+pub fn add(
+    customer: Option<usize>,
+    version: Option<usize>,
+    ignored: Option<Ignored>,
+) -> Option<Command>
     ensures { result ≡ add_of customer version ignored }
 {
-    match ignored {
-        Ignored::Are {
-            absent,
-            pads,
-            unused,
-        } => {
-            add_short(
-                numbers::short_of(customer),
-                numbers::short_of(version),
-                absent,
-                pads,
-                unused,
-            )
-        }
-        Ignored::Wrong => Command::Wrong,
-    }
-}
-
-fn add_short(customer: Short, version: Short, absent: u8, pads: u8, unused: u8) -> Command
-    ensures { result ≡ adding customer version absent pads unused }
-{
-    match customer {
-        Short::Is(customer) => match version {
-            Short::Is(version) => about(StoreQuestion::Add {
-                customer,
-                version,
-                absent,
-                pads,
-                unused,
-            }),
-            Short::Wrong => Command::Wrong,
+    let ignored = ignored?;
+    let customer = numbers::short_of(customer)?;
+    let version = numbers::short_of(version)?;
+    Some(Command::Store {
+        question: StoreQuestion::Add {
+            customer,
+            version,
+            ignored,
         },
-        Short::Wrong => Command::Wrong,
-    }
+    })
 }
 
-pub fn create(records: Count) -> Command
+#[tactic(auto, unfolding(crate::specs::Commands::making))]
+pub fn create(records: Option<usize>) -> Option<Command>
     ensures { result ≡ making_of records }
 {
-    match records {
-        Count::Is(records) => create_room(records),
-        Count::Wrong => Command::Wrong,
+    let records = records?;
+    if records < 1 || MOST < records {
+        return None;
     }
-}
-
-fn create_room(records: usize) -> Command
-    ensures { result ≡ making records }
-{
-    if records == 0 {
-        return Command::Wrong;
-    }
-    if MOST < records {
-        return Command::Wrong;
-    }
-    Command::NewStore { records }
+    Some(Command::NewStore { records })
 }
 
 // Each of the arguments behind the version, of which `last` is the last, is one of the faults, and none comes twice.
-fn ignored_of(last: usize, absent: u8, pads: u8, unused: u8) -> Ignored
-    ensures { result ≡ ignored_of last absent pads unused }
+#[tactic(auto, unfolding(crate::specs::Commands::ignored_of))]
+fn ignored_of(last: usize, ignored: Ignored) -> Option<Ignored>
+    ensures { result ≡ ignored_of last ignored }
 {
-    let found = wire::wide(absent) + wire::wide(pads) + wire::wide(unused);
+    let Ignored {
+        absent,
+        pads,
+        unused,
+    } = ignored;
+    let found = usize::from(absent) + usize::from(pads) + usize::from(unused);
     if VERSION + found == last {
-        return Ignored::Are {
-            absent,
-            pads,
-            unused,
-        };
+        Some(ignored)
+    } else {
+        None
     }
-    Ignored::Wrong
 }
 
 // FROM THE ARGUMENTS
@@ -151,80 +113,65 @@ fn is_argument(rt: &HostRuntime, number: usize, word: &[u8]) -> bool {
 
 // 1 where one of the arguments is this fault.
 fn flag(rt: &HostRuntime, fault: &[u8]) -> u8 {
-    (is_argument(rt, 6, fault) || is_argument(rt, 7, fault) || is_argument(rt, 8, fault)) as u8
+    u8::from((FAULT..=LAST_FAULT).any(|number| is_argument(rt, number, fault)))
 }
 
-pub fn read_ignored(rt: &HostRuntime, last: usize) -> Ignored {
-    ignored_of(last, flag(rt, b"4"), flag(rt, b"6"), flag(rt, b"8"))
+pub fn read_ignored(rt: &HostRuntime, last: usize) -> Option<Ignored> {
+    let found = Ignored {
+        absent: flag(rt, b"4"),
+        pads: flag(rt, b"6"),
+        unused: flag(rt, b"8"),
+    };
+    ignored_of(last, found)
 }
 
 // WHY THERE IS NO COMMAND
 
-fn has_shorts(rt: &HostRuntime) -> bool {
-    numbers::is_short(rt, arguments::plain(rt, CUSTOMER), b"CUSTOMER")
-        && numbers::is_short(rt, arguments::plain(rt, VERSION), b"VERSION")
-}
-
-fn is_fault(rt: &HostRuntime, i: usize) -> bool {
-    arguments::is_word(rt, i, b"4")
-        || arguments::is_word(rt, i, b"6")
-        || arguments::is_word(rt, i, b"8")
+fn explain_shorts(rt: &HostRuntime) -> Result<(), Complained> {
+    numbers::short(rt, arguments::plain(rt, CUSTOMER), b"CUSTOMER")?;
+    numbers::short(rt, arguments::plain(rt, VERSION), b"VERSION")?;
+    Ok(())
 }
 
 // Whether one of the arguments before is the same fault.
-fn is_before(rt: &HostRuntime, number: usize, fault: &[u8]) -> bool {
-    (FAULT < number && is_argument(rt, FAULT, fault))
-        || (FAULT + 1 < number && is_argument(rt, FAULT + 1, fault))
-}
-
 fn is_repeated(rt: &HostRuntime, number: usize, fault: &[u8]) -> bool {
-    is_argument(rt, number, fault) && is_before(rt, number, fault)
+    is_argument(rt, number, fault) && (FAULT..number).any(|n| is_argument(rt, n, fault))
 }
 
-fn is_right_fault(rt: &HostRuntime, number: usize) -> bool {
+fn explain_fault(rt: &HostRuntime, number: usize) -> Result<(), Complained> {
     let i = arguments::plain(rt, number);
+    let faults = [b"4", b"6", b"8"];
     if !arguments::is_there(rt, i) {
-        return true;
+        return Ok(());
     }
-    if is_repeated(rt, number, b"4")
-        || is_repeated(rt, number, b"6")
-        || is_repeated(rt, number, b"8")
-    {
-        numbers::complain(rt, i, b"FAULT", b"is given twice");
-        return false;
+    if faults.iter().any(|fault| is_repeated(rt, number, *fault)) {
+        return Err(numbers::complain(rt, i, b"FAULT", b"is given twice"));
     }
-    if is_fault(rt, i) {
-        return true;
+    if !faults.iter().any(|fault| arguments::is_word(rt, i, *fault)) {
+        return Err(numbers::complain(rt, i, b"FAULT", b"is not 4, 6 or 8"));
     }
-    numbers::complain(rt, i, b"FAULT", b"is not 4, 6 or 8");
-    false
-}
-
-// The first of the faults that is wrong.
-fn explain_faults(rt: &HostRuntime) {
-    if is_right_fault(rt, 6) {
-        if is_right_fault(rt, 7) {
-            is_right_fault(rt, 8);
-        }
-    }
+    Ok(())
 }
 
 // The first number that is wrong.
-pub fn explain_get(rt: &HostRuntime) {
-    has_shorts(rt);
+pub fn explain_get(rt: &HostRuntime) -> Result<(), Complained> {
+    explain_shorts(rt)
 }
 
-pub fn explain_add(rt: &HostRuntime) {
-    if has_shorts(rt) {
-        explain_faults(rt);
+// And then the first of the faults.
+pub fn explain_add(rt: &HostRuntime) -> Result<(), Complained> {
+    explain_shorts(rt)?;
+    for number in FAULT..=LAST_FAULT {
+        explain_fault(rt, number)?;
     }
+    Ok(())
 }
 
-pub fn explain_new(rt: &HostRuntime) {
+pub fn explain_new(rt: &HostRuntime) -> Complained {
     numbers::complain(
         rt,
         arguments::plain(rt, RECORDS),
         b"RECORDS",
         b"is not a number from 1 to 7281",
-    );
+    )
 }

@@ -15,30 +15,24 @@ use printing::print::Page;
 use std::io::{Error, ErrorKind};
 
 // Whether the question writes a file.
+#[tactic(auto, unfolding(crate::specs::Destinations::writes))]
 pub fn writes(question: Question) -> bool
     ensures { result ≡ writes question }
 {
     match question {
-        Question::Read { field: _, item: _ } => false,
-        Question::Show => false,
-        Question::Dump => false,
-        Question::Sheet => true,
-        Question::Write => true,
-        Question::Rewrite => true,
+        Question::Read { .. } | Question::Show | Question::Dump => false,
+        Question::Sheet | Question::Write | Question::Rewrite => true,
     }
 }
 
 // Whether OUT may not be the message or the sheet that is asked about. A message may be rewritten in its place.
+#[tactic(auto, unfolding(crate::specs::Destinations::spares_input))]
 fn spares_input(question: Question) -> bool
     ensures { result ≡ spares_input question }
 {
     match question {
-        Question::Read { field: _, item: _ } => false,
-        Question::Show => false,
-        Question::Dump => false,
-        Question::Sheet => true,
-        Question::Write => true,
-        Question::Rewrite => false,
+        Question::Read { .. } | Question::Show | Question::Dump | Question::Rewrite => false,
+        Question::Sheet | Question::Write => true,
     }
 }
 

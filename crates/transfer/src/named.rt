@@ -25,16 +25,12 @@ pub fn name(rt: &HostRuntime, i: usize, room: &mut [u8]) -> Result<usize, Error>
 
 // Says of argument `i`, as it was written, what is wrong with it.
 pub fn complain_of(rt: &HostRuntime, i: usize, reason: &[u8]) {
-    let mut argument = io::buffer();
-    let n = arguments::read(rt, i, &mut argument);
-    complaints::complain(&argument[..n], reason);
+    complaints::complain(arguments::read(rt, i, &mut io::buffer()), reason);
 }
 
 // Says of the file that argument `i` names that it has more bytes than these.
 pub fn complain_long(rt: &HostRuntime, i: usize, most: usize) {
-    let mut argument = io::buffer();
-    let n = arguments::read(rt, i, &mut argument);
     let mut digits = [0u8; 20];
     let k = io::decimal(most as u64, &mut digits);
-    complaints::complain_long(&argument[..n], &digits[..k]);
+    complaints::complain_long(arguments::read(rt, i, &mut io::buffer()), &digits[..k]);
 }

@@ -17,48 +17,48 @@ use Rattle.codec.specs.Answers.{written_of}
 use Rattle.codec.specs.Demands.{Numbered}
 use Rattle.codec.proofs.Demands.{demands}
 use Rattle.ledger.proofs.Claims.{ledger-claims}
-use Rattle.blink_native.specs.Boundary.{exported, exported_written, exported_number, exported_span, exported_settings, exported_shape, exported_entered}
+use Rattle.blink_native.specs.Boundary.{exported, exported_written, exported_number, exported_span, exported_settings, exported_shape}
 use Rattle.blink_native.proofs.Steps.{step}
-use Rattle.blink_native.specs.Claims.{VerdictTold, WrittenTold, SettingTold, NumberTold, SpanTold, ShapeTold, EnteredTold, Claims}
+use Rattle.blink_native.specs.Claims.{VerdictTold, WrittenTold, SettingTold, NumberTold, SpanTold, ShapeTold, Claims}
 
 verdict : (v : Verdict) → ((p : ℕ) → v ≡ Err (fault_at 0 p) → ⊥) → VerdictTold v
 unfolding exported
-verdict (Ok _) h = (λ e n p q. let z : ◌≡◌ {A = ℕ} 0 1 = cc in omega (arith, z), λ f. refl)
+verdict (Ok _) h = (λ e n p q. (cc), λ f. refl)
 verdict (Err f) h = (λ e. absurd (h f.place (ap (λ (k : ℕ). Err (fault_at k f.place)) e)), λ f. absurd (f f.number f.place refl))
 
 span : (x : Result Part Fault) → ((p : ℕ) → x ≡ Err (fault_at 0 p) → ⊥) → SpanTold x
 unfolding exported_span
-span (Ok x) h = (λ e n p q. let z : ◌≡◌ {A = ℕ} 0 1 = cc in omega (arith, z), λ f. refl)
+span (Ok x) h = (λ e n p q. (cc), λ f. refl)
 span (Err f) h = (λ e. absurd (h f.place (ap (λ (k : ℕ). Err (fault_at k f.place)) e)), λ f. absurd (f f.number f.place refl))
 
 setting : (x : Result Ignored Fault) → ((p : ℕ) → x ≡ Err (fault_at 0 p) → ⊥) → SettingTold x
 unfolding exported_settings
-setting (Ok i) h = (λ e n p q. let z : ◌≡◌ {A = ℕ} 0 1 = cc in omega (arith, z), λ f. refl)
+setting (Ok i) h = (λ e n p q. (cc), λ f. refl)
 setting (Err f) h = (λ e. absurd (h f.place (ap (λ (k : ℕ). Err (fault_at k f.place)) e)), λ f. absurd (f f.number f.place refl))
 
 shape : (x : Result FieldShape Fault) → ((p : ℕ) → x ≡ Err (fault_at 0 p) → ⊥) → ShapeTold x
 unfolding exported_shape
-shape (Ok x) h = (λ e n p q. let z : ◌≡◌ {A = ℕ} 0 1 = cc in omega (arith, z), λ f. refl)
+shape (Ok x) h = (λ e n p q. (cc), λ f. refl)
 shape (Err f) h = (λ e. absurd (h f.place (ap (λ (k : ℕ). Err (fault_at k f.place)) e)), λ f. absurd (f f.number f.place refl))
 
-entered : (x : Result ℕ Fault) → ((p : ℕ) → x ≡ Err (fault_at 0 p) → ⊥) → EnteredTold x
-unfolding exported_entered
-entered (Ok k) h = (λ e n p q. let z : ◌≡◌ {A = ℕ} 0 1 = cc in omega (arith, z), λ f. refl)
-entered (Err f) h = (λ e. absurd (h f.place (ap (λ (k : ℕ). Err (fault_at k f.place)) e)), λ f. absurd (f f.number f.place refl))
+written : (x : Result ℕ Fault) → ((p : ℕ) → x ≡ Err (fault_at 0 p) → ⊥) → WrittenTold x
+unfolding exported_written
+written (Ok k) h = (λ e n p q. (cc), λ f. refl)
+written (Err f) h = (λ e. absurd (h f.place (ap (λ (k : ℕ). Err (fault_at k f.place)) e)), λ f'. absurd (f' f.number f.place refl))
 
-written : (x : Writing) → ((p : ℕ) → x ≡ stopped 0 p → ⊥) → WrittenTold (written_of x)
+written-of : (x : Writing) → ((p : ℕ) → x ≡ stopped 0 p → ⊥) → WrittenTold (written_of x)
 unfolding exported_written written_of
-written (wrote X D r) h = (λ e n p q. let z : ◌≡◌ {A = ℕ} 0 1 = cc in omega (arith, z), λ f. refl)
-written (stopped n p) h = (λ e. absurd (h p (ap (λ (k : ℕ). stopped k p) e)), λ f. absurd (f n p refl))
+written-of (stopped n p) h = (λ e. absurd (h p (ap (λ (k : ℕ). stopped k p) e)), λ f. absurd (f n p refl))
+written-of (wrote X D r) h = (λ e n p q. (cc), λ f. refl)
 
 number : (x : Result Number Fault) → ((p : ℕ) → x ≡ Err (fault_at 0 p) → ⊥) → NumberTold x
 unfolding exported_number
-number (Signed x) h = (λ e n p q. let z : ◌≡◌ {A = ℕ} 0 1 = cc in omega (arith, z), λ f. refl)
-number (Unsigned x) h = (λ e n p q. let z : ◌≡◌ {A = ℕ} 0 1 = cc in omega (arith, z), λ f. refl)
-number (Flag x) h = (λ e n p q. let z : ◌≡◌ {A = ℕ} 0 1 = cc in omega (arith, z), λ f. refl)
-number (Decimal y x) h = (λ e n p q. let z : ◌≡◌ {A = ℕ} 0 1 = cc in omega (arith, z), λ f. refl)
-number (Float x) h = (λ e n p q. let z : ◌≡◌ {A = ℕ} 0 1 = cc in omega (arith, z), λ f. refl)
-number (NanBits x) h = (λ e n p q. let z : ◌≡◌ {A = ℕ} 0 1 = cc in omega (arith, z), λ f. refl)
+number (Signed x) h = (λ e n p q. (cc), λ f. refl)
+number (Unsigned x) h = (λ e n p q. (cc), λ f. refl)
+number (Flag x) h = (λ e n p q. (cc), λ f. refl)
+number (Decimal y x) h = (λ e n p q. (cc), λ f. refl)
+number (Float x) h = (λ e n p q. (cc), λ f. refl)
+number (NanBits x) h = (λ e n p q. (cc), λ f. refl)
 number (Err f) h = (λ e. absurd (h f.place (ap (λ (k : ℕ). Err (fault_at k f.place)) e)), λ f. absurd (f f.number f.place refl))
 
 numbered : (t b s : List ℕ) (u : Under) → Numbered t b s u
@@ -78,8 +78,8 @@ claims = record {
   tape = λ t s u at. step t s u at (λ b. (numbered t b [] u).message);
   number = λ t b u field item. number _ ((numbered t b [] u).number field item);
   span = λ t b u field item. span _ ((numbered t b [] u).span field item);
-  to-sheet = λ t b u room. written _ ((numbered t b [] u).to-sheet room);
-  to-message = λ t s room. written _ ((numbered t [] s (alone [])).to-message room);
-  rewrite = λ t b st c rooms. written _ ((numbered t b [] (under st c 0)).rewrite rooms);
-  line = λ s c. entered _ (ledger-claims.numbered c s);
+  to-sheet = λ t b u room. written-of _ ((numbered t b [] u).to-sheet room);
+  to-message = λ t s room. written-of _ ((numbered t [] s (alone [])).to-message room);
+  rewrite = λ t b st c rooms. written-of _ ((numbered t b [] (under st c 0)).rewrite rooms);
+  line = λ s c. written _ (ledger-claims.numbered c s);
 }

@@ -14,7 +14,7 @@ use Rattle.wire.specs.Bytes.{part}
 use Rattle.schema.specs.Table.{table_verdict}
 use Rattle.opening.specs.Opening.{Under, message_verdict}
 use Rattle.tape.specs.declared.Step.{Step}
-use Rattle.tape.specs.Tape.{span_at, whole, message_at, answer_of, step_to, tape_step, handed}
+use Rattle.tape.specs.Tape.{span_at, whole, message_at, step_to, tape_step, handed}
 use Rattle.tape.proofs.Laws.{step-ended, step-20, step_cut, step-whole, handed-some}
 use Rattle.tape.proofs.Whole.{step_past}
 use Rattle.blink_native.specs.Boundary.{exported_answer}
@@ -45,8 +45,8 @@ module _ (s : List ℕ) (p : ℕ) where
     bytes = refl;
   }
 
-  of-message : (v : Verdict) → ((q : ℕ) → v ≡ Err (fault_at 0 q) → ⊥) → whole s p ≡ true → StepTold s p (step_to (answer_of v) (p + span_at s p))
-  unfolding answer_of exported_answer
+  of-message : (v : Verdict) → ((q : ℕ) → v ≡ Err (fault_at 0 q) → ⊥) → whole s p ≡ true → StepTold s p (step_to (Some v) (p + span_at s p))
+  unfolding exported_answer
   of-message (Err f) h w = refused f.number f.place (p + span_at s p) (λ e. h f.place (ap (λ (k : ℕ). Err (fault_at k f.place)) e))
   of-message (Ok _) h w = record {
     told = (λ e n q f. let z : ◌≡◌ {A = ℕ} 0 1 = cc in omega (arith, z), λ f. refl);
@@ -59,6 +59,6 @@ step t s u p h = by_tests (leb (length s) p) (table_verdict t) (whole s p) refl 
   where
     by_tests : (l : Bool) (v : Verdict) (w : Bool) → leb (length s) p ≡ l → table_verdict t ≡ v → whole s p ≡ w → StepTold s p (tape_step t s p u)
     by_tests true v w e f g = rw (step-ended t s p u (leb-true _ _ e)) (at-end s p p)
-    by_tests false (Err f) w e f g = rw (step-20 t s p u f.number f.place (leb-false _ _ e) (sym f)) (refused s p 20 0 (length s) (λ z. omega (arith, z)))
+    by_tests false (Err r) w e f g = rw (step-20 t s p u r (leb-false _ _ e) (sym f)) (refused s p 20 0 (length s) (λ z. omega (arith, z)))
     by_tests false (Ok _) false e f g = rw (step_cut t s p u (leb-false _ _ e) f g) (refused s p 22 p (length s) (λ z. omega (arith, z)))
     by_tests false (Ok _) true e f g = rw (step-whole t s p u f g) (of-message s p (message_verdict t (message_at s p) u) (h (message_at s p)) g)

@@ -26,7 +26,7 @@ unfoldable pub exported : Verdict → BlinkVerdict
 exported (Ok _) = record { number = 0; place = 0 }
 exported (Err f) = record { number = f.number; place = f.place }
 
--- How many bytes were written: 0 where it is refused.
+-- How many bytes were written, or a ledger's new fill: 0 where it is refused.
 unfoldable pub exported_written : Result ℕ Fault → BlinkWritten
 exported_written (Ok n) = record { number = 0; place = 0; length = n }
 exported_written (Err f) = record { number = f.number; place = f.place; length = 0 }
@@ -55,33 +55,28 @@ unfoldable pub exported_shape : Result FieldShape Fault → BlinkShape
 exported_shape (Ok x) = record { number = 0; place = 0; kind = x.number; optional = cond x.optional 1 0; sequence = cond x.sequence 1 0; size = x.size }
 exported_shape (Err f) = record { number = f.number; place = f.place; kind = 0; optional = 0; sequence = 0; size = 0 }
 
--- The ledger's new fill: 0 where no line is made.
-unfoldable pub exported_entered : Result ℕ Fault → BlinkWritten
-exported_entered (Ok n) = record { number = 0; place = 0; length = n }
-exported_entered (Err f) = record { number = f.number; place = f.place; length = 0 }
-
 -- An answer that is a number, of a kind.
 abbrev pub answered : ℕ → ℤ → ℕ → BlinkNumber
 answered k e x = record { number = 0; place = 0; kind = k; exponent = e; bits = x }
 
 -- A number's kind, a decimal's exponent, and its bits: of a float, its pattern.
 unfoldable pub exported_number : Result Number Fault → BlinkNumber
-exported_number (Signed x) = answered 1 (pos 0) (pattern 63 x)
-exported_number (Unsigned x) = answered 2 (pos 0) x
-exported_number (Flag x) = answered 3 (pos 0) (cond x 1 0)
-exported_number (Decimal e x) = answered 4 e (pattern 63 x)
-exported_number (Float x) = answered 5 (pos 0) (to_bits binary64 x)
-exported_number (NanBits x) = answered 6 (pos 0) x
+exported_number (Ok (Signed x)) = answered 1 (pos 0) (pattern 63 x)
+exported_number (Ok (Unsigned x)) = answered 2 (pos 0) x
+exported_number (Ok (Flag x)) = answered 3 (pos 0) (cond x 1 0)
+exported_number (Ok (Decimal e x)) = answered 4 e (pattern 63 x)
+exported_number (Ok (Float x)) = answered 5 (pos 0) (to_bits binary64 x)
+exported_number (Ok (NanBits x)) = answered 6 (pos 0) x
 exported_number (Err f) = record { number = f.number; place = f.place; kind = 0; exponent = pos 0; bits = 0 }
 
 -- No float of an answer is a NaN: a NaN's bits are an answer of their own.
 unfoldable pub NoNan : Result Number Fault → Type 0
-NoNan (Signed x) = Unit
-NoNan (Unsigned x) = Unit
-NoNan (Flag x) = Unit
-NoNan (Decimal e x) = Unit
-NoNan (Float x) = T (not (is_nan x))
-NoNan (NanBits x) = Unit
+NoNan (Ok (Signed x)) = Unit
+NoNan (Ok (Unsigned x)) = Unit
+NoNan (Ok (Flag x)) = Unit
+NoNan (Ok (Decimal e x)) = Unit
+NoNan (Ok (Float x)) = T (not (is_nan x))
+NoNan (Ok (NanBits x)) = Unit
 NoNan (Err f) = Unit
 
 -- What a number means in words: no fault's number is above a byte.

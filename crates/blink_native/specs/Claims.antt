@@ -15,9 +15,9 @@ use Rattle.sheet.specs.Rewritten.{Rooms}
 use Rattle.tape.specs.declared.Step.{Step}
 use Rattle.tape.specs.Tape.{tape_step, handed}
 use Rattle.opening.specs.Opening.{Under, message_verdict}
-use Rattle.codec.specs.Answers.{written_of, to_sheet, to_message, rewriting, number_answer}
+use Rattle.codec.specs.Answers.{written_of, to_sheet, to_message, rewriting, number_answer, part_answer}
 use Rattle.ledger.specs.Ledger.{Call, line_of, Ledger, enters}
-use Rattle.blink_native.specs.Boundary.{exported, exported_written, exported_number, exported_span, exported_settings, exported_step, exported_shape, exported_entered}
+use Rattle.blink_native.specs.Boundary.{exported, exported_written, exported_number, exported_span, exported_settings, exported_step, exported_shape}
 
 abbrev pub VerdictTold : Verdict → Type 0
 VerdictTold v = ((exported v).number ≡ 0) ↔ ((n p : ℕ) → v ≡ Err (fault_at n p) → ⊥)
@@ -36,9 +36,6 @@ SpanTold x = ((exported_span x).number ≡ 0) ↔ ((n p : ℕ) → x ≡ Err (fa
 
 abbrev pub ShapeTold : Result FieldShape Fault → Type 0
 ShapeTold x = ((exported_shape x).number ≡ 0) ↔ ((n p : ℕ) → x ≡ Err (fault_at n p) → ⊥)
-
-abbrev pub EnteredTold : Result ℕ Fault → Type 0
-EnteredTold x = ((exported_entered x).number ≡ 0) ↔ ((n p : ℕ) → x ≡ Err (fault_at n p) → ⊥)
 
 pub record StepTold (s : List ℕ) (at : ℕ) (x : Step) : Type 0 where
   pub told : ((exported_step at x).number ≡ 0) ↔ ((n p : ℕ) → x.answer ≡ Some (Err (fault_at n p)) → ⊥)
@@ -59,4 +56,4 @@ pub record Claims : Type 0 where
   pub to-sheet : (t b : List ℕ) (u : Under) (room : ℕ) → WrittenTold (written_of (to_sheet t b u room))
   pub to-message : (t s : List ℕ) (room : ℕ) → WrittenTold (written_of (to_message t s room))
   pub rewrite : (t b st : List ℕ) (c : ℕ) (rooms : Rooms) → WrittenTold (written_of (rewriting t b st c rooms))
-  pub line : (s : Ledger) (c : Call) → EnteredTold (enters s (line_of c))
+  pub line : (s : Ledger) (c : Call) → WrittenTold (enters s (line_of c))

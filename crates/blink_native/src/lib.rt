@@ -8,10 +8,12 @@ ghost use Rattle.fields.specs.Fields.{field_shape};
 ghost use Rattle.settings.specs.Store.{store_verdict, setting_at, add_verdict, store_after};
 ghost use Rattle.opening.specs.Opening.{under, message_verdict, scratch_after};
 ghost use Rattle.tape.specs.Tape.{tape_step, tape_scratch};
-ghost use Rattle.codec.specs.Answers.{written_of, room_after, to_sheet, to_message, rewriting, rooms, number_answer, span_answer};
+ghost use Rattle.codec.specs.Answers.{written_of, room_after, to_sheet, to_message, rewriting, rooms, number_answer, part_answer};
 ghost use Rattle.ledger.specs.Ledger.{lines, call, line_of, enters, entered};
 ghost use Rattle.faults.specs.Words.{fitted};
-ghost use Rattle.blink_native.specs.Boundary.{exported, exported_written, exported_number, exported_span, exported_settings, exported_step, exported_shape, exported_entered, answered, NoNan, fault_words, version};
+ghost use Rattle.blink_native.specs.Boundary.{exported, exported_written, exported_number, exported_span, exported_settings, exported_step, exported_shape, answered, NoNan, fault_words, version};
+
+use codec::{Fault, FieldShape, Ignored, Number, Part};
 
 // number 0: accepted.
 #[repr(C)]
@@ -87,120 +89,108 @@ pub struct BlinkShape {
     pub size: u32,
 }
 
-fn export(v: codec::Verdict) -> BlinkVerdict
-    ensures { result ≡ exported v }
-{
-    match v {
-        codec::Verdict::Accepted => BlinkVerdict {
-            number: 0,
-            place: 0,
-        },
-        codec::Verdict::Refused { number, place } => BlinkVerdict {
-            number: number as u32,
-            place: place as u64,
-        },
+impl From<Result<(), Fault>> for BlinkVerdict {
+    ghost from_gives = { λ v b. b ≡ exported v };
+
+    fn from(v: Result<(), Fault>) -> Self {
+        match v {
+            Ok(()) => BlinkVerdict {
+                number: 0,
+                place: 0,
+            },
+            Err(fault) => BlinkVerdict {
+                number: fault.number as u32,
+                place: fault.place as u64,
+            },
+        }
     }
 }
 
-fn export_written(w: codec::Written) -> BlinkWritten
-    ensures { result ≡ exported_written w }
-{
-    match w {
-        codec::Written::Bytes(n) => BlinkWritten {
-            number: 0,
-            place: 0,
-            length: n as u64,
-        },
-        codec::Written::Refused { number, place } => BlinkWritten {
-            number: number as u32,
-            place: place as u64,
-            length: 0,
-        },
+impl From<Result<usize, Fault>> for BlinkWritten {
+    ghost from_gives = { λ w b. b ≡ exported_written w };
+
+    fn from(w: Result<usize, Fault>) -> Self {
+        match w {
+            Ok(length) => BlinkWritten {
+                number: 0,
+                place: 0,
+                length: length as u64,
+            },
+            Err(fault) => BlinkWritten {
+                number: fault.number as u32,
+                place: fault.place as u64,
+                length: 0,
+            },
+        }
     }
 }
 
-fn export_span(s: codec::Span) -> BlinkPart
-    ensures { result ≡ exported_span s }
-{
-    match s {
-        codec::Span::Bytes { start, length } => BlinkPart {
-            number: 0,
-            place: 0,
-            offset: start as u64,
-            length: length as u64,
-        },
-        codec::Span::Refused { number, place } => BlinkPart {
-            number: number as u32,
-            place: place as u64,
-            offset: 0,
-            length: 0,
-        },
+impl From<Result<Part, Fault>> for BlinkPart {
+    ghost from_gives = { λ p b. b ≡ exported_span p };
+
+    fn from(p: Result<Part, Fault>) -> Self {
+        match p {
+            Ok(part) => BlinkPart {
+                number: 0,
+                place: 0,
+                offset: part.start as u64,
+                length: part.length as u64,
+            },
+            Err(fault) => BlinkPart {
+                number: fault.number as u32,
+                place: fault.place as u64,
+                offset: 0,
+                length: 0,
+            },
+        }
     }
 }
 
-fn export_settings(s: codec::Setting) -> BlinkSettings
-    ensures { result ≡ exported_settings s }
-{
-    match s {
-        codec::Setting::Ignores { ignored } => BlinkSettings {
-            number: 0,
-            place: 0,
-            absent: ignored.absent as u32,
-            pads: ignored.pads as u32,
-            unused: ignored.unused as u32,
-        },
-        codec::Setting::Refused { number, place } => BlinkSettings {
-            number: number as u32,
-            place: place as u64,
-            absent: 0,
-            pads: 0,
-            unused: 0,
-        },
+impl From<Result<Ignored, Fault>> for BlinkSettings {
+    ghost from_gives = { λ s b. b ≡ exported_settings s };
+
+    fn from(s: Result<Ignored, Fault>) -> Self {
+        match s {
+            Ok(ignored) => BlinkSettings {
+                number: 0,
+                place: 0,
+                absent: ignored.absent as u32,
+                pads: ignored.pads as u32,
+                unused: ignored.unused as u32,
+            },
+            Err(fault) => BlinkSettings {
+                number: fault.number as u32,
+                place: fault.place as u64,
+                absent: 0,
+                pads: 0,
+                unused: 0,
+            },
+        }
     }
 }
 
-fn export_shape(s: codec::FieldShape) -> BlinkShape
-    ensures { result ≡ exported_shape s }
-{
-    match s {
-        codec::FieldShape::Field {
-            number,
-            optional,
-            sequence,
-            size,
-        } => BlinkShape {
-            number: 0,
-            place: 0,
-            kind: number as u32,
-            optional: optional as u32,
-            sequence: sequence as u32,
-            size: size as u32,
-        },
-        codec::FieldShape::Refused { number, place } => BlinkShape {
-            number: number as u32,
-            place: place as u64,
-            kind: 0,
-            optional: 0,
-            sequence: 0,
-            size: 0,
-        },
-    }
-}
+impl From<Result<FieldShape, Fault>> for BlinkShape {
+    ghost from_gives = { λ s b. b ≡ exported_shape s };
 
-fn export_entered(e: ledger::Entered) -> BlinkWritten
-    ensures { result ≡ exported_entered e }
-{
-    match e {
-        ledger::Entered::Fill(fill) => BlinkWritten {
-            number: 0,
-            place: 0,
-            length: fill as u64,
-        },
-        ledger::Entered::Refused { number, place } => BlinkWritten {
-            number: number as u32,
-            place: place as u64,
-            length: 0,
-        },
+    fn from(s: Result<FieldShape, Fault>) -> Self {
+        match s {
+            Ok(shape) => BlinkShape {
+                number: 0,
+                place: 0,
+                kind: shape.number as u32,
+                optional: shape.optional as u32,
+                sequence: shape.sequence as u32,
+                size: shape.size as u32,
+            },
+            Err(fault) => BlinkShape {
+                number: fault.number as u32,
+                place: fault.place as u64,
+                kind: 0,
+                optional: 0,
+                sequence: 0,
+                size: 0,
+            },
+        }
     }
 }
 
@@ -209,17 +199,18 @@ fn export_step(at: usize, step: tape::Step) -> BlinkStep
     ensures { result ≡ exported_step at step }
 {
     let next = step.next;
-    let answer = step.answer;
-    match answer {
-        tape::Answer::Ended => BlinkStep {
+    let Some(verdict) = step.answer else {
+        return BlinkStep {
             number: 0,
             place: 0,
             ended: 1,
             offset: 0,
             length: 0,
             next: next as u64,
-        },
-        tape::Answer::Accepted => BlinkStep {
+        };
+    };
+    match verdict {
+        Ok(()) => BlinkStep {
             number: 0,
             place: 0,
             ended: 0,
@@ -227,9 +218,9 @@ fn export_step(at: usize, step: tape::Step) -> BlinkStep
             length: (next - at) as u64,
             next: next as u64,
         },
-        tape::Answer::Refused { number, place } => BlinkStep {
-            number: number as u32,
-            place: place as u64,
+        Err(fault) => BlinkStep {
+            number: fault.number as u32,
+            place: fault.place as u64,
             ended: 0,
             offset: 0,
             length: 0,
@@ -250,26 +241,32 @@ fn answer(kind: u32, exponent: i32, bits: u64) -> BlinkNumber
     }
 }
 
-fn export_number(n: codec::Number) -> BlinkNumber
+// No `From`: a NaN would have no bits here.
+fn export_number(n: Result<Number, Fault>) -> BlinkNumber
     requires { NoNan n }
     ensures { result ≡ exported_number n }
 {
-    match n {
-        codec::Number::Signed(x) => answer(1, 0, wire::i64_to_bits(x)),
-        codec::Number::Unsigned(x) => answer(2, 0, x),
-        codec::Number::Bool(x) => answer(3, 0, x as u64),
-        codec::Number::Decimal { exponent, mantissa } => {
+    let number = match n {
+        Ok(number) => number,
+        Err(fault) => {
+            return BlinkNumber {
+                number: fault.number as u32,
+                place: fault.place as u64,
+                kind: 0,
+                exponent: 0,
+                bits: 0,
+            };
+        }
+    };
+    match number {
+        Number::Signed(x) => answer(1, 0, wire::i64_to_bits(x)),
+        Number::Unsigned(x) => answer(2, 0, x),
+        Number::Bool(x) => answer(3, 0, x as u64),
+        Number::Decimal { exponent, mantissa } => {
             answer(4, exponent as i32, wire::i64_to_bits(mantissa))
         }
-        codec::Number::Float(x) => answer(5, 0, f64::to_bits(x)),
-        codec::Number::NanBits(x) => answer(6, 0, x),
-        codec::Number::Refused { number, place } => BlinkNumber {
-            number: number as u32,
-            place: place as u64,
-            kind: 0,
-            exponent: 0,
-            bits: 0,
-        },
+        Number::Float(x) => answer(5, 0, f64::to_bits(x)),
+        Number::NanBits(x) => answer(6, 0, x),
     }
 }
 
@@ -297,14 +294,14 @@ pub extern "C" fn blink_fault_words(number: u32, room: &mut [u8]) -> usize
 pub extern "C" fn blink_check_table(table: &[u8]) -> BlinkVerdict
     ensures { result ≡ exported (table_verdict table.now) }
 {
-    export(codec::check_table(table))
+    BlinkVerdict::from(codec::check_table(table))
 }
 
 #[unsafe(no_mangle)]
 pub extern "C" fn blink_check_store(store: &[u8]) -> BlinkVerdict
     ensures { result ≡ exported (store_verdict store.now) }
 {
-    export(codec::check_store(store))
+    BlinkVerdict::from(codec::check_store(store))
 }
 
 #[unsafe(no_mangle)]
@@ -319,14 +316,14 @@ pub extern "C" fn blink_add_settings(
     ensures value { result ≡ exported (add_verdict store.old customer version absent pads unused) }
     ensures store_after { store.new ≡ store_after store.old customer version absent pads unused }
 {
-    export(codec::add_settings(store, customer, version, absent, pads, unused))
+    BlinkVerdict::from(codec::add_settings(store, customer, version, absent, pads, unused))
 }
 
 #[unsafe(no_mangle)]
 pub extern "C" fn blink_read_settings(store: &[u8], customer: u16, version: u16) -> BlinkSettings
     ensures { result ≡ exported_settings (setting_at store.now customer version) }
 {
-    export_settings(codec::read_settings(store, customer, version))
+    BlinkSettings::from(codec::read_settings(store, customer, version))
 }
 
 #[unsafe(no_mangle)]
@@ -340,7 +337,7 @@ pub extern "C" fn blink_check_message(
     ensures value { result ≡ exported (message_verdict table.now message.now (under store.now customer (length scratch.old))) }
     ensures scratch_after { scratch.new ≡ scratch_after table.now store.now message.now scratch.old }
 {
-    export(codec::check_message(table, store, customer, message, scratch))
+    BlinkVerdict::from(codec::check_message(table, store, customer, message, scratch))
 }
 
 #[unsafe(no_mangle)]
@@ -372,7 +369,7 @@ pub extern "C" fn blink_message_to_sheet(
     ensures scratch_after { scratch.new ≡ scratch_after table.now store.now message.now scratch.old }
     ensures sheet_after { sheet.new ≡ room_after (to_sheet table.now message.now (under store.now customer (length scratch.old)) (length sheet.old)) sheet.old }
 {
-    export_written(codec::message_to_sheet(table, store, customer, message, scratch, sheet))
+    BlinkWritten::from(codec::message_to_sheet(table, store, customer, message, scratch, sheet))
 }
 
 #[unsafe(no_mangle)]
@@ -384,7 +381,7 @@ pub extern "C" fn blink_sheet_to_message(
     ensures value { result ≡ exported_written (written_of (to_message table.now sheet.now (length output.old))) }
     ensures output_after { output.new ≡ room_after (to_message table.now sheet.now (length output.old)) output.old }
 {
-    export_written(codec::sheet_to_message(table, sheet, output))
+    BlinkWritten::from(codec::sheet_to_message(table, sheet, output))
 }
 
 #[unsafe(no_mangle)]
@@ -402,7 +399,7 @@ pub extern "C" fn blink_rewrite(
     ensures sheet_after { sheet.new ≡ room_after (to_sheet table.now message.now (under store.now customer (length scratch.old)) (length sheet.old)) sheet.old }
     ensures output_after { output.new ≡ room_after (rewriting table.now message.now store.now customer (rooms scratch.old sheet.old output.old)) output.old }
 {
-    export_written(codec::rewrite(table, store, customer, message, scratch, sheet, output))
+    BlinkWritten::from(codec::rewrite(table, store, customer, message, scratch, sheet, output))
 }
 
 #[unsafe(no_mangle)]
@@ -440,7 +437,7 @@ pub extern "C" fn blink_read_bytes(
     field: u64,
     item: u64,
 ) -> BlinkPart
-    ensures value { result ≡ exported_span (span_answer table.now message.now (under store.now customer (length scratch.old)) field item) }
+    ensures value { result ≡ exported_span (part_answer table.now message.now (under store.now customer (length scratch.old)) field item) }
     ensures scratch_after { scratch.new ≡ scratch_after table.now store.now message.now scratch.old }
 {
     let s = codec::find_bytes(
@@ -452,14 +449,14 @@ pub extern "C" fn blink_read_bytes(
         field as usize,
         item as usize,
     );
-    export_span(s)
+    BlinkPart::from(s)
 }
 
 #[unsafe(no_mangle)]
 pub extern "C" fn blink_field_shape(table: &[u8], id: u64, field: u64) -> BlinkShape
     ensures { result ≡ exported_shape (field_shape table.now id field) }
 {
-    export_shape(codec::field_shape(table, id, field as usize))
+    BlinkShape::from(codec::field_shape(table, id, field as usize))
 }
 
 #[unsafe(no_mangle)]
@@ -473,7 +470,7 @@ pub extern "C" fn blink_add_line(
     ledger: &mut [u8],
     fill: u64,
 ) -> BlinkWritten
-    ensures value { result ≡ exported_entered (enters (lines ledger.old fill) (line_of (call table.now message.now (under store.now customer (length scratch.old)) id))) }
+    ensures value { result ≡ exported_written (enters (lines ledger.old fill) (line_of (call table.now message.now (under store.now customer (length scratch.old)) id))) }
     ensures ledger_after { ledger.new ≡ (entered (lines ledger.old fill) (line_of (call table.now message.now (under store.now customer (length scratch.old)) id))).bytes }
     ensures scratch_after { scratch.new ≡ scratch_after table.now store.now message.now scratch.old }
 {
@@ -487,5 +484,5 @@ pub extern "C" fn blink_add_line(
         ledger,
         fill as usize,
     );
-    export_entered(entered)
+    BlinkWritten::from(entered)
 }

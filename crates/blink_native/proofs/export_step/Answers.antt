@@ -1,15 +1,15 @@
-use mathlib.Core.Path.{sym, ap}
+use Rattle.std.proofs.Common.{Some, sym, ap, ◌∙◌}
 use Rattle.blink_native.specs.Boundary.{exported_answer}
 use Rattle.blink_native.proofs.export_step.Goals as goal
 
-pub returns-in-Ended : goal.returns-in-Ended
+pub returns-in_default : goal.returns-in_default
 unfolding exported_answer
-returns-in-Ended c = sym (ap (exported_answer _ _) c.in-Ended.is)
+returns-in_default c = sym (ap (exported_answer _ _) c.in_default.is)
 
-pub returns-in-Accepted : goal.returns-in-Accepted
+pub returns-in-Ok : goal.returns-in-Ok
 unfolding exported_answer
-returns-in-Accepted c = sym (ap (exported_answer _ _) c.in-Accepted.is)
+returns-in-Ok c = sym (ap (exported_answer _ _) (c.in-Some.is ∙ ap Some c.in-Ok.is))
 
-pub returns-in-Refused : goal.returns-in-Refused
+pub returns-in-Err : goal.returns-in-Err
 unfolding exported_answer
-returns-in-Refused c = sym (ap (exported_answer _ _) c.in-Refused.is)
+returns-in-Err c = sym (ap (exported_answer _ _) (c.in-Some.is ∙ ap Some c.in-Err.is))

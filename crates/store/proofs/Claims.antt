@@ -1,7 +1,7 @@
 -- Request 7's statements, shown.
-use Rattle.std.proofs.Common.{Ok, Err}
+use Rattle.std.proofs.Common.{Ok, Err, Result}
 use Prim.Native.Nat.{ℕ, zero, suc, ◌+◌, ◌*◌, ◌<◌}
-use mathlib.Core.Path.{◌≡◌, refl, sym, ◌∙◌}
+use mathlib.Core.Path.{◌≡◌, refl, sym, ap, ◌∙◌}
 use mathlib.Core.Bool.{Bool, true, false, ◌&&◌}
 use mathlib.Core.List.{List}
 use native.Mathlib.Omega.{arith}
@@ -10,13 +10,15 @@ use lib.Dec.{leb, eqb}
 use borrow.Author.Tests.{eq-eqb, ne_eqb}
 use Rattle.wire.specs.Bytes.{all_zero}
 use Rattle.schema.specs.Faults.{Verdict, fault_at, need}
+use Rattle.schema.specs.declared.Fault.{Fault}
+use Rattle.settings.specs.declared.Ignored.{Ignored}
 use Rattle.settings.specs.Store.{strict, customer_of, version_of, ignored_of, last_of, follows, good, records, sound, store_verdict, ignored_by, governing, setting_of, version_by, setting_at, add_verdict, store_after}
 use Rattle.store.specs.Claims.{store_with, Damaged, MadeSo, Added, Claims}
 use Rattle.store.proofs.Laws.{run-stop, last-is, last-gone, stays, joins, passes, governs}
 use Rattle.store.proofs.Added.{good-held, good-ends, versions-rise, version-there, version-not-there, zero-none, bad-stays, new-more, new-passes, new-governs, new_others, new-readable, new-older}
 
-unlike : {A : Type 0} (n p : ℕ) → Err (fault_at n p) ≡ Ok tt → A
-unlike n p e = absurd (let z : ◌≡◌ {A = ℕ} 0 1 = cc in omega arith)
+unlike : {A : Type 0} (n p : ℕ) → ◌≡◌ {A = Verdict} (Err (fault_at n p)) (Ok tt) → A
+unlike n p e = let z : ⊥ = cc in absurd z
 
 -- WHERE A STORE IS REFUSED
 
@@ -24,13 +26,10 @@ is-damaged : (st : List ℕ) (n place : ℕ) → store_verdict st ≡ Err (fault
 unfolding store_verdict setting_of setting_at add_verdict
 is-damaged st n place e = go (sound st) refl e
   where
-    other : (m q : ℕ) → Err (fault_at m q) ≡ Err (fault_at n place) → Err (fault_at m q) ≡ Err (fault_at n place)
-    other m q e =
-        let a : m ≡ n = cc in
-        let b : q ≡ place = cc in
-        rw (a, b)
+    other : (m q : ℕ) → ◌≡◌ {A = Verdict} (Err (fault_at m q)) (Err (fault_at n place)) → ◌≡◌ {A = Result Ignored Fault} (Err (fault_at m q)) (Err (fault_at n place))
+    other m q e = let f : ◌≡◌ {A = Fault} (fault_at m q) (fault_at n place) = cc in ap (λ (x : Fault). Err x) f
 
-    go : (b : Bool) → sound st ≡ b → need b (Err (fault_at 50 (9 * records st))) (Ok tt) ≡ Err (fault_at n place) → Damaged st n place
+    go : (b : Bool) → sound st ≡ b → need {X = Verdict} b (Err (fault_at 50 (9 * records st))) (Ok tt) ≡ Err (fault_at n place) → Damaged st n place
     go true z e = unfold need in unlike _ _ (sym e)
     go false z e = unfold need in record {
       find = λ c. rw z (other 50 (9 * records st) e);
@@ -44,7 +43,7 @@ pub sound-of : (st : List ℕ) → store_verdict st ≡ Ok tt → sound st ≡ t
 unfolding store_verdict
 sound-of st e = go (sound st) e
   where
-    go : (b : Bool) → need b (Err (fault_at 50 (9 * records st))) (Ok tt) ≡ Ok tt → b ≡ true
+    go : (b : Bool) → need {X = Verdict} b (Err (fault_at 50 (9 * records st))) (Ok tt) ≡ Ok tt → b ≡ true
     go true e = refl
     go false e = unfold need in unlike _ _ e
 
@@ -92,8 +91,8 @@ module _ (st : List ℕ) (c v a p u : ℕ) where
       z : sound st ≡ true
       z = sound-of st e
 
-      alike : (n m q r : ℕ) → (n ≡ m → ⊥) → Err (fault_at n q) ≡ Err (fault_at m r) → ⊥
-      alike n m q r h e = let f : n ≡ m = cc in h f
+      alike : (n m q r : ℕ) → (n ≡ m → ⊥) → ◌≡◌ {A = Verdict} (Err (fault_at n q)) (Err (fault_at m r)) → ⊥
+      alike n m q r h e = let f : ◌≡◌ {A = Fault} (fault_at n q) (fault_at m r) = cc in h (ap (λ (x : Fault). x.number) f)
 
       go : (b d : Bool) → may ≡ b → add_verdict st c v a p u ≡ rests b d → MadeSo st c v a p u place
       go false d f h = unfold need in
@@ -110,7 +109,7 @@ module _ (st : List ℕ) (c v a p u : ℕ) where
   unfolding add_verdict
   is-added e few low = rw (← (joins st c v a p u e)) (go (sound st) may refl refl e)
     where
-      go : (s b : Bool) → sound st ≡ s → may ≡ b → need (s && b) (Err (fault_at 50 (9 * records st))) (need room (Err (fault_at 51 0)) (Ok tt)) ≡ Ok tt
+      go : (s b : Bool) → sound st ≡ s → may ≡ b → rests (s && b) room ≡ Ok tt
           → Added st c v a p u (store_with st c v a p u)
       go true true z f e = record {
         passes = new-passes st c v a p u few low z f;

@@ -97,10 +97,10 @@ pub allows-any : (gs : List Group) (a g : ℕ) → a ≡ 0 → true ≡ allows g
 unfolding allows
 allows-any gs a g e = rw e
 
-pub allows-under : (gs : List Group) (a g : ℕ) → (a ≡ 0 → ⊥) → allows gs a g ≡ under gs g (a - 1) g
+pub allows-under : (gs : List Group) (a b g : ℕ) → 1 ≤ a × (b ≡ a - 1) → allows gs a g ≡ under gs g b g
 unfolding allows
-allows-under gs zero g e = absurd (e refl)
-allows-under gs (suc a) g e = let q : suc a - 1 ≡ a = omega arith in rw q
+allows-under gs zero b g (h, e) = absurd (omega arith)
+allows-under gs (suc a) b g (h, e) = let q : b ≡ a = omega (arith, e) in rw q
 
 module _ (gs : List Group) (n a g : ℕ) where
   pub under_same : a ≡ g → under gs n a g ≡ true

@@ -1,5 +1,5 @@
 -- The store's definitions, each way through them.
-use Rattle.std.proofs.Common.{Ok, Err}
+use Rattle.std.proofs.Common.{Ok, Err, Result}
 use Prim.Native.Nat.{ℕ, zero, suc, ◌+◌, ◌-◌, ◌*◌, ◌%◌, ◌<◌, ◌≤◌}
 use mathlib.Core.Path.{◌≡◌, refl, sym, ap, ◌∙◌}
 use mathlib.Core.Bool.{Bool, true, false, cond, ◌&&◌, and_assoc}
@@ -12,8 +12,9 @@ use lib.Dec.{leb, ltb, eqb}
 use borrow.Author.Tests.{le-leb, lt-leb, ltb-true, ltb-false, ne_eqb, eqb-true, eqb-false}
 use Rattle.wire.specs.Bytes.{part, splice, bytes_of, same, all_zero}
 use Rattle.wire.proofs.Laws.{splice-cons, splice-nil, splice-append}
+use Rattle.schema.specs.declared.Fault.{Fault}
 use Rattle.schema.specs.Faults.{fault_at, need}
-use Rattle.settings.specs.Store.{strict, CS, customer_of, version_of, flag_of, ignored_of, flags_ok, last_of, newest, versioned, above, follows, stands, good, run, records, sound, store_verdict, ignored_by, governing, setting_of, version_by, setting_at, record_of, add_verdict, store_after}
+use Rattle.settings.specs.Store.{CS, customer_of, version_of, flag_of, ignored_of, flags_ok, last_of, newest, versioned, above, follows, stands, good, run, records, sound, store_verdict, ignored_by, governing, setting_of, version_by, setting_at, record_of, add_verdict, store_after}
 use Rattle.store.specs.Check.{standing, rising_from, rising}
 
 -- FLAGS
@@ -123,9 +124,9 @@ module _ (st : List ℕ) (n : ℕ) where
     unfolding standing stands
     stands-not e = rw (le-leb (9 * n + 9) (length st) h, e)
 
-    pub stands-flags : same (part 2 (9 * n) st) CS ≡ true → flags_ok (get_or st (9 * n + 6) 0) (get_or st (9 * n + 7) 0) (get_or st (9 * n + 8) 0) ≡ standing st n
+    pub stands-flags : same (part 2 (9 * n) st) CS ≡ true → flags_ok (flag_of st n 0) (flag_of st n 1) (flag_of st n 2) ≡ standing st n
     unfolding standing stands
-    stands-flags e = rw (le-leb (9 * n + 9) (length st) h, e, at-six, at-seven, at-eight)
+    stands-flags e = rw (le-leb (9 * n + 9) (length st) h, e)
 
 -- THE LAST RECORD
 
@@ -219,33 +220,6 @@ module _ (st slots : List ℕ) (k c : ℕ) (e : c ≡ customer_of st k) (s : See
       leads = λ d. leads-next d (eqb (d % length slots) (c % length slots)) refl ∙ ap (λ (m : ℕ). newest st d (get_or noted (d % m) 0)) (sym (length-set slots (c % length slots) (k + 1)));
     }
 
--- BY A RECORD'S NUMBER PLUS 1
-
-module _ (st : List ℕ) where
-  pub above-none : (k v : ℕ) → k ≡ 0 → true ≡ above st v k
-  unfolding above
-  above-none k v e = rw e
-
-  pub above-some : (k v : ℕ) → (k ≡ 0 → ⊥) → ltb (version_of st (k - 1)) v ≡ above st v k
-  above-some zero v h = absurd (h refl)
-  above-some (suc k) v h = unfold above in let q : suc k - 1 ≡ k = omega arith in rw q
-
-  pub ignored-none : (k : ℕ) → k ≡ 0 → strict ≡ ignored_by st k
-  unfolding ignored_by
-  ignored-none k e = rw e
-
-  pub ignored-some : (k : ℕ) → (k ≡ 0 → ⊥) → ignored_of st (k - 1) ≡ ignored_by st k
-  ignored-some zero h = absurd (h refl)
-  ignored-some (suc k) h = unfold ignored_by in let q : suc k - 1 ≡ k = omega arith in rw q
-
-  pub version-none : (k : ℕ) → k ≡ 0 → Err (fault_at 59 0) ≡ version_by st k
-  unfolding version_by
-  version-none k e = rw e
-
-  pub version-some : (k : ℕ) → (k ≡ 0 → ⊥) → Ok (ignored_of st (k - 1)) ≡ version_by st k
-  version-some zero h = absurd (h refl)
-  version-some (suc k) h = unfold version_by in let q : suc k - 1 ≡ k = omega arith in rw q
-
 -- WHAT IS WRITTEN
 
 pub store-three : (at a b c : ℕ) (s : List ℕ) → at + 3 ≤ length s → set (set (set s at a) (at + 1) b) (at + 2) c ≡ splice 3 at (a ∷ (b ∷ (c ∷ []))) s
@@ -304,19 +278,28 @@ module _ (st : List ℕ) (n : ℕ) (e : n ≡ records st) where
     unfolding setting_at need
     refused-version c v = rw (sym is-sound ∙ s, e)
 
+-- what the count of a sound store's records says, and the refusal of any other store
+module _ (st : List ℕ) (r : Result ℕ Fault) (e : r ≡ need (sound st) (Err (fault_at 50 (9 * records st))) (Ok (records st))) where
+  abbrev answer : Bool → Result ℕ Fault
+  answer b = need b (Err (fault_at 50 (9 * records st))) (Ok (records st))
+
+  pub sound-records : (n : ℕ) → r ≡ Ok n → (n ≡ records st) × (all_zero (drop (9 * n) st) ≡ true)
+  unfolding need
+  sound-records n h = go (sound st) refl (sym h ∙ e)
+    where
+      go : (b : Bool) → sound st ≡ b → Ok n ≡ answer b → (n ≡ records st) × (all_zero (drop (9 * n) st) ≡ true)
+      go true z q = let k : n ≡ records st = cc in (k, is-sound st n k ∙ z)
+      go false z q = let k : ⊥ = cc in absurd k
+
+  pub unsound : (f : Fault) → r ≡ Err f → (f ≡ fault_at 50 (9 * records st)) × (all_zero (drop (9 * records st) st) ≡ false)
+  unfolding need
+  unsound f h = go (sound st) refl (sym h ∙ e)
+    where
+      go : (b : Bool) → sound st ≡ b → Err f ≡ answer b → (f ≡ fault_at 50 (9 * records st)) × (all_zero (drop (9 * records st) st) ≡ false)
+      go true z q = let k : ⊥ = cc in absurd k
+      go false z q = let k : f ≡ fault_at 50 (9 * records st) = cc in (k, is-sound st (records st) refl ∙ z)
+
 -- AN ADDITION
-
-pub and-not : (a b : Bool) → a ≡ false → false ≡ a && b
-and-not a b e = rw e
-
-module _ (st : List ℕ) (n c v a p u : ℕ) (z : Bool) (e : z ≡ true) where
-  pub follows-not : flags_ok a p u ≡ false → false ≡ z && follows st n c v a p u
-  unfolding follows
-  follows-not f = rw (e, f)
-
-  pub follows-above : flags_ok a p u ≡ true → above st v (newest st c n) ≡ z && follows st n c v a p u
-  unfolding follows
-  follows-above f = rw (e, f)
 
 module _ (st : List ℕ) (c v a p u : ℕ) where
   pub stays : (x q : ℕ) → add_verdict st c v a p u ≡ Err (fault_at x q) → st ≡ store_after st c v a p u

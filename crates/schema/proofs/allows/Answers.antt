@@ -1,16 +1,10 @@
-use Rattle.std.proofs.Common.{◌≡◌, ◌-◌, sym, refl, ◌∙◌, arith, rules}
+use Rattle.std.proofs.Common.{◌-◌, sym, ◌∙◌, arith}
 use Rattle.schema.specs.Table.{schema}
-use Rattle.schema.proofs.Groups.{allows-any, allows-under, under_same, under_top, under_next, placed-inside, placed-super}
+use Rattle.schema.proofs.Groups.{allows-any, allows-under, under_same, under_top, under_next, placed-super}
 use Rattle.schema.proofs.allows.Goals as goal
 
 pub returns-in_default : goal.returns-in_default
 returns-in_default c = allows-any (schema c.args.table.now) _ c.args.group (omega (arith, c.in_default.ensures))
-
-pub loop-above-init : goal.loop-above-init
-loop-above-init c = (search rules, (c.args.group, omega arith, refl))
-
-pub super_number-number-requires : goal.super_number-number-requires
-super_number-number-requires c = let p = placed-inside _ _ _ c.requires.0.placed _ c.loop-above.invariant.0 in omega (arith, p, c.group_place.ensures.0)
 
 pub returns-in_default-checked_sub : goal.returns-in_default-checked_sub
 returns-in_default-checked_sub c = let gs = schema c.args.table.now in let i = c.loop-above.invariant in

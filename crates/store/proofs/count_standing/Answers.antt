@@ -1,10 +1,7 @@
 use Rattle.std.proofs.Common.{◌-◌, sym, ◌∙◌, length, arith}
 use Rattle.store.specs.Check.{standing}
-use Rattle.store.proofs.Laws.{run-first, run-turn, run-stop, stands-short}
+use Rattle.store.proofs.Laws.{run-turn, run-stop, stands-short}
 use Rattle.store.proofs.count_standing.Goals as goal
-
-pub loop-n-init : goal.loop-n-init
-loop-n-init c = run-first (standing c.args.store.now) (length c.args.store.now)
 
 pub returns-then-not-is_standing : goal.returns-then-not-is_standing
 returns-then-not-is_standing c = let st = c.args.store.now in let l = c.loop-n in

@@ -1,10 +1,7 @@
 use Rattle.std.proofs.Common.{◌-◌, sym, ◌∙◌, arith}
 use Rattle.store.specs.Check.{rising}
-use Rattle.store.proofs.Laws.{run-first, run-stop, run_end, run-turn, rising-all}
+use Rattle.store.proofs.Laws.{run-stop, run_end, run-turn, rising-all}
 use Rattle.store.proofs.few_rising.Goals as goal
-
-pub loop-k-init : goal.loop-k-init
-loop-k-init c = run-first (rising c.args.store.now) c.args.n
 
 pub returns-then-not-is_rising : goal.returns-then-not-is_rising
 returns-then-not-is_rising c = let st = c.args.store.now in let l = c.loop-k in

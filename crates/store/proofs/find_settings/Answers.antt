@@ -1,4 +1,4 @@
-use Rattle.std.proofs.Common.{Ok, refl, ap, ◌∙◌, arith}
+use Rattle.std.proofs.Common.{Ok, refl, ap, ◌∙◌}
 use Rattle.std.proofs.lemmas.Result.{err_from_is_err_and}
 use Rattle.settings.specs.Store.{ignored_by}
 use Rattle.store.proofs.Laws.{governs, refused-setting, sound-records, unsound}
@@ -9,9 +9,6 @@ returns-in_err-n c = let st = c.args.store.now in
     let p = err_from_is_err_and c.from_residual.result c.from_residual.ensures.1 in
     let u = unsound st _ c.sound_records.ensures.value _ c.in_err-n.was in
     rw (p.1, p.2, u.0) (refused-setting st _ refl u.1 c.args.customer)
-
-pub ignored_by-requires : goal.ignored_by-requires
-ignored_by-requires c = omega (arith, c.in_ok-n.ensures.room, c.newest-last.ensures.1)
 
 pub returns : goal.returns
 returns c = let st = c.args.store.now in let s = sound-records st _ c.sound_records.ensures.value _ c.in_ok-n.was in

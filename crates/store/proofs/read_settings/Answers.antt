@@ -1,4 +1,4 @@
-use Rattle.std.proofs.Common.{Ok, refl, ap, ◌∙◌, arith}
+use Rattle.std.proofs.Common.{Ok, refl, ap, ◌∙◌}
 use Rattle.std.proofs.lemmas.Result.{err_from_is_err_and}
 use Rattle.settings.specs.Store.{version_by}
 use Rattle.store.proofs.Laws.{has-version, refused-version, sound-records, unsound}
@@ -14,9 +14,6 @@ pub returns-in_default : goal.returns-in_default
 unfolding version_by
 returns-in_default c = let st = c.args.store.now in let s = sound-records st _ c.sound_records.ensures.value _ c.in_ok-n.was in
     ap (version_by st) (rw (c.in_default.is, c.from.ensures, c.from-2.ensures) at c.versioned.ensures.0) ∙ has-version st _ s.0 s.1 c.args.customer c.args.version
-
-pub ignored_of-requires : goal.ignored_of-requires
-ignored_of-requires c = omega (arith, c.in_ok-n.ensures.room, rw c.in-Some.is at c.versioned.ensures.1)
 
 pub returns : goal.returns
 unfolding version_by

@@ -16,7 +16,7 @@ use Rattle.std.specs.Result.{is_ok, is_err}
 use Rattle.schema.specs.Faults.{Verdict, fault_at, need}
 use Rattle.schema.specs.Schema.{Test, any, flag, below, symbol, Kind, plain, inline, indirect, Field, fields_of, find, known}
 use Rattle.schema.specs.Table.{scalar_width, field_count, kind_of, field_at, fields_at, enums, schema, table_verdict}
-use Rattle.schema.specs.Layout.{group_place, group_total, Placed, Layout}
+use Rattle.schema.specs.Layout.{group_place, group_total, Layout}
 use Rattle.schema.proofs.Groups.{placed-fields, find-whole, known_is}
 use Rattle.fields.specs.Fields.{size_of, shape_of, shape_in, shape_under, shape_after, field_shape, signature_of, has_under, has_after, has_fields}
 
@@ -67,9 +67,6 @@ module _ (es : List (List ℕ)) (t : List ℕ) where
       rw (drop-drop 16 p t, ← q) (shape-there n f (p + 16) (omega arith))
 
 -- THE GROUP WITH AN ID
-
-pub find-ready : (t k : List ℕ) → Layout t k → (n : ℕ) → n ≡ group_total k → (Placed t k n) × (length k ≡ 322) × (n ≤ 64) × (length t ≤ 65536)
-find-ready t k P n e = let q = e ∙ P.total in (rw q P.placed, P.long, rw q P.few, P.small)
 
 module _ (t k : List ℕ) (P : Layout t k) (id : ℕ) where
   abbrev g : ℕ
@@ -225,9 +222,6 @@ module _ (es : List (List ℕ)) (t x : List ℕ) (row : ℕ) where
   -- the answer for what is left of n fields after i
   abbrev pub Left : ℕ → ℕ → Bool
   Left n i = same (signature_of (fields_at es (n - i) (drop (row + 16 * i) t))) (drop (3 * i) x)
-
-  pub left-all : (n : ℕ) → same (signature_of (fields_at es n (drop row t))) x ≡ Left n 0
-  left-all n = let r : row ≡ row + 16 * 0 = omega arith in let m : n ≡ n - 0 = omega arith in rw (← r, ← m)
 
   left-more : (n i : ℕ) → length x ≡ 3 * n → i < n → Left n i ≡ Named (field_at es (drop (row + 16 * i) t)) x (3 * i) && Left n (i + 1)
   unfolding signature_of fields_at same

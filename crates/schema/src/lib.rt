@@ -4,7 +4,7 @@
 // groups are. Callers ask for a number of it by name, never by its position.
 #![tactic(auto)]
 
-ghost use Rattle.std.specs.Prelude.{◌≡◌, ℕ, ◌+◌, ◌*◌, ◌^◌, ◌<◌, ◌≤◌, ◌&&◌, List, [], length, take, drop, if◌then◌else◌, ◌==◌, slice_index, slice_index_or};
+ghost use Rattle.std.specs.Prelude.{◌≡◌, ℕ, ◌+◌, ◌*◌, ◌^◌, ◌<◌, ◌≤◌, ◌&&◌, List, [], length, take, drop, ◌==◌, slice_index, slice_index_or};
 ghost use Rattle.wire.specs.Bytes.{part};
 ghost use Rattle.schema.specs.Schema.{text_ok, member, find, known, allows, kind_width, value_width, field_width};
 ghost use Rattle.schema.specs.Faults.{judged};
@@ -42,7 +42,7 @@ pub enum FieldKind {
 }
 
 // Where the search for a symbol stands: `count` symbols from number `first` on are in question. `at` is
-// the number of the one that equals the value, and as long as none was found, of no symbol.
+// the number of the one that equals the value, and as long as none was found, of no symbol: a number, as `Halving` says it.
 #[derive(Clone, Copy)]
 struct Search {
     at: usize,
@@ -144,7 +144,7 @@ pub fn has_id(table: &[u8], at: usize) -> bool
     table[at + 10] == 1
 }
 
-// "super group number plus 1, or 0"
+// "super group number plus 1, or 0", as the table has it
 pub fn super_number(table: &[u8], at: usize) -> usize
     requires { at + 16 ≤ length table.now }
     ensures { (result ≡ super_number (drop at table.now)) × (result < 2 ^ 16) }
@@ -176,7 +176,7 @@ fn is_named(table: &[u8], at: usize, id: u64) -> bool
     type_id(table, at) == id && has_id(table, at)
 }
 
-// The number of the group with this id among the first n; n where none of them has it.
+// The number of the group with this id among the first n; n where none of them has it, as `find` in specs says.
 pub fn find(table: &[u8], index: &[u16], n: usize, id: u64) -> usize
     requires { (Placed table.now index.now n) × (length index.now ≡ 322) × (n ≤ 64) × (length table.now ≤ 65536) }
     ensures { (result ≡ find (take n (schema table.now)) id) × (result ≤ n) }
@@ -274,7 +274,7 @@ pub fn has_symbol(table: &[u8], index: &[u16], list: usize, value: u32) -> bool
 
 // A FIELD'S RECORD
 
-// The number of its type, in document 01.
+// The number of its type, in document 01: the table's byte, which callers hand on.
 pub fn field_type(table: &[u8], at: usize) -> u8
     requires { at + 16 ≤ length table.now }
     ensures { result ≡ field_type (drop at table.now) }

@@ -6,15 +6,15 @@ use mathlib.Core.Bool.{Bool, true, false, cond, ◌&&◌, and_assoc}
 use mathlib.Core.List.{List, [], ◌∷◌, ◌++◌}
 use native.Mathlib.Omega.{arith}
 use native.Mathlib.Nat.{mod-lt}
-use lib.ListN.{length, get_or, set, drop, replicate, length-drop, length-set}
-use lib.Seq.{take_all, get_or-set_same, get_or-set_other}
+use lib.ListN.{length, get_or, set, drop, length-set}
+use lib.Seq.{get_or-set_same, get_or-set_other}
 use lib.Dec.{leb, ltb, eqb}
 use borrow.Author.Tests.{le-leb, lt-leb, ltb-true, ltb-false, ne_eqb, eqb-true, eqb-false}
 use Rattle.wire.specs.Bytes.{part, splice, bytes_of, same, all_zero}
 use Rattle.wire.proofs.Laws.{splice-cons, splice-nil, splice-append}
 use Rattle.schema.specs.declared.Fault.{Fault}
 use Rattle.schema.specs.Faults.{fault_at, need}
-use Rattle.settings.specs.Store.{CS, customer_of, version_of, flag_of, ignored_of, flags_ok, last_of, newest, versioned, above, follows, stands, good, run, records, sound, store_verdict, ignored_by, governing, setting_of, version_by, setting_at, record_of, add_verdict, store_after}
+use Rattle.settings.specs.Store.{CS, customer_of, version_of, flag_of, flags_ok, last_of, newest, versioned, above, follows, stands, good, run, records, sound, store_verdict, ignored_by, governing, setting_of, version_by, setting_at, record_of, add_verdict, store_after}
 use Rattle.store.specs.Check.{standing, rising_from, rising}
 
 -- FLAGS
@@ -103,18 +103,6 @@ counted st m r e f =
 -- A RECORD THAT STANDS
 
 module _ (st : List ℕ) (n : ℕ) where
-  at-six : 9 * n + 6 + 0 ≡ 9 * n + 6
-  at-six = omega arith
-
-  at-seven : 9 * n + 6 + 1 ≡ 9 * n + 7
-  at-seven = omega arith
-
-  at-eight : 9 * n + 6 + 2 ≡ 9 * n + 8
-  at-eight = omega arith
-
-  pub ignored-is : record { absent = eqb (get_or st (9 * n + 6) 0) 1; pads = eqb (get_or st (9 * n + 7) 0) 1; unused = eqb (get_or st (9 * n + 8) 0) 1 } ≡ ignored_of st n
-  ignored-is = rw (at-six, at-seven, at-eight)
-
   pub stands-short : length st < 9 * n + 9 → false ≡ standing st n
   unfolding standing stands
   stands-short h = rw (lt-leb (9 * n + 9) (length st) h)
@@ -167,16 +155,8 @@ pub record Seen (st slots : List ℕ) (k : ℕ) : Type 0 where
   pub low : (i : ℕ) → get_or slots i 0 ≤ k
   pub leads : (c : ℕ) → newest st c k ≡ newest st c (get_or slots (c % length slots) 0)
 
-pub zeros-at : (m i : ℕ) → ◌≡◌ {A = ℕ} (get_or (replicate m 0) i 0) 0
-zeros-at zero i = refl
-zeros-at (suc m) zero = refl
-zeros-at (suc m) (suc i) = zeros-at m i
-
 pub slot-in : (x : ℕ) (slots : List ℕ) (m : ℕ) → length slots ≡ m → 0 < m → x % length slots < length slots
 slot-in x slots m e h = mod-lt x {m = length slots} (omega arith)
-
-pub seen_none : (st slots : List ℕ) → ((i : ℕ) → get_or slots i 0 ≡ 0) → Seen st slots 0
-seen_none st slots z = record { low = λ i. omega (arith, z i); leads = λ c. ap (λ (k : ℕ). newest st c k) (sym (z (c % length slots))) }
 
 pub newest-miss : (st : List ℕ) (c k : ℕ) → (customer_of st k ≡ c → ⊥) → newest st c (k + 1) ≡ newest st c k
 unfolding last_of
@@ -243,9 +223,6 @@ record-written at c v a p u s s₁ s₂ s₃ s₄ h e₁ e₂ e₃ e₄ =
     ∙ splice-append 2 2 at CS C s refl (omega arith)) ∙ splice-append 4 2 at (CS ++ C) W s refl (omega arith)) ∙ splice-append 6 3 at ((CS ++ C) ++ W) F s refl (omega arith)
 
 -- THE ANSWERS
-
-pub rest : (st : List ℕ) (n : ℕ) → 9 * n ≤ length st → part (length st - 9 * n) (9 * n) st ≡ drop (9 * n) st
-rest st n l = take_all (length st - 9 * n) (drop (9 * n) st) (rw (length-drop (9 * n) st) (omega arith))
 
 module _ (st : List ℕ) (n : ℕ) (e : n ≡ records st) where
   pub is-sound : all_zero (drop (9 * n) st) ≡ sound st

@@ -2,7 +2,7 @@
 // A record is named by its number, from 0.
 #![tactic(auto)]
 
-ghost use Rattle.std.specs.Prelude.{Err, IfOk, ◌≡◌, true, ◌&&◌, [], ◌∷◌, ℕ, ◌+◌, ◌*◌, ◌≤◌, ◌<◌, ◌^◌, length, get_or, drop, eqb};
+ghost use Rattle.std.specs.Prelude.{Err, IfOk, ◌≡◌, ◌&&◌, [], ◌∷◌, ℕ, ◌+◌, ◌*◌, ◌≤◌, ◌<◌, ◌^◌, length, get_or, drop, eqb};
 ghost use Rattle.wire.specs.Bytes.{splice, all_zero};
 ghost use Rattle.schema.specs.Faults.{fault_at, need};
 ghost use Rattle.settings.specs.Store.{customer_of, version_of, flag_of, flags_ok, ignoring, newest, versioned, above, follows, run, records, sound, ignored_of, ignored_by, record_of, store_verdict, setting_of, setting_at, add_verdict, store_after};
@@ -83,7 +83,9 @@ pub fn add_settings(
     Ok(())
 }
 
-// How many records a sound store holds: all is zero behind its good ones.
+// How many records a sound store holds: all is zero behind its good ones. Each question begins with it, so it is inlined:
+// with a call a question of a small store takes a tenth longer.
+#[inline(always)]
 fn sound_records(store: &[u8]) -> Result<usize, Fault>
     ensures value { result ≡ need (sound store.now) (Err (fault_at 50 (9 * records store.now))) (Ok (records store.now)) }
     ensures room { IfOk result (λ n. 9 * n ≤ length store.now) }

@@ -86,6 +86,9 @@ flagged c (suc (suc k)) h e = absurd (omega arith)
 abbrev Flags : List ℕ → ℕ → Type 0
 Flags x m = (n : ℕ) → n < m → (get_or x (3 * n + 1) 0 ≤ 1) × (get_or x (3 * n + 2) 0 ≤ 1)
 
+abbrev shaped : ℕ → Bool → Bool → ℕ → FieldShape
+shaped number optional sequence size = record { number = number; optional = optional; sequence = sequence; size = size }
+
 signed : (m : ℕ) (fs : List Field) (x : List ℕ) → length x ≡ 3 * m → Flags x m → ((n : ℕ) → n < m → Named x n (shape_in fs n)) → shape_in fs m ≡ Err (fault_at 28 0) → signature_of fs ≡ x
 unfolding signature_of shape_in
 signed zero [] [] l flags each last = refl
@@ -97,9 +100,10 @@ signed (suc m) (f ∷ fs) (a ∷ []) l flags each last = absurd (omega (arith, l
 signed (suc m) (f ∷ fs) (a ∷ (b ∷ [])) l flags each last = absurd (omega (arith, l))
 signed (suc m) (f ∷ fs) (a ∷ (b ∷ (c ∷ x))) l flags each last =
     let e = (each 0 (omega arith)).1 in
-    let y : f.type ≡ a = cc in
-    let o : f.optional ≡ eqb b 1 = cc in
-    let q : f.sequence ≡ eqb c 1 = cc in
+    let s : shaped f.type f.optional f.sequence (size_of f.type f.kind) ≡ shaped a (eqb b 1) (eqb c 1) (each 0 (omega arith)).0 = cc in
+    let y : f.type ≡ a = ap (λ (x : FieldShape). x.number) s in
+    let o : f.optional ≡ eqb b 1 = ap (λ (x : FieldShape). x.optional) s in
+    let q : f.sequence ≡ eqb c 1 = ap (λ (x : FieldShape). x.sequence) s in
     let g = flags 0 (omega arith) in
     let rest = signed m fs x (omega (arith, l)) (λ n h. rw (third n 1, third n 2) at (flags (suc n) (omega arith))) (λ n h. earlier a b c x n (shape_in fs n) (each (suc n) (omega arith))) last in
     λ i. y i ∷ (flagged f.optional b g.0 o i ∷ (flagged f.sequence c g.1 q i ∷ rest i))
@@ -114,8 +118,8 @@ has-true (Err f) c e = let z : ◌≡◌ {A = ℕ} 0 1 = cc in absurd (omega ari
 only-28 : (v : Verdict) (k : Bool) (y : Result FieldShape Fault) → shape_after v (need k (Err (fault_at 2 0)) y) ≡ Err (fault_at 28 0) → (v ≡ Ok tt) × (k ≡ true) × (y ≡ Err (fault_at 28 0))
 unfolding shape_after need
 only-28 (Ok _) true y e = (refl, refl, e)
-only-28 (Ok _) false y e = let z : ◌≡◌ {A = ℕ} 2 28 = cc in absurd (omega (arith, z))
-only-28 (Err f) k y e = let z : ◌≡◌ {A = ℕ} 20 28 = cc in absurd (omega (arith, z))
+only-28 (Ok _) false y e = let z : ◌≡◌ {A = Fault} (fault_at 2 0) (fault_at 28 0) = cc in absurd (omega (arith, ap (λ (x : Fault). x.number) z))
+only-28 (Err f) k y e = let z : ◌≡◌ {A = Fault} (fault_at 20 0) (fault_at 28 0) = cc in absurd (omega (arith, ap (λ (x : Fault). x.number) z))
 
 module _ (t : List ℕ) (id m : ℕ) (x : List ℕ) (l : length x ≡ 3 * m) where
   abbrev fs : List Field

@@ -1,11 +1,12 @@
 // What a group's fields are, for callers that must know it before they read them.
 #![tactic(auto)]
 
-ghost use Rattle.std.specs.Prelude.{Ok, Err, ◌≡◌, cond, ◌&&◌, List, ℕ, ◌+◌, ◌*◌, ◌≤◌, length, drop, get_or, eqb};
+ghost use Rattle.std.specs.Prelude.{if◌then◌else◌, Ok, ◌≡◌, cond, ◌&&◌, List, ℕ, ◌+◌, ◌*◌, ◌≤◌, length, drop, get_or, eqb};
 ghost use Rattle.wire.specs.Bytes.{same};
 ghost use Rattle.schema.specs.Faults.{fault_at};
 ghost use Rattle.schema.specs.Table.{schema, field_at, fields_at};
-ghost use Rattle.schema.specs.Layout.{Layout};
+ghost use Rattle.schema.specs.Schema.{find, known};
+ghost use Rattle.schema.specs.Layout.{group_place, Layout};
 ghost use Rattle.fields.specs.Fields.{size_of, shape_of, shape_under, field_shape, signature_of, has_under, has_fields};
 
 use schema::Fault;
@@ -26,17 +27,16 @@ pub fn field_shape(table: &[u8], id: u64, field: usize) -> Result<FieldShape, Fa
     ensures { result ≡ field_shape table.now id field }
 {
     let mut index = [0u16; 322];
-    let v = table::index_table(table, &mut index);
-    match v {
-        Verdict::Accepted => shape_under(table, &index, id, field),
-        Verdict::Refused { number, place } => refused(20),
+    if table::index_table(table, &mut index).is_err() {
+        return Err(refusal(20));
     }
+    shape_under(table, &index, id, field)
 }
 
-fn refused(number: u8) -> Result<FieldShape, Fault>
-    ensures { result ≡ Err (fault_at number 0) }
+fn refusal(number: u8) -> Fault
+    ensures { result ≡ fault_at number 0 }
 {
-    FieldShape::Refused { number, place: 0 }
+    Fault { number, place: 0 }
 }
 
 // The same under an accepted table.
@@ -44,24 +44,35 @@ fn shape_under(table: &[u8], index: &[u16], id: u64, field: usize) -> Result<Fie
     requires { Layout table.now index.now }
     ensures { result ≡ shape_under (schema table.now) id field }
 {
+    let Some(at) = group_record(table, index, id) else {
+        return Err(refusal(2));
+    };
+    if schema::field_count(table, at) <= field {
+        return Err(refusal(28));
+    }
+    Ok(shape_at(table, at + 16 + 16 * field))
+}
+
+// Where the group with this type id has its record.
+fn group_record(table: &[u8], index: &[u16], id: u64) -> Option<usize>
+    requires { Layout table.now index.now }
+    ensures { result ≡ (if known (schema table.now) id then Some (group_place index.now (find (schema table.now) id)) else None) }
+{
     let total = schema::group_total(index);
     let group = schema::find(table, index, total, id);
-    if total <= group {
-        return refused(2);
+    if group < total {
+        Some(schema::group_place(index, group))
+    } else {
+        None
     }
-    let at = schema::group_place(index, group);
-    if schema::field_count(table, at) <= field {
-        return refused(28);
-    }
-    shape_at(table, at + 16 + 16 * field)
 }
 
 // The field whose record stands at `row`.
-fn shape_at(table: &[u8], row: usize) -> Result<FieldShape, Fault>
+fn shape_at(table: &[u8], row: usize) -> FieldShape
     requires { row + 16 ≤ length table.now }
-    ensures { (es : List (List ℕ)) → result ≡ shape_of (field_at es (drop row table.now)) }
+    ensures { (es : List (List ℕ)) → Ok result ≡ shape_of (field_at es (drop row table.now)) }
 {
-    FieldShape::Field {
+    FieldShape {
         number: schema::field_type(table, row),
         optional: schema::is_optional(table, row),
         sequence: schema::is_sequence(table, row),
@@ -75,9 +86,7 @@ fn size_at(table: &[u8], row: usize) -> u8
     ensures { (es : List (List ℕ)) → result ≡ size_of (field_at es (drop row table.now)).type (field_at es (drop row table.now)).kind }
 {
     match schema::field_type(table, row) {
-        17 => schema::field_size(table, row),
-        18 => schema::field_size(table, row),
-        19 => schema::field_size(table, row),
+        17 | 18 | 19 => schema::field_size(table, row),
         _ => 0,
     }
 }
@@ -89,11 +98,7 @@ pub fn has_fields(table: &[u8], id: u64, signature: &[u8]) -> bool
     ensures { result ≡ has_fields table.now id signature.now }
 {
     let mut index = [0u16; 322];
-    let v = table::index_table(table, &mut index);
-    match v {
-        Verdict::Accepted => has_fields_under(table, &index, id, signature),
-        Verdict::Refused { number, place } => false,
-    }
+    table::index_table(table, &mut index).is_ok() && has_fields_under(table, &index, id, signature)
 }
 
 // The same under an accepted table.
@@ -101,12 +106,9 @@ pub fn has_fields_under(table: &[u8], index: &[u16], id: u64, signature: &[u8]) 
     requires { Layout table.now index.now }
     ensures { result ≡ has_under (schema table.now) id signature.now }
 {
-    let total = schema::group_total(index);
-    let group = schema::find(table, index, total, id);
-    if total <= group {
+    let Some(at) = group_record(table, index, id) else {
         return false;
-    }
-    let at = schema::group_place(index, group);
+    };
     have_signature(table, at + 16, schema::field_count(table, at), signature)
 }
 
@@ -118,12 +120,10 @@ fn have_signature(table: &[u8], row: usize, count: usize, signature: &[u8]) -> b
     if signature.len() != 3 * count {
         return false;
     }
-    let mut i = 0;
-    while i < count {
+    for i in 0..count {
         if !has_signature(table, row + 16 * i, signature, 3 * i) {
             return false;
         }
-        i += 1;
     }
     true
 }
@@ -134,16 +134,7 @@ fn has_signature(table: &[u8], row: usize, signature: &[u8], at: usize) -> bool
     ensures { (es : List (List ℕ)) → result ≡ eqb (field_at es (drop row table.now)).type (get_or signature.now at 0) && (eqb (cond (field_at es (drop row table.now)).optional 1 0) (get_or signature.now (at + 1) 0) && eqb (cond (field_at es (drop row table.now)).sequence 1 0) (get_or signature.now (at + 2) 0)) }
 {
     let number = schema::field_type(table, row) == signature[at];
-    let optional = flag(schema::is_optional(table, row)) == signature[at + 1];
-    let sequence = flag(schema::is_sequence(table, row)) == signature[at + 2];
-    number & (optional & sequence)
-}
-
-fn flag(x: bool) -> u8
-    ensures { result ≡ cond x 1 0 }
-{
-    if x {
-        return 1;
-    }
-    0
+    let optional = u8::from(schema::is_optional(table, row)) == signature[at + 1];
+    let sequence = u8::from(schema::is_sequence(table, row)) == signature[at + 2];
+    number && optional && sequence
 }

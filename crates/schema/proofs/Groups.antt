@@ -1,7 +1,5 @@
 -- The groups of a table whose records' places the index holds.
-use Rattle.std.proofs.Common.{◌≡◌, ℕ, zero, suc, ◌+◌, ◌-◌, ◌<◌, ◌≤◌, Bool, true, false, ◌&&◌, eqb, ltb, leb, List, [], ◌∷◌, length, take, drop, sym, refl, ap, ◌∙◌, zero-add, arith, drop-drop, ltb-false, ltb-true, le-ltb, lt-ltb, eq-eqb, ne_eqb, leb-true}
-use mathlib.Core.Bool.{and-true}
-use native.Mathlib.Nat.{sub-zero}
+use Rattle.std.proofs.Common.{◌≡◌, ℕ, zero, suc, ◌+◌, ◌-◌, ◌<◌, ◌≤◌, Bool, true, false, ◌&&◌, eqb, ltb, leb, List, [], ◌∷◌, length, take, drop, refl, ap, ◌∙◌, arith, drop-drop, ltb-false, ltb-true, le-ltb, lt-ltb, eq-eqb, ne_eqb, leb-true}
 use lib.Seq.{take-length}
 use Rattle.schema.specs.Schema.{Group, fields_of, super_of, find, known, under, allows, width, fields_width}
 use Rattle.schema.specs.Table.{field_count, super_number, id_flag, type_id, fields_at, group_at, enums, schema}
@@ -64,9 +62,6 @@ module _ (t k : List ℕ) (n : ℕ) (P : Placed t k n) (g : ℕ) (h : g < n) whe
 abbrev pub groups_in : List Group → ℕ → ℕ → List Group
 groups_in gs n i = take (n - i) (drop i gs)
 
-pub find-all : (gs : List Group) (n id : ℕ) → find (take n gs) id ≡ 0 + find (groups_in gs n 0) id
-find-all gs n id = rw (sub-zero, zero-add)
-
 pub find-end : (gs : List Group) (n id i : ℕ) → n ≤ i → i + find (groups_in gs n i) id ≡ i
 unfolding find
 find-end gs n id i h = let e : n - i ≡ 0 = omega arith in rw e (omega arith)
@@ -97,10 +92,10 @@ pub allows-any : (gs : List Group) (a g : ℕ) → a ≡ 0 → true ≡ allows g
 unfolding allows
 allows-any gs a g e = rw e
 
-pub allows-under : (gs : List Group) (a g : ℕ) → (a ≡ 0 → ⊥) → allows gs a g ≡ under gs g (a - 1) g
+pub allows-under : (gs : List Group) (a b g : ℕ) → 1 ≤ a × (b ≡ a - 1) → allows gs a g ≡ under gs g b g
 unfolding allows
-allows-under gs zero g e = absurd (e refl)
-allows-under gs (suc a) g e = let q : suc a - 1 ≡ a = omega arith in rw q
+allows-under gs zero b g (h, e) = absurd (omega arith)
+allows-under gs (suc a) b g (h, e) = let q : b ≡ a = omega (arith, e) in rw q
 
 module _ (gs : List Group) (n a g : ℕ) where
   pub under_same : a ≡ g → under gs n a g ≡ true
@@ -127,14 +122,6 @@ module _ (gs : List Group) (n a g : ℕ) where
         go : (n : ℕ) → g ≤ n → under gs n a g ≡ under gs (n - 1) a (s - 1)
         go zero e = absurd (omega arith)
         go (suc n) e = let q : suc n - 1 ≡ n = omega arith in rw (← is, ne_eqb _ _ d, lt-ltb 0 s (omega arith), q)
-
--- whether a group has an id and it is this one, by the id's test first
-pub not_named : (has : Bool) (i id : ℕ) → (i ≡ id → ⊥) → false ≡ (has && eqb i id)
-not_named true i id d = sym (ne_eqb i id d)
-not_named false i id d = refl
-
-pub named : (has : Bool) (i id : ℕ) → i ≡ id → (has && eqb i id) ≡ has
-named has i id e = rw (eq-eqb i id e) (and-true has)
 
 -- LAYOUT
 

@@ -1,5 +1,5 @@
 -- No refusal of a table has the number 0.
-use Rattle.std.specs.Prelude.{Result, ⊤}
+use Rattle.std.specs.Prelude.{Result}
 use Rattle.schema.specs.declared.Fault.{Fault}
 use Rattle.std.proofs.Common.{Ok, Err, ◌≡◌, ℕ, zero, suc, ◌+◌, ◌≤◌, Bool, true, false, cond, List, [], ◌∷◌, arith}
 use Rattle.schema.specs.Faults.{Verdict, fault_at, need, also}

@@ -1,8 +1,9 @@
 -- The kind of each type, as the code sees it, and its width.
-use Rattle.std.proofs.Common.{◌≡◌, ℕ, ◌+◌, ◌<◌, ◌≤◌, Bool, true, false, cond, ◌||◌, eqb, ltb, leb, List, [], length, get_or, take, refl, arith, ne_eqb, le-leb, leb-false}
+use Rattle.std.proofs.Common.{Ok, Err, ◌≡◌, ℕ, suc, ◌+◌, ◌<◌, ◌≤◌, Bool, true, false, cond, ◌||◌, eqb, ltb, leb, List, [], length, get_or, take, drop, refl, sym, ap, ◌∙◌, arith, ne_eqb, le-leb, leb-false}
 use lib.ListN.{get_or-eq_default}
 use borrow.Author.Tests.{lt-leb, eqb-false}
 use Rattle.schema.specs.Schema.{Test, flag, below, symbol, plain, passes, test_fault, member, Field, kind_width, value_width, field_width}
+use Rattle.schema.specs.Faults.{fault_at, judged}
 use Rattle.wire.specs.Bytes.{part, le}
 use Rattle.wire.proofs.Laws.{drop_more}
 use Rattle.schema.specs.Table.{kind_of, field_at, field_type, scalar_width}
@@ -122,32 +123,42 @@ module _ (es : List (List ℕ)) (s : List ℕ) where
 
 -- TESTS
 
-module _ (w : ℕ) (x : Test) (s : List ℕ) where
-  pub fault-none : passes x (take w s) ≡ true → 0 ≡ kind_fault (plain w x) s
-  unfolding kind_fault
-  fault-none e = rw e
-
-  pub fault-some : passes x (take w s) ≡ false → test_fault x ≡ kind_fault (plain w x) s
-  unfolding kind_fault
-  fault-some e = rw e
-
-pub flag_is : (s : List ℕ) → passes flag s ≡ ltb (le s) 2
-unfolding passes
-flag_is s = refl
-
-pub below-is : (n : ℕ) (s : List ℕ) → passes (below n) s ≡ ltb (le s) n
-unfolding passes
-below-is n s = refl
-
-pub symbol-is : (vs s : List ℕ) → passes (symbol vs) s ≡ member (le s) vs
-unfolding passes
-symbol-is vs s = refl
-
--- an enumeration past the last has no symbol
-pub no_symbol : (es : List (List ℕ)) (e : ℕ) (s : List ℕ) → length es ≤ e → passes (symbol (get_or es e [])) s ≡ false
-unfolding passes member
-no_symbol es e s h = rw (get_or-eq_default es [] h)
-
 pub le-one : (s : List ℕ) (at : ℕ) → at + 1 ≤ length s → le (part 1 at s) ≡ get_or s at 0
 unfolding le
 le-one s at h = rw (drop_more s at (omega arith)) (omega arith)
+
+-- Whether the w bytes at s pass, with the number of the fault where they do not.
+abbrev pub judgement : ℕ → Test → List ℕ → Bool × ℕ
+judgement w x s = (passes x (take w s), test_fault x)
+
+module _ (w : ℕ) (x : Test) (s : List ℕ) (place : ℕ) (j : Bool × ℕ) (e : j ≡ judgement w x s) where
+  passing : Bool × ℕ → Bool
+  passing (b, n) = b
+
+  number : Bool × ℕ → ℕ
+  number (b, n) = n
+
+  pub accepted : j.0 ≡ true → Ok tt ≡ judged (kind_fault (plain w x) s) place
+  unfolding kind_fault judged passing
+  accepted z = let h : passes x (take w s) ≡ true = sym (ap passing e) ∙ z in rw h
+
+  pub refused : (n : ℕ) → j.0 ≡ false → j.1 ≡ suc n → Err (fault_at j.1 place) ≡ judged (kind_fault (plain w x) s) place
+  unfolding kind_fault judged passing number
+  refused n z m = let h : passes x (take w s) ≡ false = sym (ap passing e) ∙ z in let k : test_fault x ≡ suc n = sym (ap number e) ∙ m in rw (h, k, m)
+
+pub judge-flag : (s : List ℕ) (at : ℕ) → at + 1 ≤ length s → ◌≡◌ {A = Bool × ℕ} (ltb (get_or s at 0) 2, 11) (judgement 1 flag (drop at s))
+unfolding passes test_fault
+judge-flag s at h = rw (le-one s at h)
+
+pub judge-below : (w n x : ℕ) (s : List ℕ) → x ≡ le (take w s) → ◌≡◌ {A = Bool × ℕ} (ltb x n, 12) (judgement w (below n) s)
+unfolding passes test_fault
+judge-below w n x s e = rw e
+
+pub judge-symbol : (vs s : List ℕ) (b : Bool) → b ≡ member (le (take 4 s)) vs → ◌≡◌ {A = Bool × ℕ} (b, 10) (judgement 4 (symbol vs) s)
+unfolding passes test_fault
+judge-symbol vs s b e = rw e
+
+-- an enumeration past the last has no symbol
+pub judge-past : (es : List (List ℕ)) (e : ℕ) (s : List ℕ) → length es ≤ e → ◌≡◌ {A = Bool × ℕ} (false, 10) (judgement 4 (symbol (get_or es e [])) s)
+unfolding passes test_fault member
+judge-past es e s h = rw (get_or-eq_default es [] h)

@@ -1,7 +1,6 @@
 -- The schema table: its faults in document 01's order, and the schema that it holds.
 -- The table (document 01's word for the encoded schema) is records of 16 bytes. What is defined record by record takes what is left of the
 -- table's bytes, of which the first 16 are the record at hand, and the number of records left.
-use Rattle.schema.specs.declared.Fault.{Fault}
 use Rattle.std.specs.Prelude.{Ok, Err, ℕ, zero, suc, ◌+◌, ◌-◌, ◌*◌, ◌/◌, ◌%◌, Bool, false, cond, not, ◌&&◌, ◌||◌, List, [], ◌∷◌, length, take, drop, ◌==◌, nat_le, nat_lt, slice_index, slice_index_or}
 use Rattle.wire.specs.Bytes.{part, le, same, all_zero}
 use Rattle.schema.specs.Faults.{Verdict, fault_at, need, also}

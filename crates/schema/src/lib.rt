@@ -4,7 +4,7 @@
 // groups are. Callers ask for a number of it by name, never by its position.
 #![tactic(auto)]
 
-ghost use Rattle.std.specs.Prelude.{◌≡◌, ℕ, ◌+◌, ◌*◌, ◌^◌, ◌<◌, ◌≤◌, ◌&&◌, List, [], length, take, drop, if◌then◌else◌, ◌==◌, slice_index, slice_index_or};
+ghost use Rattle.std.specs.Prelude.{◌≡◌, ℕ, ◌+◌, ◌*◌, ◌^◌, ◌<◌, ◌≤◌, ◌&&◌, List, [], length, take, drop, ◌==◌, slice_index, slice_index_or};
 ghost use Rattle.wire.specs.Bytes.{part};
 ghost use Rattle.schema.specs.Schema.{text_ok, member, find, known, allows, kind_width, value_width, field_width};
 ghost use Rattle.schema.specs.Faults.{judged};
@@ -22,7 +22,7 @@ pub struct Fault {
 
 // The numbers whose bytes are tested: a bool, a time of day in milliseconds or nanoseconds, and a
 // symbol of enumeration number `list`.
-#[derive(Clone, Copy)]
+#[derive(Clone, Copy, Debug, PartialEq, Eq)]
 pub enum Tested {
     Flag,
     Millis,
@@ -31,7 +31,7 @@ pub enum Tested {
 }
 
 // The kind of a field or an item, as its record in the table says.
-#[derive(Clone, Copy)]
+#[derive(Clone, Copy, Debug, PartialEq, Eq)]
 pub enum FieldKind {
     Plain { width: u8 },
     Number { tested: Tested },
@@ -42,7 +42,7 @@ pub enum FieldKind {
 }
 
 // Where the search for a symbol stands: `count` symbols from number `first` on are in question. `at` is
-// the number of the one that equals the value, and as long as none was found, of no symbol.
+// the number of the one that equals the value, and as long as none was found, of no symbol: a number, as `Halving` says it.
 #[derive(Clone, Copy)]
 struct Search {
     at: usize,
@@ -52,16 +52,10 @@ struct Search {
 
 // How much of a group is walked: a dynamic group whole, for the kind of number `allowed`; of a static
 // group its fields, since it is a part of the group that holds it.
-#[derive(Clone, Copy)]
+#[derive(Clone, Copy, Debug, PartialEq, Eq)]
 pub enum Scope {
     Whole { allowed: usize },
     Fields { group: usize },
-}
-
-fn wide16(x: u16) -> usize
-    ensures { (result ≡ x) × (result < 65536) }
-{
-    x as usize
 }
 
 // THE INDEX
@@ -71,7 +65,7 @@ pub fn group_place(index: &[u16], group: usize) -> usize
     requires { (length index.now ≡ 322) × (group < 64) }
     ensures { (result ≡ group_place index.now group) × (result < 65536) }
 {
-    wide16(index[group])
+    usize::from(index[group])
 }
 
 // How many groups there are.
@@ -79,7 +73,7 @@ pub fn group_total(index: &[u16]) -> usize
     requires { length index.now ≡ 322 }
     ensures { (result ≡ group_total index.now) × (result < 65536) }
 {
-    wide16(index[320])
+    usize::from(index[320])
 }
 
 // How many enumerations there are.
@@ -87,7 +81,7 @@ pub fn enum_total(index: &[u16]) -> usize
     requires { length index.now ≡ 322 }
     ensures { (result ≡ enum_total index.now) × (result < 65536) }
 {
-    wide16(index[321])
+    usize::from(index[321])
 }
 
 // The width of a static group; a number past the last group is that of none.
@@ -96,23 +90,24 @@ pub fn group_width(index: &[u16], group: usize) -> usize
     ensures { (result ≡ width_in index.now group) × (result ≤ 4096) }
 {
     if group < 64 {
-        return wide16(index[64 + group]);
+        usize::from(index[64 + group])
+    } else {
+        0
     }
-    0
 }
 
 fn symbol_place(index: &[u16], list: usize) -> usize
     requires { (length index.now ≡ 322) × (list < 64) }
     ensures { (result ≡ symbol_place index.now list) × (result < 65536) }
 {
-    wide16(index[128 + list])
+    usize::from(index[128 + list])
 }
 
 fn symbol_total(index: &[u16], list: usize) -> usize
     requires { (length index.now ≡ 322) × (list < 64) }
     ensures { (result ≡ symbol_total index.now list) × (result < 65536) }
 {
-    wide16(index[192 + list])
+    usize::from(index[192 + list])
 }
 
 // AN ENUMERATION'S RECORDS
@@ -149,7 +144,7 @@ pub fn has_id(table: &[u8], at: usize) -> bool
     table[at + 10] == 1
 }
 
-// "super group number plus 1, or 0"
+// "super group number plus 1, or 0", as the table has it
 pub fn super_number(table: &[u8], at: usize) -> usize
     requires { at + 16 ≤ length table.now }
     ensures { (result ≡ super_number (drop at table.now)) × (result < 2 ^ 16) }
@@ -162,7 +157,7 @@ pub fn field_count(table: &[u8], at: usize) -> usize
     requires { at + 16 ≤ length table.now }
     ensures { (result ≡ field_count (drop at table.now)) × (result < 256) }
 {
-    wire::wide(table[at + 13])
+    usize::from(table[at + 13])
 }
 
 // The width that the group stores whose `GW` record stands at `at`.
@@ -178,25 +173,20 @@ fn is_named(table: &[u8], at: usize, id: u64) -> bool
     requires { at + 16 ≤ length table.now }
     ensures { result ≡ (id_flag (drop at table.now) == 1) && (type_id (drop at table.now) == id) }
 {
-    if type_id(table, at) != id {
-        return false;
-    }
-    has_id(table, at)
+    type_id(table, at) == id && has_id(table, at)
 }
 
-// The number of the group with this id among the first n; n where none of them has it.
+// The number of the group with this id among the first n; n where none of them has it, as `find` in specs says.
 pub fn find(table: &[u8], index: &[u16], n: usize, id: u64) -> usize
     requires { (Placed table.now index.now n) × (length index.now ≡ 322) × (n ≤ 64) × (length table.now ≤ 65536) }
     ensures { (result ≡ find (take n (schema table.now)) id) × (result ≤ n) }
 {
-    let mut i = 0;
-    while i < n {
+    for i in 0..n {
         if is_named(table, group_place(index, i), id) {
             return i;
         }
-        i += 1;
     }
-    i
+    n
 }
 
 // Whether a group has this id.
@@ -214,16 +204,16 @@ pub fn allows(table: &[u8], index: &[u16], allowed: usize, group: usize) -> bool
     requires { (Layout table.now index.now) × (group < length (schema table.now)) }
     ensures { result ≡ allows (schema table.now) allowed group }
 {
-    if allowed == 0 {
+    let Some(named) = allowed.checked_sub(1) else {
         return true;
-    }
+    };
     let mut above = group;
-    while allowed - 1 != above {
-        let next = super_number(table, group_place(index, above));
-        if next == 0 {
+    while above != named {
+        let number = super_number(table, group_place(index, above));
+        let Some(next) = number.checked_sub(1) else {
             return false;
-        }
-        above = next - 1;
+        };
+        above = next;
     }
     true
 }
@@ -234,7 +224,7 @@ pub fn allows(table: &[u8], index: &[u16], allowed: usize, group: usize) -> bool
 pub fn rank(value: u32) -> u32
     ensures { result ≡ rank value }
 {
-    std::num::wrapping_add_u32(value, 0x8000_0000)
+    value.wrapping_add(0x8000_0000)
 }
 
 // The value of symbol number i of enumeration number `list`, as unsigned.
@@ -243,16 +233,6 @@ fn symbol_at(table: &[u8], index: &[u16], list: usize, i: usize) -> u32
     ensures { result ≡ slice_index (slice_index_or (enums table.now) list []) i }
 {
     symbol_value(table, symbol_place(index, list) + 16 * i)
-}
-
-// `yes` where the test holds, else `no`.
-fn pick(test: bool, yes: usize, no: usize) -> usize
-    ensures { result ≡ (if test then yes else no) }
-{
-    if test {
-        return yes;
-    }
-    no
 }
 
 // One step: it looks at the symbol in the middle, and leaves the first half of the symbols or the last.
@@ -265,12 +245,12 @@ fn halve(table: &[u8], index: &[u16], list: usize, value: u32, search: Search) -
     let middle = search.first + half;
     let symbol = symbol_at(table, index, list, middle);
     Search {
-        at: pick(symbol == value, middle, search.at),
-        first: pick(
-            rank(symbol) < rank(value),
-            search.first + (search.count - half),
-            search.first,
-        ),
+        at: if symbol == value { middle } else { search.at },
+        first: if rank(symbol) < rank(value) {
+            search.first + (search.count - half)
+        } else {
+            search.first
+        },
         count: half,
     }
 }
@@ -294,7 +274,7 @@ pub fn has_symbol(table: &[u8], index: &[u16], list: usize, value: u32) -> bool
 
 // A FIELD'S RECORD
 
-// The number of its type, in document 01.
+// The number of its type, in document 01: the table's byte, which callers hand on.
 pub fn field_type(table: &[u8], at: usize) -> u8
     requires { at + 16 ≤ length table.now }
     ensures { result ≡ field_type (drop at table.now) }
@@ -335,9 +315,10 @@ fn text_kind(utf8: bool, capacity: u8) -> FieldKind
     ensures { (es : List (List ℕ)) → kind_from es result ≡ text_kind utf8 capacity }
 {
     if capacity == 0 {
-        return FieldKind::Indirect { utf8 };
+        FieldKind::Indirect { utf8 }
+    } else {
+        FieldKind::Inline { utf8, capacity }
     }
-    FieldKind::Inline { utf8, capacity }
 }
 
 // The kind of the field whose record stands at `at`.
@@ -366,14 +347,10 @@ pub fn kind_at(table: &[u8], at: usize) -> FieldKind
         },
         21 => FieldKind::Static { group: to },
         22 => FieldKind::Dynamic { allowed: to + 1 },
-        _ => {
-            if number < 17 {
-                return FieldKind::Plain {
-                    width: scalar_width(number),
-                };
-            }
-            FieldKind::Dynamic { allowed: 0 }
-        }
+        _ if number < 17 => FieldKind::Plain {
+            width: scalar_width(number),
+        },
+        _ => FieldKind::Dynamic { allowed: 0 },
     }
 }
 
@@ -397,19 +374,10 @@ pub fn plain_width(table: &[u8], at: usize) -> usize
     ensures { ((es : List (List ℕ)) → result ≡ plain_width (field_at es (drop at table.now))) × (result < 256) }
 {
     let number = field_type(table, at);
-    if is_optional(table, at) {
+    if is_optional(table, at) || is_sequence(table, at) || number == 11 || 15 <= number {
         return 0;
     }
-    if is_sequence(table, at) {
-        return 0;
-    }
-    if number == 11 {
-        return 0;
-    }
-    if 15 <= number {
-        return 0;
-    }
-    wire::wide(scalar_width(number))
+    usize::from(scalar_width(number))
 }
 
 // WIDTHS
@@ -421,7 +389,7 @@ pub fn tested_width(tested: Tested) -> u8
         Tested::Flag => 1,
         Tested::Millis => 4,
         Tested::Nanos => 8,
-        Tested::Symbol { list } => 4,
+        Tested::Symbol { .. } => 4,
     }
 }
 
@@ -431,12 +399,12 @@ pub fn kind_width(index: &[u16], kind: FieldKind) -> usize
     ensures { ((es : List (List ℕ)) → result ≡ kind_width (width_in index.now) (kind_from es kind)) × (result ≤ 4096) }
 {
     match kind {
-        FieldKind::Plain { width } => wire::wide(width),
-        FieldKind::Number { tested } => wire::wide(tested_width(tested)),
-        FieldKind::Inline { utf8, capacity } => wire::wide(capacity) + 1,
-        FieldKind::Indirect { utf8 } => 4,
+        FieldKind::Plain { width } => usize::from(width),
+        FieldKind::Number { tested } => usize::from(tested_width(tested)),
+        FieldKind::Inline { capacity, .. } => usize::from(capacity) + 1,
+        FieldKind::Indirect { .. } => 4,
         FieldKind::Static { group } => group_width(index, group),
-        FieldKind::Dynamic { allowed } => 4,
+        FieldKind::Dynamic { .. } => 4,
     }
 }
 
@@ -446,9 +414,10 @@ pub fn value_width(table: &[u8], index: &[u16], at: usize) -> usize
     ensures { ((es : List (List ℕ)) → result ≡ value_width (width_in index.now) (field_at es (drop at table.now))) × (result ≤ 4096) }
 {
     if is_sequence(table, at) {
-        return 4;
+        4
+    } else {
+        kind_width(index, kind_at(table, at))
     }
-    kind_width(index, kind_at(table, at))
 }
 
 pub fn field_width(table: &[u8], index: &[u16], at: usize) -> usize
@@ -457,9 +426,10 @@ pub fn field_width(table: &[u8], index: &[u16], at: usize) -> usize
 {
     let width = value_width(table, index, at);
     if is_optional(table, at) {
-        return width + 1;
+        width + 1
+    } else {
+        width
     }
-    width
 }
 
 // TESTS
@@ -469,11 +439,7 @@ pub fn is_text(utf8: bool, bytes: &[u8], at: usize, count: usize) -> bool
     requires { at + count ≤ length bytes.now }
     ensures { result ≡ text_ok utf8 (part count at bytes.now) }
 {
-    if utf8 {
-        let end = at + count;
-        return wire::is_utf8(&bytes[at..end]);
-    }
-    true
+    !utf8 || wire::is_utf8(&bytes[at..at + count])
 }
 
 // "10, 11, 12: no such symbol; bool or flag not 0, 1; 24 hours or more": whether the number that stands
@@ -489,11 +455,18 @@ pub fn check_tested(
     requires { (Layout table.now index.now) × (at + kind_width (width_in index.now) (tested_kind (enums table.now) tested) ≤ length bytes.now) }
     ensures { result ≡ judged (kind_fault (tested_kind (enums table.now) tested) (drop at bytes.now)) place }
 {
-    let passes = match tested {
-        Tested::Flag => bytes[at] < 2,
-        Tested::Millis => wire::read_u32(bytes, at) < 86400000,
-        Tested::Nanos => wire::read_u64(bytes, at) < 86400000000000,
-        Tested::Symbol { list } => list < 64 && has_symbol(table, index, list, wire::read_u32(bytes, at) as u32),
+    let (passes, number) = match tested {
+        Tested::Flag => (bytes[at] < 2, 11),
+        Tested::Millis => (wire::read_u32(bytes, at) < 86400000, 12),
+        Tested::Nanos => (wire::read_u64(bytes, at) < 86400000000000, 12),
+        Tested::Symbol { list } => (
+            list < 64 && has_symbol(table, index, list, wire::read_u32(bytes, at) as u32),
+            10,
+        ),
     };
-    todo
+    if passes {
+        Ok(())
+    } else {
+        Err(Fault { number, place })
+    }
 }

@@ -3,7 +3,7 @@
 #![tactic(auto)]
 
 // Which faults are ignored: a byte that is not zero in an absent field (4), a pad (6), an unused inline byte (8).
-#[derive(Clone, Copy)]
+#[derive(Clone, Copy, Debug, Default, PartialEq, Eq)]
 pub struct Ignored {
     pub absent: bool,
     pub pads: bool,

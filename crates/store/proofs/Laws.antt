@@ -1,19 +1,20 @@
 -- The store's definitions, each way through them.
-use Rattle.std.proofs.Common.{Ok, Err}
+use Rattle.std.proofs.Common.{Ok, Err, Result}
 use Prim.Native.Nat.{ℕ, zero, suc, ◌+◌, ◌-◌, ◌*◌, ◌%◌, ◌<◌, ◌≤◌}
 use mathlib.Core.Path.{◌≡◌, refl, sym, ap, ◌∙◌}
 use mathlib.Core.Bool.{Bool, true, false, cond, ◌&&◌, and_assoc}
 use mathlib.Core.List.{List, [], ◌∷◌, ◌++◌}
 use native.Mathlib.Omega.{arith}
 use native.Mathlib.Nat.{mod-lt}
-use lib.ListN.{length, get_or, set, drop, replicate, length-drop, length-set}
-use lib.Seq.{take_all, get_or-set_same, get_or-set_other}
+use lib.ListN.{length, get_or, set, drop, length-set}
+use lib.Seq.{get_or-set_same, get_or-set_other}
 use lib.Dec.{leb, ltb, eqb}
 use borrow.Author.Tests.{le-leb, lt-leb, ltb-true, ltb-false, ne_eqb, eqb-true, eqb-false}
 use Rattle.wire.specs.Bytes.{part, splice, bytes_of, same, all_zero}
 use Rattle.wire.proofs.Laws.{splice-cons, splice-nil, splice-append}
+use Rattle.schema.specs.declared.Fault.{Fault}
 use Rattle.schema.specs.Faults.{fault_at, need}
-use Rattle.settings.specs.Store.{strict, CS, customer_of, version_of, flag_of, ignored_of, flags_ok, last_of, newest, versioned, above, follows, stands, good, run, records, sound, store_verdict, ignored_by, governing, setting_of, version_by, setting_at, record_of, add_verdict, store_after}
+use Rattle.settings.specs.Store.{CS, customer_of, version_of, flag_of, flags_ok, last_of, newest, versioned, above, follows, stands, good, run, records, sound, store_verdict, ignored_by, governing, setting_of, version_by, setting_at, record_of, add_verdict, store_after}
 use Rattle.store.specs.Check.{standing, rising_from, rising}
 
 -- FLAGS
@@ -102,18 +103,6 @@ counted st m r e f =
 -- A RECORD THAT STANDS
 
 module _ (st : List ℕ) (n : ℕ) where
-  at-six : 9 * n + 6 + 0 ≡ 9 * n + 6
-  at-six = omega arith
-
-  at-seven : 9 * n + 6 + 1 ≡ 9 * n + 7
-  at-seven = omega arith
-
-  at-eight : 9 * n + 6 + 2 ≡ 9 * n + 8
-  at-eight = omega arith
-
-  pub ignored-is : record { absent = eqb (get_or st (9 * n + 6) 0) 1; pads = eqb (get_or st (9 * n + 7) 0) 1; unused = eqb (get_or st (9 * n + 8) 0) 1 } ≡ ignored_of st n
-  ignored-is = rw (at-six, at-seven, at-eight)
-
   pub stands-short : length st < 9 * n + 9 → false ≡ standing st n
   unfolding standing stands
   stands-short h = rw (lt-leb (9 * n + 9) (length st) h)
@@ -123,9 +112,9 @@ module _ (st : List ℕ) (n : ℕ) where
     unfolding standing stands
     stands-not e = rw (le-leb (9 * n + 9) (length st) h, e)
 
-    pub stands-flags : same (part 2 (9 * n) st) CS ≡ true → flags_ok (get_or st (9 * n + 6) 0) (get_or st (9 * n + 7) 0) (get_or st (9 * n + 8) 0) ≡ standing st n
+    pub stands-flags : same (part 2 (9 * n) st) CS ≡ true → flags_ok (flag_of st n 0) (flag_of st n 1) (flag_of st n 2) ≡ standing st n
     unfolding standing stands
-    stands-flags e = rw (le-leb (9 * n + 9) (length st) h, e, at-six, at-seven, at-eight)
+    stands-flags e = rw (le-leb (9 * n + 9) (length st) h, e)
 
 -- THE LAST RECORD
 
@@ -166,16 +155,8 @@ pub record Seen (st slots : List ℕ) (k : ℕ) : Type 0 where
   pub low : (i : ℕ) → get_or slots i 0 ≤ k
   pub leads : (c : ℕ) → newest st c k ≡ newest st c (get_or slots (c % length slots) 0)
 
-pub zeros-at : (m i : ℕ) → ◌≡◌ {A = ℕ} (get_or (replicate m 0) i 0) 0
-zeros-at zero i = refl
-zeros-at (suc m) zero = refl
-zeros-at (suc m) (suc i) = zeros-at m i
-
 pub slot-in : (x : ℕ) (slots : List ℕ) (m : ℕ) → length slots ≡ m → 0 < m → x % length slots < length slots
 slot-in x slots m e h = mod-lt x {m = length slots} (omega arith)
-
-pub seen_none : (st slots : List ℕ) → ((i : ℕ) → get_or slots i 0 ≡ 0) → Seen st slots 0
-seen_none st slots z = record { low = λ i. omega (arith, z i); leads = λ c. ap (λ (k : ℕ). newest st c k) (sym (z (c % length slots))) }
 
 pub newest-miss : (st : List ℕ) (c k : ℕ) → (customer_of st k ≡ c → ⊥) → newest st c (k + 1) ≡ newest st c k
 unfolding last_of
@@ -219,33 +200,6 @@ module _ (st slots : List ℕ) (k c : ℕ) (e : c ≡ customer_of st k) (s : See
       leads = λ d. leads-next d (eqb (d % length slots) (c % length slots)) refl ∙ ap (λ (m : ℕ). newest st d (get_or noted (d % m) 0)) (sym (length-set slots (c % length slots) (k + 1)));
     }
 
--- BY A RECORD'S NUMBER PLUS 1
-
-module _ (st : List ℕ) where
-  pub above-none : (k v : ℕ) → k ≡ 0 → true ≡ above st v k
-  unfolding above
-  above-none k v e = rw e
-
-  pub above-some : (k v : ℕ) → (k ≡ 0 → ⊥) → ltb (version_of st (k - 1)) v ≡ above st v k
-  above-some zero v h = absurd (h refl)
-  above-some (suc k) v h = unfold above in let q : suc k - 1 ≡ k = omega arith in rw q
-
-  pub ignored-none : (k : ℕ) → k ≡ 0 → strict ≡ ignored_by st k
-  unfolding ignored_by
-  ignored-none k e = rw e
-
-  pub ignored-some : (k : ℕ) → (k ≡ 0 → ⊥) → ignored_of st (k - 1) ≡ ignored_by st k
-  ignored-some zero h = absurd (h refl)
-  ignored-some (suc k) h = unfold ignored_by in let q : suc k - 1 ≡ k = omega arith in rw q
-
-  pub version-none : (k : ℕ) → k ≡ 0 → Err (fault_at 59 0) ≡ version_by st k
-  unfolding version_by
-  version-none k e = rw e
-
-  pub version-some : (k : ℕ) → (k ≡ 0 → ⊥) → Ok (ignored_of st (k - 1)) ≡ version_by st k
-  version-some zero h = absurd (h refl)
-  version-some (suc k) h = unfold version_by in let q : suc k - 1 ≡ k = omega arith in rw q
-
 -- WHAT IS WRITTEN
 
 pub store-three : (at a b c : ℕ) (s : List ℕ) → at + 3 ≤ length s → set (set (set s at a) (at + 1) b) (at + 2) c ≡ splice 3 at (a ∷ (b ∷ (c ∷ []))) s
@@ -269,9 +223,6 @@ record-written at c v a p u s s₁ s₂ s₃ s₄ h e₁ e₂ e₃ e₄ =
     ∙ splice-append 2 2 at CS C s refl (omega arith)) ∙ splice-append 4 2 at (CS ++ C) W s refl (omega arith)) ∙ splice-append 6 3 at ((CS ++ C) ++ W) F s refl (omega arith)
 
 -- THE ANSWERS
-
-pub rest : (st : List ℕ) (n : ℕ) → 9 * n ≤ length st → part (length st - 9 * n) (9 * n) st ≡ drop (9 * n) st
-rest st n l = take_all (length st - 9 * n) (drop (9 * n) st) (rw (length-drop (9 * n) st) (omega arith))
 
 module _ (st : List ℕ) (n : ℕ) (e : n ≡ records st) where
   pub is-sound : all_zero (drop (9 * n) st) ≡ sound st
@@ -304,19 +255,28 @@ module _ (st : List ℕ) (n : ℕ) (e : n ≡ records st) where
     unfolding setting_at need
     refused-version c v = rw (sym is-sound ∙ s, e)
 
+-- what the count of a sound store's records says, and the refusal of any other store
+module _ (st : List ℕ) (r : Result ℕ Fault) (e : r ≡ need (sound st) (Err (fault_at 50 (9 * records st))) (Ok (records st))) where
+  abbrev answer : Bool → Result ℕ Fault
+  answer b = need b (Err (fault_at 50 (9 * records st))) (Ok (records st))
+
+  pub sound-records : (n : ℕ) → r ≡ Ok n → (n ≡ records st) × (all_zero (drop (9 * n) st) ≡ true)
+  unfolding need
+  sound-records n h = go (sound st) refl (sym h ∙ e)
+    where
+      go : (b : Bool) → sound st ≡ b → Ok n ≡ answer b → (n ≡ records st) × (all_zero (drop (9 * n) st) ≡ true)
+      go true z q = let k : n ≡ records st = cc in (k, is-sound st n k ∙ z)
+      go false z q = let k : ⊥ = cc in absurd k
+
+  pub unsound : (f : Fault) → r ≡ Err f → (f ≡ fault_at 50 (9 * records st)) × (all_zero (drop (9 * records st) st) ≡ false)
+  unfolding need
+  unsound f h = go (sound st) refl (sym h ∙ e)
+    where
+      go : (b : Bool) → sound st ≡ b → Err f ≡ answer b → (f ≡ fault_at 50 (9 * records st)) × (all_zero (drop (9 * records st) st) ≡ false)
+      go true z q = let k : ⊥ = cc in absurd k
+      go false z q = let k : f ≡ fault_at 50 (9 * records st) = cc in (k, is-sound st (records st) refl ∙ z)
+
 -- AN ADDITION
-
-pub and-not : (a b : Bool) → a ≡ false → false ≡ a && b
-and-not a b e = rw e
-
-module _ (st : List ℕ) (n c v a p u : ℕ) (z : Bool) (e : z ≡ true) where
-  pub follows-not : flags_ok a p u ≡ false → false ≡ z && follows st n c v a p u
-  unfolding follows
-  follows-not f = rw (e, f)
-
-  pub follows-above : flags_ok a p u ≡ true → above st v (newest st c n) ≡ z && follows st n c v a p u
-  unfolding follows
-  follows-above f = rw (e, f)
 
 module _ (st : List ℕ) (c v a p u : ℕ) where
   pub stays : (x q : ℕ) → add_verdict st c v a p u ≡ Err (fault_at x q) → st ≡ store_after st c v a p u

@@ -1,5 +1,5 @@
 -- The two phases of the store's check: the records that stand with good flags, and of these the ones whose versions rise.
-use Rattle.std.specs.Prelude.{Bool, ◌&&◌, List, ℕ}
+use Rattle.std.specs.Prelude.{Bool, ◌&&◌, List, ℕ, zero, suc, Option, Some, None}
 use Rattle.settings.specs.Store.{customer_of, version_of, flag_of, newest, above, flags_ok, stands}
 
 unfoldable pub standing : List ℕ → ℕ → Bool
@@ -11,3 +11,8 @@ rising_from st k from = above st (version_of st k) (newest st (customer_of st k)
 
 unfoldable pub rising : List ℕ → ℕ → Bool
 rising st k = rising_from st k k
+
+-- A record as the store's definitions name it: by its number plus 1, and by 0 where there is none.
+abbrev pub named : Option ℕ → ℕ
+named None = zero
+named (Some n) = suc n

@@ -1,54 +1,55 @@
 // The settings store: a lent buffer of records of nine bytes, from its start on, and zeros behind them.
-//
-// A record is named by its number, from 0; one that may be missing by its number plus 1, and 0 says that there is none.
+// A record is named by its number, from 0.
 #![tactic(auto)]
 
-ghost use Rattle.std.specs.Prelude.{Err, ◌≡◌, true, ◌&&◌, [], ◌∷◌, ℕ, ◌+◌, ◌*◌, ◌≤◌, ◌<◌, ◌^◌, length, get_or, drop, eqb};
+ghost use Rattle.std.specs.Prelude.{Err, IfOk, ◌≡◌, ◌&&◌, [], ◌∷◌, ℕ, ◌+◌, ◌*◌, ◌≤◌, ◌<◌, ◌^◌, length, get_or, drop, eqb};
 ghost use Rattle.wire.specs.Bytes.{splice, all_zero};
-ghost use Rattle.schema.specs.Faults.{fault_at};
-ghost use Rattle.settings.specs.Store.{customer_of, version_of, flags_ok, newest, versioned, above, follows, run, records, ignored_of, ignored_by, version_by, record_of, store_verdict, setting_of, setting_at, add_verdict, store_after};
-ghost use Rattle.store.specs.Check.{standing, rising_from, rising};
+ghost use Rattle.schema.specs.Faults.{fault_at, need};
+ghost use Rattle.settings.specs.Store.{customer_of, version_of, flag_of, flags_ok, ignoring, newest, versioned, above, follows, run, records, sound, ignored_of, ignored_by, record_of, store_verdict, setting_of, setting_at, add_verdict, store_after};
+ghost use Rattle.store.specs.Check.{standing, rising_from, rising, named};
 
 use schema::Fault;
 use settings::Ignored;
 
 const MARK: [u8; 2] = *b"CS";
 
+// A record's flag bytes, each 0 or 1 where they are good.
+#[derive(Clone, Copy)]
+struct Flags {
+    absent: u8,
+    pads: u8,
+    unused: u8,
+}
+
 // Whether a store passes.
 pub fn check_store(store: &[u8]) -> Result<(), Fault>
     ensures { result ≡ store_verdict store.now }
 {
-    let n = count_records(store);
-    if !is_sound(store, n) {
-        return damaged(n);
-    }
-    Verdict::Accepted
+    sound_records(store)?;
+    Ok(())
 }
 
 // What governs a customer's messages: its newest version.
 pub fn find_settings(store: &[u8], customer: u16) -> Result<Ignored, Fault>
     ensures { result ≡ setting_of store.now customer }
 {
-    let n = count_records(store);
-    if !is_sound(store, n) {
-        return unknown(n);
-    }
-    let last = newest(store, n, wide(customer));
-    Setting::Ignores {
-        ignored: ignored_by(store, last),
-    }
+    let n = sound_records(store)?;
+    let last = newest(store, n, usize::from(customer));
+    Ok(ignored_by(store, last))
 }
 
 // One version of a customer's settings.
 pub fn read_settings(store: &[u8], customer: u16, version: u16) -> Result<Ignored, Fault>
     ensures { result ≡ setting_at store.now customer version }
 {
-    let n = count_records(store);
-    if !is_sound(store, n) {
-        return unknown(n);
-    }
-    let found = versioned(store, n, wide(customer), wide(version));
-    version_by(store, found)
+    let n = sound_records(store)?;
+    let Some(found) = versioned(store, n, usize::from(customer), usize::from(version)) else {
+        return Err(Fault {
+            number: 59,
+            place: 0,
+        });
+    };
+    Ok(ignored_of(store, found))
 }
 
 // A new version, behind the last record. On a refusal the store stays as it was.
@@ -63,46 +64,48 @@ pub fn add_settings(
     ensures value { result ≡ add_verdict store.old customer version absent pads unused }
     ensures store_after { store.new ≡ store_after store.old customer version absent pads unused }
 {
-    let n = count_records(store);
-    if !may_add(store, n, customer, version, absent, pads, unused) {
-        return damaged(n);
+    let flags = Flags {
+        absent,
+        pads,
+        unused,
+    };
+    let n = sound_records(store)?;
+    if !may_follow(store, n, customer, version, flags) {
+        return Err(damaged(n));
     }
     if store.len() - 9 * n < 9 {
-        return Verdict::Refused {
+        return Err(Fault {
             number: 51,
             place: 0,
-        };
+        });
     }
-    write_record(store, 9 * n, customer, version, absent, pads, unused);
-    Verdict::Accepted
+    write_record(store, 9 * n, customer, version, flags);
+    Ok(())
+}
+
+// How many records a sound store holds: all is zero behind its good ones. Each question begins with it, so it is inlined:
+// with a call a question of a small store takes a tenth longer.
+#[inline(always)]
+fn sound_records(store: &[u8]) -> Result<usize, Fault>
+    ensures value { result ≡ need (sound store.now) (Err (fault_at 50 (9 * records store.now))) (Ok (records store.now)) }
+    ensures room { IfOk result (λ n. 9 * n ≤ length store.now) }
+{
+    let count = count_records(store);
+    if !is_sound(store, count) {
+        return Err(damaged(count));
+    }
+    Ok(count)
 }
 
 // The store is at fault behind its good records, or would be.
-
-fn damaged(n: usize) -> Result<(), Fault>
+fn damaged(n: usize) -> Fault
     requires { 9 * n < 2 ^ 64 }
-    ensures { result ≡ Err (fault_at 50 (9 * n)) }
+    ensures { result ≡ fault_at 50 (9 * n) }
 {
-    Verdict::Refused {
+    Fault {
         number: 50,
         place: 9 * n,
     }
-}
-
-fn unknown(records: usize) -> Result<Ignored, Fault>
-    requires { 9 * records < 2 ^ 64 }
-    ensures { result ≡ Err (fault_at 50 (9 * records)) }
-{
-    Setting::Refused {
-        number: 50,
-        place: 9 * records,
-    }
-}
-
-fn wide(x: u16) -> usize
-    ensures { (result ≡ x) × (result < 2 ^ 16) }
-{
-    x as usize
 }
 
 // HOW MANY RECORDS ARE GOOD
@@ -113,46 +116,59 @@ fn count_records(store: &[u8]) -> usize
 {
     let n = count_standing(store);
     if n <= 8 {
-        return few_rising(store, n);
+        few_rising(store, n)
+    } else {
+        count_rising(store, n)
     }
-    count_rising(store, n)
 }
 
 // How many records stand from the start on, with good flags.
 fn count_standing(store: &[u8]) -> usize
     ensures { (result ≡ run (standing store.now) (length store.now) 0) × (9 * result ≤ length store.now) }
 {
-    let mut n = 0;
-    while is_standing(store, n) {
-        n += 1;
+    let most = store.len() / 9;
+    for n in 0..most {
+        if !is_standing(store, n) {
+            return n;
+        }
     }
-    n
+    most
 }
 
 fn is_standing(store: &[u8], n: usize) -> bool
-    requires { 9 * n ≤ length store.now }
-    ensures { (result ≡ standing store.now n) × (result ≡ true → 9 * n + 9 ≤ length store.now) }
+    requires { 9 * n + 9 ≤ length store.now }
+    ensures { result ≡ standing store.now n }
 {
-    let at = 9 * n;
-    if store.len() - at < 9 {
-        return false;
-    }
-    if !wire::has_mark(store, at, MARK) {
-        return false;
-    }
-    flags_ok(store[at + 6], store[at + 7], store[at + 8])
+    wire::has_mark(store, 9 * n, MARK) && flags_of(store, n).are_good()
 }
 
-fn flags_ok(absent: u8, pads: u8, unused: u8) -> bool
-    ensures { result ≡ flags_ok absent pads unused }
+fn flags_of(store: &[u8], n: usize) -> Flags
+    requires { 9 * n + 9 ≤ length store.now }
+    ensures { result ≡ record { absent = flag_of store.now n 0; pads = flag_of store.now n 1; unused = flag_of store.now n 2 } }
 {
-    if 1 < absent {
-        return false;
+    Flags {
+        absent: store[9 * n + 6],
+        pads: store[9 * n + 7],
+        unused: store[9 * n + 8],
     }
-    if 1 < pads {
-        return false;
+}
+
+impl Flags {
+    fn are_good(self) -> bool
+        ensures { result ≡ flags_ok self.absent self.pads self.unused }
+    {
+        self.absent <= 1 && self.pads <= 1 && self.unused <= 1
     }
-    unused <= 1
+
+    fn ignored(self) -> Ignored
+        ensures { result ≡ ignoring self.absent self.pads self.unused }
+    {
+        Ignored {
+            absent: self.absent == 1,
+            pads: self.pads == 1,
+            unused: self.unused == 1,
+        }
+    }
 }
 
 // How many of the first n records rise, up to the first that does not. Each looks back over all before it: for a few records
@@ -161,12 +177,10 @@ fn few_rising(store: &[u8], n: usize) -> usize
     requires { 9 * n ≤ length store.now }
     ensures { (result ≡ run (rising store.now) n 0) × (result ≤ n) }
 {
-    let mut k = 0;
-    while k < n {
+    for k in 0..n {
         if !is_rising(store, k, k) {
             return k;
         }
-        k += 1;
     }
     n
 }
@@ -179,46 +193,36 @@ fn count_rising(store: &[u8], n: usize) -> usize
     ensures { (result ≡ run (rising store.now) n 0) × (result ≤ n) }
 {
     if n <= 256 {
-        return some_rising(store, n);
+        return rising_with::<1024>(store, n);
     }
     let first = n / 256;
     let k = count_rising(store, first);
     if k < first {
         return k;
     }
-    many_rising(store, n)
+    rising_with::<65536>(store, n)
 }
 
-fn some_rising(store: &[u8], n: usize) -> usize
-    requires { 9 * n ≤ length store.now }
+fn rising_with<const SLOTS: usize>(store: &[u8], n: usize) -> usize
+    requires { (9 * n ≤ length store.now) × (0 < SLOTS) × (SLOTS ≤ 65536) }
     ensures { (result ≡ run (rising store.now) n 0) × (result ≤ n) }
 {
-    let mut slots = [0usize; 1024];
-    rising_in(store, n, &mut slots)
-}
-
-fn many_rising(store: &[u8], n: usize) -> usize
-    requires { 9 * n ≤ length store.now }
-    ensures { (result ≡ run (rising store.now) n 0) × (result ≤ n) }
-{
-    let mut slots = [0usize; 65536];
+    let mut slots = [0usize; SLOTS];
     rising_in(store, n, &mut slots)
 }
 
 // The same with these slots, all of them 0. A slot holds, by its number plus 1, the last record seen of the customers that
-// share it: each is looked for from there on.
+// share it: each is looked for from there on. Numbers, since an `Option` takes twice the memory.
 fn rising_in(store: &[u8], n: usize, slots: &mut [usize]) -> usize
     requires { (9 * n ≤ length store.now) × (0 < length slots.old) × (length slots.old ≤ 65536) × ((i : ℕ) → get_or slots.old i 0 ≡ 0) }
     ensures { (result ≡ run (rising store.now) n 0) × (result ≤ n) }
 {
-    let mut k = 0;
-    while k < n {
+    for k in 0..n {
         let slot = wire::read_u16(store, 9 * k + 2) % slots.len();
         if !is_rising(store, k, slots[slot]) {
             return k;
         }
         slots[slot] = k + 1;
-        k += 1;
     }
     n
 }
@@ -232,15 +236,15 @@ fn is_rising(store: &[u8], k: usize, from: usize) -> bool
     is_above(store, wire::read_u16(store, 9 * k + 4), last)
 }
 
-// Whether a version is above that of a record, which is named by its number plus 1.
-fn is_above(store: &[u8], version: usize, number: usize) -> bool
-    requires { 9 * number ≤ length store.now }
-    ensures { result ≡ above store.now version number }
+// Whether a version is above that of the record; any is above none.
+fn is_above(store: &[u8], version: usize, last: Option<usize>) -> bool
+    requires { 9 * named last ≤ length store.now }
+    ensures { result ≡ above store.now version (named last) }
 {
-    if number == 0 {
-        return true;
+    match last {
+        Some(n) => wire::read_u16(store, 9 * n + 4) < version,
+        None => true,
     }
-    wire::read_u16(store, 9 * (number - 1) + 4) < version
 }
 
 // Whether all is zero behind the first n records.
@@ -254,74 +258,49 @@ fn is_sound(store: &[u8], n: usize) -> bool
 
 // FINDING A RECORD
 
-// The customer's newest record of the first n, by its number plus 1.
-fn newest(store: &[u8], n: usize, customer: usize) -> usize
+// The customer's newest record of the first n.
+fn newest(store: &[u8], n: usize, customer: usize) -> Option<usize>
     requires { 9 * n ≤ length store.now }
-    ensures { (result ≡ newest store.now customer n) × (result ≤ n) }
+    ensures { (named result ≡ newest store.now customer n) × (named result ≤ n) }
 {
-    let mut left = n;
-    while 0 < left {
-        if wire::read_u16(store, 9 * (left - 1) + 2) == customer {
-            return left;
+    for k in (0..n).rev() {
+        if wire::read_u16(store, 9 * k + 2) == customer {
+            return Some(k);
         }
-        left -= 1;
     }
-    0
+    None
 }
 
-// The record of one version, by its number plus 1.
-fn versioned(store: &[u8], n: usize, customer: usize, version: usize) -> usize
+// The record of one version.
+fn versioned(store: &[u8], n: usize, customer: usize, version: usize) -> Option<usize>
     requires { 9 * n ≤ length store.now }
-    ensures { (result ≡ versioned store.now customer version n) × (result ≤ n) }
+    ensures { (named result ≡ versioned store.now customer version n) × (named result ≤ n) }
 {
-    let mut left = n;
-    while 0 < left {
-        if is_version(store, left - 1, customer, version) {
-            return left;
+    for k in (0..n).rev() {
+        if is_version(store, k, customer, version) {
+            return Some(k);
         }
-        left -= 1;
     }
-    0
+    None
 }
 
 fn is_version(store: &[u8], n: usize, customer: usize, version: usize) -> bool
     requires { 9 * n + 9 ≤ length store.now }
     ensures { result ≡ eqb (customer_of store.now n) customer && eqb (version_of store.now n) version }
 {
-    if wire::read_u16(store, 9 * n + 2) != customer {
-        return false;
-    }
-    wire::read_u16(store, 9 * n + 4) == version
+    wire::read_u16(store, 9 * n + 2) == customer && wire::read_u16(store, 9 * n + 4) == version
 }
 
 // WHAT IT SAYS
 
-fn ignored_by(store: &[u8], number: usize) -> Ignored
-    requires { 9 * number ≤ length store.now }
-    ensures { result ≡ ignored_by store.now number }
+// By the customer's newest record; without one nothing is ignored.
+fn ignored_by(store: &[u8], last: Option<usize>) -> Ignored
+    requires { 9 * named last ≤ length store.now }
+    ensures { result ≡ ignored_by store.now (named last) }
 {
-    if number == 0 {
-        return Ignored {
-            absent: false,
-            pads: false,
-            unused: false,
-        };
-    }
-    ignored_of(store, number - 1)
-}
-
-fn version_by(store: &[u8], number: usize) -> Result<Ignored, Fault>
-    requires { 9 * number ≤ length store.now }
-    ensures { result ≡ version_by store.now number }
-{
-    if number == 0 {
-        return Setting::Refused {
-            number: 59,
-            place: 0,
-        };
-    }
-    Setting::Ignores {
-        ignored: ignored_of(store, number - 1),
+    match last {
+        Some(n) => ignored_of(store, n),
+        None => Ignored::default(),
     }
 }
 
@@ -329,60 +308,39 @@ fn ignored_of(store: &[u8], n: usize) -> Ignored
     requires { 9 * n + 9 ≤ length store.now }
     ensures { result ≡ ignored_of store.now n }
 {
-    Ignored {
-        absent: store[9 * n + 6] == 1,
-        pads: store[9 * n + 7] == 1,
-        unused: store[9 * n + 8] == 1,
-    }
+    flags_of(store, n).ignored()
 }
 
 // AN ADDITION
 
-// Whether the store is sound, and this version with these flags may stand behind its n records.
-fn may_add(
-    store: &[u8],
-    n: usize,
-    customer: u16,
-    version: u16,
-    absent: u8,
-    pads: u8,
-    unused: u8,
-) -> bool
+// Whether this version with these flags may stand behind the first n records.
+fn may_follow(store: &[u8], n: usize, customer: u16, version: u16, flags: Flags) -> bool
     requires { 9 * n ≤ length store.now }
-    ensures { result ≡ all_zero (drop (9 * n) store.now) && follows store.now n customer version absent pads unused }
+    ensures { result ≡ follows store.now n customer version flags.absent flags.pads flags.unused }
 {
-    if !is_sound(store, n) {
-        return false;
-    }
-    if !flags_ok(absent, pads, unused) {
-        return false;
-    }
-    is_above(store, wide(version), newest(store, n, wide(customer)))
+    flags.are_good()
+        && is_above(
+            store,
+            usize::from(version),
+            newest(store, n, usize::from(customer)),
+        )
 }
 
-fn write_record(
-    store: &mut [u8],
-    at: usize,
-    customer: u16,
-    version: u16,
-    absent: u8,
-    pads: u8,
-    unused: u8,
-)
+fn write_record(store: &mut [u8], at: usize, customer: u16, version: u16, flags: Flags)
     requires { at + 9 ≤ length store.old }
-    ensures { store.new ≡ splice 9 at (record_of customer version absent pads unused) store.old }
+    ensures { store.new ≡ splice 9 at (record_of customer version flags.absent flags.pads flags.unused) store.old }
 {
     wire::write_mark(store, at, MARK);
-    wire::write_u16(store, at + 2, wide(customer));
-    wire::write_u16(store, at + 4, wide(version));
-    write_flags(store, at + 6, absent, pads, unused);
+    wire::write_u16(store, at + 2, usize::from(customer));
+    wire::write_u16(store, at + 4, usize::from(version));
+    write_flags(store, at + 6, flags);
 }
 
-fn write_flags(store: &mut [u8], at: usize, absent: u8, pads: u8, unused: u8)
+fn write_flags(store: &mut [u8], at: usize, flags: Flags)
     requires { at + 3 ≤ length store.old }
-    ensures { store.new ≡ splice 3 at (absent ∷ (pads ∷ (unused ∷ []))) store.old }
+    ensures { store.new ≡ splice 3 at (flags.absent ∷ (flags.pads ∷ (flags.unused ∷ []))) store.old }
 {
-    store[at] = absent;
-    store[at + 1] = pads;
-    store[at + 2] = unused;
+    store[at] = flags.absent;
+    store[at + 1] = flags.pads;
+    store[at + 2] = flags.unused;
 }

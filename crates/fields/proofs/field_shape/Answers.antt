@@ -1,12 +1,10 @@
-use mathlib.Core.Path.{sym, ◌∙◌}
-use Rattle.fields.proofs.Laws.{shape-20, shape-accepted}
+use Rattle.std.proofs.Common.{sym, ◌∙◌}
+use Rattle.fields.proofs.Laws.{not_refused, shape-20, shape-accepted}
 use Rattle.fields.proofs.field_shape.Goals as goal
 
-pub shape_under-requires : goal.shape_under-requires
-shape_under-requires c = c.index_table-v.ensures.layout c.in-Accepted.is
+pub returns-then-is_err : goal.returns-then-is_err
+returns-then-is_err c = rw c.refusal.ensures (sym (shape-20 _ _ c.index_table.ensures.verdict (sym c.is_err.ensures.value ∙ c.if-is_err.true) c.args.id c.args.field))
 
-pub returns-in-Accepted : goal.returns-in-Accepted
-returns-in-Accepted c = c.shape_under.ensures ∙ sym (shape-accepted _ (sym (sym c.in-Accepted.is ∙ c.index_table-v.ensures.verdict)) _ _)
-
-pub returns-in-Refused : goal.returns-in-Refused
-returns-in-Refused c = c.refused.ensures ∙ sym (shape-20 _ _ _ (sym c.in-Refused.is ∙ c.index_table-v.ensures.verdict) c.args.id c.args.field)
+pub returns : goal.returns
+returns c = let v = c.index_table.ensures.verdict in
+    c.shape_under.ensures ∙ sym (shape-accepted _ (sym v ∙ not_refused _ (sym c.is_err.ensures.value ∙ c.if-is_err.false)) _ _)

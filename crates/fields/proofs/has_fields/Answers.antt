@@ -1,12 +1,10 @@
-use mathlib.Core.Path.{sym, ◌∙◌}
-use Rattle.fields.proofs.Laws.{has-none, has-accepted}
+use Rattle.std.proofs.Common.{sym, ◌∙◌}
+use Rattle.fields.proofs.Laws.{accepted, has-none, has-accepted}
 use Rattle.fields.proofs.has_fields.Goals as goal
 
-pub has_fields_under-requires : goal.has_fields_under-requires
-has_fields_under-requires c = c.index_table-v.ensures.layout c.in-Accepted.is
+pub returns-then-is_ok : goal.returns-then-is_ok
+returns-then-is_ok c = let v = c.index_table.ensures.verdict in
+    c.has_fields_under.ensures ∙ sym (has-accepted _ (sym v ∙ accepted _ (sym c.is_ok.ensures.value ∙ c.if-is_ok.true)) _ _)
 
-pub returns-in-Accepted : goal.returns-in-Accepted
-returns-in-Accepted c = c.has_fields_under.ensures ∙ sym (has-accepted _ (sym (sym c.in-Accepted.is ∙ c.index_table-v.ensures.verdict)) _ _)
-
-pub returns-in-Refused : goal.returns-in-Refused
-returns-in-Refused c = sym (has-none _ _ _ (sym c.in-Refused.is ∙ c.index_table-v.ensures.verdict) c.args.id c.args.signature.now)
+pub returns-else-is_ok : goal.returns-else-is_ok
+returns-else-is_ok c = c.if-is_ok.false ∙ sym (has-none _ _ c.index_table.ensures.verdict (sym c.is_ok.ensures.value ∙ c.if-is_ok.false) c.args.id c.args.signature.now)

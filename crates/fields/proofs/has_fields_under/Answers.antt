@@ -1,23 +1,17 @@
-use mathlib.Core.Path.{refl, ◌∙◌}
-use native.Mathlib.Omega.{arith}
+use Rattle.std.proofs.Common.{refl, ◌∙◌, arith}
 use Rattle.schema.specs.Table.{enums}
-use Rattle.fields.proofs.Laws.{find-ready, group-few, rows_in, has-no-group, has-known}
+use Rattle.fields.proofs.Laws.{no-record, some_record, rows_in, has-no-group, has-known}
 use Rattle.fields.proofs.has_fields_under.Goals as goal
 
-pub find-group-requires : goal.find-group-requires
-find-group-requires c = find-ready _ _ c.requires _ c.group_total-total.ensures.0
-
-pub returns-then-total-group : goal.returns-then-total-group
-returns-then-total-group c = has-no-group _ _ c.requires _ _ _ c.group_total-total.ensures.0 c.find-group.ensures.0 c.if-total-group.true _
-
-pub group_place-at-requires : goal.group_place-at-requires
-group_place-at-requires c = (c.requires.long, group-few _ _ c.requires _ _ _ c.group_total-total.ensures.0 c.find-group.ensures.0 c.if-total-group.false)
+pub returns-in_default : goal.returns-in_default
+returns-in_default c = has-no-group _ _ c.requires _ (no-record _ _ c.requires _ _ c.group_record.ensures c.in_default.is) _
 
 pub field_count-requires : goal.field_count-requires
-field_count-requires c = let l = rows_in _ _ c.requires _ _ _ c.group_total-total.ensures.0 c.find-group.ensures.0 c.if-total-group.false _ _ c.group_place-at.ensures.0 refl in omega (arith, l)
+field_count-requires c = let s = some_record _ _ c.requires _ _ c.group_record.ensures _ c.in-Some.is in omega (arith, rows_in _ _ c.requires _ _ s _ refl)
 
 pub have_signature-requires : goal.have_signature-requires
-have_signature-requires c = (rows_in _ _ c.requires _ _ _ c.group_total-total.ensures.0 c.find-group.ensures.0 c.if-total-group.false _ _ c.group_place-at.ensures.0 c.field_count.ensures.0, c.requires.small)
+have_signature-requires c = let s = some_record _ _ c.requires _ _ c.group_record.ensures _ c.in-Some.is in (rows_in _ _ c.requires _ _ s _ c.field_count.ensures.0, c.requires.small)
 
 pub returns : goal.returns
-returns c = c.have_signature.ensures (enums c.args.table.now) ∙ has-known _ _ c.requires _ _ _ c.group_total-total.ensures.0 c.find-group.ensures.0 c.if-total-group.false _ _ c.group_place-at.ensures.0 c.field_count.ensures.0 _
+returns c = let s = some_record _ _ c.requires _ _ c.group_record.ensures _ c.in-Some.is in
+    c.have_signature.ensures (enums c.args.table.now) ∙ has-known _ _ c.requires _ _ s _ c.field_count.ensures.0 _

@@ -4,8 +4,8 @@ use Rattle.schema.proofs.group_width.Goals as goal
 
 pub returns-then-group-lt64 : goal.returns-then-group-lt64
 unfolding width_in
-returns-then-group-lt64 c = let w : c.wide16.result ≡ width_in c.args.index.now c.args.group = c.wide16.ensures.0 ∙ rw (lt-ltb _ _ c.if-group-lt64.true) in (w, omega (arith, w, c.requires.narrow c.args.group))
+returns-then-group-lt64 c = let w : c.from.result ≡ width_in c.args.index.now c.args.group = c.from.ensures ∙ rw (lt-ltb _ _ c.if-group-lt64.true) in (w, omega (arith, w, c.requires.narrow c.args.group))
 
-pub returns : goal.returns
+pub returns-else-group-lt64 : goal.returns-else-group-lt64
 unfolding width_in
-returns c = (rw (le-ltb _ _ c.if-group-lt64.false), search rules)
+returns-else-group-lt64 c = (rw (le-ltb _ _ c.if-group-lt64.false), search rules)

@@ -1,13 +1,18 @@
-use Rattle.std.proofs.Common.{arith}
+use Rattle.std.proofs.Common.{eq-eqb, ne_eqb, le-ltb, lt-ltb}
 use Rattle.schema.specs.Symbols.{halve}
 use Rattle.schema.proofs.halve.Goals as goal
+use Rattle.schema.proofs.halve.Goals.{then-symbol-value, else-symbol-value}
 
-pub overflow_add-middle : goal.overflow_add-middle
-overflow_add-middle c = let p = c.requires in omega (arith, p.3, (p.0.ordered c.args.list).few)
-
-pub overflow_add-search : goal.overflow_add-search
-overflow_add-search c = let p = c.requires in omega (arith, p.3, (p.0.ordered c.args.list).few)
-
-pub returns : goal.returns
+pub returns-then-rank : goal.returns-then-rank
 unfolding halve
-returns c = rw (c.pick.ensures, c.pick-2.ensures, c.rank.ensures, c.rank-2.ensures, c.symbol_at-symbol.ensures)
+returns-then-rank c = elim c.if-symbol-value.branch [
+  | then-symbol-value w ↦ rw (w.result-is, ← c.symbol_at-symbol.ensures, ← c.rank.ensures, ← c.rank-2.ensures, eq-eqb _ _ w.if-symbol-value.true, lt-ltb _ _ c.if-rank.true)
+  | else-symbol-value w ↦ rw (w.result-is, ← c.symbol_at-symbol.ensures, ← c.rank.ensures, ← c.rank-2.ensures, ne_eqb _ _ w.if-symbol-value.false, lt-ltb _ _ c.if-rank.true)
+]
+
+pub returns-else-rank : goal.returns-else-rank
+unfolding halve
+returns-else-rank c = elim c.if-symbol-value.branch [
+  | then-symbol-value w ↦ rw (w.result-is, ← c.symbol_at-symbol.ensures, ← c.rank.ensures, ← c.rank-2.ensures, eq-eqb _ _ w.if-symbol-value.true, le-ltb _ _ c.if-rank.false)
+  | else-symbol-value w ↦ rw (w.result-is, ← c.symbol_at-symbol.ensures, ← c.rank.ensures, ← c.rank-2.ensures, ne_eqb _ _ w.if-symbol-value.false, le-ltb _ _ c.if-rank.false)
+]

@@ -9,9 +9,6 @@ loop-search-init c =
     let n = symbols-count a.table.now a.index.now p.0 a.list p.1 ∙ sym c.symbol_total-total.ensures.0 in
     (omega (arith, n), running _ a.value _ n)
 
-pub halve-search-requires : goal.halve-search-requires
-halve-search-requires c = (c.requires.0, c.requires.1, c.loop-search-test.true, c.loop-search.invariant.0)
-
 pub loop-search-smaller : goal.loop-search-smaller
 loop-search-smaller c =
     let a = c.args in

@@ -1,10 +1,10 @@
-use Rattle.std.proofs.Common.{◌∙◌}
+use Rattle.std.proofs.Common.{◌∙◌, arith}
 use Rattle.schema.proofs.Records.{field-kind}
-use Rattle.schema.proofs.Types.{kind-flag, kind-millis, kind-nanos, kind-string, kind-binary, kind-fixed, kind-symbol, kind-static, kind-dynamic, kind-plain, kind-any, above}
+use Rattle.schema.proofs.Types.{kind-flag, kind-millis, kind-nanos, kind-string, kind-binary, kind-fixed, kind-symbol, kind-static, kind-dynamic, kind-plain, kind-any}
 use Rattle.schema.proofs.kind_at.Goals as goal
 
-pub returns-then-number-lt17 : goal.returns-then-number-lt17
-returns-then-number-lt17 c = λ es. kind-plain es _ _ _ _ c.scalar_width.ensures c.in_default.in_default-own.rest.0.0.0.0.0.0.0.0.1 c.in_default.in_default-own.rest.0.0.0.0.0.0.0.1 c.in_default.in_default-own.rest.0.0.0.0.0.0.1 c.if-number-lt17.true ∙ field-kind es c.args.table.now c.args.at _ _ _ c.field_type-number.ensures c.field_size-size.ensures c.reference-to.ensures.0
+pub returns-in_default : goal.returns-in_default
+returns-in_default c = λ es. kind-plain es _ _ _ _ c.scalar_width.ensures (λ e. omega (arith, e)) (λ e. omega (arith, e)) (λ e. omega (arith, e)) c.if-number-lt17.true ∙ field-kind es c.args.table.now c.args.at _ _ _ c.field_type-number.ensures c.field_size-size.ensures c.reference-to.ensures.0
 
 pub returns-in-11 : goal.returns-in-11
 returns-in-11 c = λ es. kind-flag es _ _ _ c.in-11.is ∙ field-kind es c.args.table.now c.args.at _ _ _ c.field_type-number.ensures c.field_size-size.ensures c.reference-to.ensures.0
@@ -33,6 +33,5 @@ returns-in-21 c = λ es. kind-static es _ _ _ c.in-21.is ∙ field-kind es c.arg
 pub returns-in-22 : goal.returns-in-22
 returns-in-22 c = λ es. kind-dynamic es _ _ _ c.in-22.is ∙ field-kind es c.args.table.now c.args.at _ _ _ c.field_type-number.ensures c.field_size-size.ensures c.reference-to.ensures.0
 
-pub returns-else-number-lt17 : goal.returns-else-number-lt17
-returns-else-number-lt17 c = λ es. let m = c.in_default.in_default-own.rest in
-    kind-any es _ _ _ (above _ 22 (above _ 21 (above _ 20 (above _ 19 (above _ 18 (above _ 17 c.if-number-lt17.false m.0.0.0.0.0.1) m.0.0.0.0.1) m.0.0.0.1) m.0.0.1) m.0.1) m.1) ∙ field-kind es c.args.table.now c.args.at _ _ _ c.field_type-number.ensures c.field_size-size.ensures c.reference-to.ensures.0
+pub returns-in_default-2 : goal.returns-in_default-2
+returns-in_default-2 c = λ es. kind-any es _ _ _ (omega arith) ∙ field-kind es c.args.table.now c.args.at _ _ _ c.field_type-number.ensures c.field_size-size.ensures c.reference-to.ensures.0

@@ -5,15 +5,15 @@ use Rattle.schema.proofs.kind_width.Goals as goal
 
 pub returns-in-Plain : goal.returns-in-Plain
 unfolding kind_width kind_from
-returns-in-Plain c = (λ es. rw c.in-Plain.is c.wide.ensures.0, omega (arith, c.wide.ensures.1))
+returns-in-Plain c = (λ es. rw c.in-Plain.is c.from.ensures, omega (arith, c.from.ensures))
 
 pub returns-in-Number : goal.returns-in-Number
 unfolding kind_width kind_from
-returns-in-Number c = (λ es. rw c.in-Number.is (c.wide-in-Number.ensures.0 ∙ c.tested_width.ensures es _), omega (arith, c.wide-in-Number.ensures.1))
+returns-in-Number c = (λ es. rw c.in-Number.is (c.from-in-Number.ensures ∙ c.tested_width.ensures es _), omega (arith, c.from-in-Number.ensures))
 
 pub returns-in-Inline : goal.returns-in-Inline
 unfolding kind_width kind_from
-returns-in-Inline c = (λ es. rw c.in-Inline.is (omega (arith, c.wide-in-Inline.ensures.0)), omega (arith, c.wide-in-Inline.ensures.1))
+returns-in-Inline c = (λ es. rw c.in-Inline.is (omega (arith, c.from-in-Inline.ensures)), omega (arith, c.from-in-Inline.ensures))
 
 pub returns-in-Indirect : goal.returns-in-Indirect
 unfolding kind_width kind_from

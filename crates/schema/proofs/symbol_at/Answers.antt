@@ -2,12 +2,6 @@ use Rattle.std.proofs.Common.{◌∙◌, arith}
 use Rattle.schema.proofs.Symbols.{symbol-inside, symbol-stands}
 use Rattle.schema.proofs.symbol_at.Goals as goal
 
-pub overflow_mul-i : goal.overflow_mul-i
-overflow_mul-i c = let a = c.args in let p = c.requires in omega (arith, symbol-inside _ _ p.0 a.list p.1 a.i p.2, p.0.small)
-
-pub overflow_add-symbol_place : goal.overflow_add-symbol_place
-overflow_add-symbol_place c = let a = c.args in let p = c.requires in omega (arith, symbol-inside _ _ p.0 a.list p.1 a.i p.2, p.0.small, c.symbol_place.ensures.0)
-
 pub symbol_value-requires : goal.symbol_value-requires
 symbol_value-requires c = let a = c.args in let p = c.requires in omega (arith, symbol-inside _ _ p.0 a.list p.1 a.i p.2, c.symbol_place.ensures.0)
 

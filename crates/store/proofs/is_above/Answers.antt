@@ -1,10 +1,10 @@
-use lib.Dec.{ltb}
-use mathlib.Core.Path.{ap, ◌∙◌}
-use Rattle.store.proofs.Laws.{above-none, above-some}
+use Rattle.settings.specs.Store.{above}
 use Rattle.store.proofs.is_above.Goals as goal
 
-pub returns-then-number-eq0 : goal.returns-then-number-eq0
-returns-then-number-eq0 c = above-none c.args.store.now c.args.number c.args.version c.if-number-eq0.true
+pub returns-in-Some : goal.returns-in-Some
+unfolding above
+returns-in-Some c = rw (c.in-Some.is, c.read_u16.ensures.0)
 
-pub returns : goal.returns
-returns c = ap (λ x. ltb x c.args.version) c.read_u16.ensures.0 ∙ above-some c.args.store.now c.args.number c.args.version c.if-number-eq0.false
+pub returns-in-None : goal.returns-in-None
+unfolding above
+returns-in-None c = rw c.in-None.is

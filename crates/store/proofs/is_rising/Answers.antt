@@ -1,13 +1,6 @@
 use mathlib.Core.Path.{◌∙◌}
-use native.Mathlib.Omega.{arith}
 use Rattle.store.proofs.Laws.{rising-is}
 use Rattle.store.proofs.is_rising.Goals as goal
-
-pub newest-last-requires : goal.newest-last-requires
-newest-last-requires c = omega (arith, c.requires)
-
-pub is_above-requires : goal.is_above-requires
-is_above-requires c = omega (arith, c.requires, c.newest-last.ensures.1)
 
 pub returns : goal.returns
 returns c = let a = c.args in

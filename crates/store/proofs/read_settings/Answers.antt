@@ -1,19 +1,21 @@
-use mathlib.Core.Path.{sym, ap, ◌∙◌}
-use native.Mathlib.Omega.{arith}
-use Prim.Native.Nat.{ℕ}
-use Rattle.settings.specs.Store.{versioned, version_by}
-use Rattle.store.proofs.Laws.{has-version, refused-version}
+use Rattle.std.proofs.Common.{Ok, refl, ap, ◌∙◌}
+use Rattle.std.proofs.lemmas.Result.{err_from_is_err_and}
+use Rattle.settings.specs.Store.{version_by}
+use Rattle.store.proofs.Laws.{has-version, refused-version, sound-records, unsound}
 use Rattle.store.proofs.read_settings.Goals as goal
 
-pub returns-then-not-is_sound : goal.returns-then-not-is_sound
-returns-then-not-is_sound c = c.unknown.ensures ∙ refused-version c.args.store.now _ c.count_records-n.ensures.0 (sym c.is_sound.ensures ∙ c.if-not-is_sound.true) c.args.customer c.args.version
+pub returns-in_err-n : goal.returns-in_err-n
+returns-in_err-n c = let st = c.args.store.now in
+    let p = err_from_is_err_and c.from_residual.result c.from_residual.ensures.1 in
+    let u = unsound st _ c.sound_records.ensures.value _ c.in_err-n.was in
+    rw (p.1, p.2, u.0) (refused-version st _ refl u.1 c.args.customer c.args.version)
 
-pub version_by-requires : goal.version_by-requires
-version_by-requires c = omega (arith, c.versioned-found.ensures.1, c.count_records-n.ensures.1)
+pub returns-in_default : goal.returns-in_default
+unfolding version_by
+returns-in_default c = let st = c.args.store.now in let s = sound-records st _ c.sound_records.ensures.value _ c.in_ok-n.was in
+    ap (version_by st) (rw (c.in_default.is, c.from.ensures, c.from-2.ensures) at c.versioned.ensures.0) ∙ has-version st _ s.0 s.1 c.args.customer c.args.version
 
 pub returns : goal.returns
-returns c = let a = c.args in
-    let m = c.count_records-n in
-    let asked = ap (λ (x : ℕ). versioned a.store.now x c.wide-2.result m.result) c.wide.ensures.0 ∙ ap (λ (x : ℕ). versioned a.store.now a.customer x m.result) c.wide-2.ensures.0 in
-    c.version_by.ensures ∙ ap (version_by a.store.now) (c.versioned-found.ensures.0 ∙ asked)
-    ∙ has-version a.store.now _ m.ensures.0 (sym c.is_sound.ensures ∙ c.if-not-is_sound.false) a.customer a.version
+unfolding version_by
+returns c = let st = c.args.store.now in let s = sound-records st _ c.sound_records.ensures.value _ c.in_ok-n.was in
+    ap Ok c.ignored_of.ensures ∙ ap (version_by st) (rw (c.in-Some.is, c.from.ensures, c.from-2.ensures) at c.versioned.ensures.0) ∙ has-version st _ s.0 s.1 c.args.customer c.args.version

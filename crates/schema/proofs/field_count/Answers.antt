@@ -1,6 +1,0 @@
-use Rattle.std.proofs.Common.{sym, ◌∙◌, rules}
-use Rattle.schema.proofs.Records.{byte_at}
-use Rattle.schema.proofs.field_count.Goals as goal
-
-pub returns : goal.returns
-returns c = (c.wide.ensures.0 ∙ sym (byte_at c.args.table.now c.args.at 13), search rules)

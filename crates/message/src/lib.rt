@@ -129,17 +129,17 @@ fn claim(
         });
     }
     if SCATTERED <= taken {
-        if wire::all_zero(occupied, place, size) {
-            occupy(occupied, place, size);
-            return Ok(Found {
-                place,
-                count,
-                taken,
+        if !wire::all_zero(occupied, place, size) {
+            return Err(Fault {
+                number: 27,
+                place: frame.base + place,
             });
         }
-        return Err(Fault {
-            number: 27,
-            place: frame.base + place,
+        occupy(occupied, place, size);
+        return Ok(Found {
+            place,
+            count,
+            taken,
         });
     }
     if place == taken {

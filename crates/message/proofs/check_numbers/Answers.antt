@@ -1,19 +1,10 @@
-use Rattle.std.proofs.Common.{sym, refl, ap, ◌∙◌, arith, rules}
+use Rattle.std.proofs.Common.{sym, refl, ◌∙◌, rules}
 use Rattle.std.proofs.lemmas.Result.{err_from_is_err_and}
 use Rattle.schema.specs.Table.{enums}
 use Rattle.schema.specs.Layout.{width_in}
 use Rattle.message.specs.Walk.{here}
-use Rattle.message.specs.Count.{count}
-use Rattle.message.specs.Check.{after}
-use Rattle.message.proofs.CheckFields.{items-begin, items-passed, items-stopped, items-end, item-inside}
+use Rattle.message.proofs.CheckFields.{items-passed, items-stopped, items-end}
 use Rattle.message.proofs.check_numbers.Goals as goal
-
-pub loop-i-init : goal.loop-i-init
-loop-i-init c = record { fits = search rules; counts = λ y I S area F. ap (λ r. after c.args.before (count r)) (items-begin _ _ (here y c.args.bytes.now c.args.base area) c.args.total c.args.at _) }
-
-pub check_number-requires : goal.check_number-requires
-check_number-requires c = let q = c.from-width.ensures ∙ c.tested_width.ensures (enums c.args.table.now) (width_in c.args.index.now) in
-    (c.requires.0, omega (arith, q, rw (← q) at c.requires.1, item-inside c.args.total c.loop-i.i c.from-width.result c.loop-i-test.true), c.requires.2)
 
 pub returns-in_err-step : goal.returns-in_err-step
 returns-in_err-step c = λ y I S area F. let a = c.args in let l = c.loop-i in

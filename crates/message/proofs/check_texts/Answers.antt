@@ -1,13 +1,9 @@
-use Rattle.std.proofs.Common.{sym, refl, ap, ◌∙◌, rules}
+use Rattle.std.proofs.Common.{sym, refl, ◌∙◌}
 use Rattle.std.proofs.lemmas.Result.{err_from_is_err_and}
-use Rattle.message.specs.Count.{count}
-use Rattle.message.specs.Check.{occupancy_of, after, within}
+use Rattle.message.specs.Check.{occupancy_of, within}
 use Rattle.message.proofs.CheckAnswers.{bounded}
-use Rattle.message.proofs.CheckFields.{items-begin, items-passed, items-stopped, items-end}
+use Rattle.message.proofs.CheckFields.{items-passed, items-stopped, items-end}
 use Rattle.message.proofs.check_texts.Goals as goal
-
-pub loop-i-init : goal.loop-i-init
-loop-i-init c = record { fits = search rules; counts = ap (λ r. after c.args.before (count r)) (items-begin 4 _ (within c.args.bytes.now c.args.frame) c.args.total c.args.at _) }
 
 pub returns-in_err-step : goal.returns-in_err-step
 returns-in_err-step c = let a = c.args in let l = c.loop-i in let p = err_from_is_err_and c.from_residual.result c.from_residual.ensures.1 in

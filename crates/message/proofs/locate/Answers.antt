@@ -1,6 +1,6 @@
 use Rattle.std.proofs.Common.{◌+◌, ◌*◌, refl, ◌∙◌, arith}
 use Rattle.message.specs.Check.{occupancy_of}
-use Rattle.message.proofs.CheckPlaces.{small, lands-claim, low, high, cut, over, claims}
+use Rattle.message.proofs.CheckPlaces.{lands-claim, low, high, cut, over, claims}
 use Rattle.message.proofs.locate.Goals.{then-place-frame-via-then-place-frame, then-place-frame-via-else-place-frame+then-bytes-place}
 use Rattle.message.proofs.locate.Goals as goal
 
@@ -12,15 +12,6 @@ returns-then-place-frame c = let a = c.args in elim c.then-place-frame.branch [
 
 pub returns-then-bytes-place-2 : goal.returns-then-bytes-place-2
 returns-then-bytes-place-2 c = let a = c.args in (cut _ _ a.past a.width a.bytes.now a.frame.base a.frame.area a.at (occupancy_of a.frame.area a.taken a.occupied.now) c.read_u32.result _ 0 0 c.read_u32.ensures.0 refl (omega arith) (omega arith) c.if-bytes-place-2.true, tt)
-
-pub overflow_mul-size : goal.overflow_mul-size
-overflow_mul-size c = omega (arith, small c.read_u32-count.result c.args.width c.read_u32-count.ensures.1 c.requires.4)
-
-pub overflow_add-size : goal.overflow_add-size
-overflow_add-size c = omega (arith, small c.read_u32-count.result c.args.width c.read_u32-count.ensures.1 c.requires.4)
-
-pub overflow_add-place-3 : goal.overflow_add-place-3
-overflow_add-place-3 c = omega (arith, small c.read_u32-count.result c.args.width c.read_u32-count.ensures.1 c.requires.4)
 
 pub returns-then-bytes-place-3 : goal.returns-then-bytes-place-3
 returns-then-bytes-place-3 c = let a = c.args in (over _ _ a.past a.width a.bytes.now a.frame.base a.frame.area a.at (occupancy_of a.frame.area a.taken a.occupied.now) c.read_u32.result _ c.read_u32-count.result (4 + c.read_u32-count.result * a.width) c.read_u32.ensures.0 refl (omega arith) (omega arith) c.if-bytes-place-2.false c.read_u32-count.ensures.0 refl c.if-bytes-place-3.true, tt)

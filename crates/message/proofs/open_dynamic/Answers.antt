@@ -10,17 +10,11 @@ pub returns-then-bytes-lt16 : goal.returns-then-bytes-lt16
 unfolding Opens
 returns-then-bytes-lt16 c = λ m o e i. let a = c.args in group-short _ (schema a.table.now) a.allowed a.frame.base a.bytes.now a.frame.levels c.if-bytes-lt16.true
 
-pub find-group-requires : goal.find-group-requires
-find-group-requires c = let P = c.requires.0 in (rw (sym (c.group_total-total.ensures.0 ∙ P.total)) at P.placed, P.long, omega (arith, c.group_total-total.ensures.0, P.total, P.few), P.small)
-
 pub returns-then-total-group : goal.returns-then-total-group
 unfolding Opens
 returns-then-total-group c = λ m o e i. let a = c.args in let gs = schema a.table.now in let n = c.group_total-total.ensures.0 ∙ c.requires.0.total in
     let g = c.find-group.ensures.0 ∙ find-whole gs _ _ n ∙ ap (find gs) c.read_u64.ensures in
     group-unknown _ gs a.allowed a.frame.base a.bytes.now a.frame.levels c.if-bytes-lt16.false _ g (omega (arith, n, c.if-total-group.true))
-
-pub allows-requires : goal.allows-requires
-allows-requires c = (c.requires.0, omega (arith, c.group_total-total.ensures.0 ∙ c.requires.0.total, c.if-total-group.false))
 
 pub returns-then-frame-eq0 : goal.returns-then-frame-eq0
 unfolding Opens

@@ -1,26 +1,26 @@
 -- A walk's answer and the count that it stands for: what a function shows at a return, and how it goes on after a call.
-use Rattle.schema.specs.Faults.{fault_at}
-use Rattle.std.proofs.Common.{Ok, Err, ◌≡◌, ℕ, ◌+◌, ◌%◌, ◌^◌, ◌<◌, List, [], sym, refl, ap, ◌∙◌, add-zero, add_assoc, mod-lt, mod-eq_of_lt, arith}
+use Rattle.std.proofs.Common.{Ok, Err, Result, IsErrAnd, ◌≡◌, ℕ, ◌+◌, ◌%◌, ◌^◌, ◌<◌, List, [], refl, ap, ◌∙◌, add-zero, add_assoc, mod-lt, mod-eq_of_lt, arith}
+use Rattle.std.proofs.lemmas.Result.{err_from_is_err_and}
 use native.Mathlib.Nat.{mod-add-mod}
+use Rattle.schema.specs.declared.Fault.{Fault}
 use Rattle.message.specs.Count.{Count, failed, counted, more, and_then}
 use Rattle.message.specs.Check.{count_by, count_of, after}
 use Rattle.message.specs.declared.Step.{Step}
-use Rattle.message.specs.declared.Step.TheVariants.{Counted, Refused}
 
 -- RETURNS
 
 module _ (F : ℕ → List ℕ) (k : ℕ) (c : Count) where
-  pub refuses : (n p : ℕ) → c ≡ failed n p → count_by F (Refused n p) ≡ after k c
+  pub refuses : (f : Fault) → c ≡ failed f.number f.place → count_by F (Err f) ≡ after k c
   unfolding count_by after
-  refuses n p e = rw e
+  refuses f e = rw e
 
-  pub counts : (j l : ℕ) (s : ℕ) → c ≡ counted j (F s) → l ≡ (k + j) % 2 ^ 64 → count_by F (Counted l s) ≡ after k c
+  pub counts : (s : Step) (j : ℕ) → c ≡ counted j (F s.taken) → s.length ≡ (k + j) % 2 ^ 64 → count_by F (Ok s) ≡ after k c
   unfolding count_by after
-  counts j l s e q = rw (e, q)
+  counts s j e q = rw (e, q)
 
   -- nothing more, and something more
-  pub stays : (s : ℕ) → c ≡ counted 0 (F s) → k < 2 ^ 64 → count_by F (Counted k s) ≡ after k c
-  stays s e h = counts 0 k s e (rw (add-zero, mod-eq_of_lt h))
+  pub stays : (s : Step) → c ≡ counted 0 (F s.taken) → s.length ≡ k → k < 2 ^ 64 → count_by F (Ok s) ≡ after k c
+  stays s e q h = counts s 0 e (rw (add-zero, mod-eq_of_lt h) q)
 
 pub after_more : (k j : ℕ) (c : Count) → after k (more j c) ≡ after ((k + j) % 2 ^ 64) c
 unfolding after more
@@ -32,48 +32,49 @@ goes_on k j l c d e q = rw (e, q) (after_more k j d)
 
 -- AFTER A CALL
 
-module _ (F : ℕ → List ℕ) (k : ℕ) (c : Count) (v : Step) (s : count_by F v ≡ after k c) where
-  told : (w : Step) → v ≡ w → count_by F w ≡ after k c
-  told w e = sym (ap (count_by F) e) ∙ s
-
-  pub passed : (l : ℕ) (x : ℕ) (f : List ℕ → Count) → v ≡ Counted l x → after k (and_then c f) ≡ after l (f (F x))
+module _ (F : ℕ → List ℕ) (k : ℕ) (c : Count) where
+  pub passed : (s : Step) (f : List ℕ → Count) → count_by F (Ok s) ≡ after k c → after k (and_then c f) ≡ after s.length (f (F s.taken))
   unfolding count_by after and_then
-  passed l x f e = go c (told (Counted l x) e)
+  passed s f e = go c e
     where
-      go : (c : Count) → counted l (F x) ≡ after k c → after k (and_then c f) ≡ after l (f (F x))
-      go (failed n p) q = absurd (let z : ◌≡◌ {A = ℕ} 0 1 = cc in omega arith)
+      go : (c : Count) → counted s.length (F s.taken) ≡ after k c → after k (and_then c f) ≡ after s.length (f (F s.taken))
+      go (failed n p) q = cc
       go (counted j i) q =
-          let a : l ≡ (k + j) % 2 ^ 64 = cc in
-          let b : i ≡ F x = cc in
-          rw (a, b) (after_more k j (f (F x)))
+          let a : s.length ≡ (k + j) % 2 ^ 64 = cc in
+          let b : i ≡ F s.taken = cc in
+          rw (a, b) (after_more k j (f (F s.taken)))
 
-  pub stopped : (G : ℕ → List ℕ) (n p : ℕ) (f : List ℕ → Count) → v ≡ Refused n p → count_by G (Refused n p) ≡ after k (and_then c f)
+  pub stopped : (G : ℕ → List ℕ) (e : Fault) (f : List ℕ → Count) → count_by F (Err e) ≡ after k c → count_by G (Err e) ≡ after k (and_then c f)
   unfolding count_by after and_then
-  stopped G n p f e = go c (told (Refused n p) e)
+  stopped G e f s = go c s
     where
-      go : (c : Count) → failed n p ≡ after k c → failed n p ≡ after k (and_then c f)
+      go : (c : Count) → failed e.number e.place ≡ after k c → failed e.number e.place ≡ after k (and_then c f)
       go (failed x y) q = q
-      go (counted j i) q = absurd (let z : ◌≡◌ {A = ℕ} 0 1 = cc in omega arith)
+      go (counted j i) q = cc
 
-  pub bounded : (l : ℕ) (x : ℕ) → v ≡ Counted l x → l < 2 ^ 64
+  pub bounded : (s : Step) → count_by F (Ok s) ≡ after k c → s.length < 2 ^ 64
   unfolding count_by after
-  bounded l x e = go c (told (Counted l x) e)
+  bounded s e = go c e
     where
-      go : (c : Count) → counted l (F x) ≡ after k c → l < 2 ^ 64
-      go (failed n p) q = absurd (let z : ◌≡◌ {A = ℕ} 0 1 = cc in omega arith)
-      go (counted j i) q = let a : l ≡ (k + j) % 2 ^ 64 = cc in omega (arith, a, mod-lt (k + j) {m = 2 ^ 64} (omega arith))
+      go : (c : Count) → counted s.length (F s.taken) ≡ after k c → s.length < 2 ^ 64
+      go (failed n p) q = cc
+      go (counted j i) q = let a : s.length ≡ (k + j) % 2 ^ 64 = cc in omega (arith, a, mod-lt (k + j) {m = 2 ^ 64} (omega arith))
+
+-- what the exit of a `?` returns
+pub exits : {T : Type 0} (r : Result T Fault) (f : Fault) → IsErrAnd r (λ e. e ≡ f) → r ≡ Err f
+exits r f h = let p = err_from_is_err_and r h in p.1 ∙ ap Err p.2
 
 -- THE CHECK'S ANSWER
 
 module _ (k : ℕ) (c : Count) where
-  pub check-refuses : (n p : ℕ) → c ≡ failed n p → count_of (Err (fault_at n p)) [] ≡ after k c
+  pub check-refuses : (f : Fault) → c ≡ failed f.number f.place → count_of (Err f) [] ≡ after k c
   unfolding count_of after
-  check-refuses n p e = rw e
+  check-refuses f e = rw e
 
-  pub check-accepts : (v : Step) (l : ℕ) (x : ℕ) → count_by (λ _. []) v ≡ after k c → v ≡ Counted l x → count_of (Ok l) [] ≡ after k c
+  pub check-accepts : (s : Step) → count_by (λ _. []) (Ok s) ≡ after k c → count_of (Ok s.length) [] ≡ after k c
   unfolding count_of count_by
-  check-accepts v l x s e = sym (ap (count_by (λ _. [])) e) ∙ s
+  check-accepts s e = e
 
-  pub check-stops : (v : Step) (n p : ℕ) → count_by (λ _. []) v ≡ after k c → v ≡ Refused n p → count_of (Err (fault_at n p)) [] ≡ after k c
+  pub check-stops : (f : Fault) → count_by (λ _. []) (Err f) ≡ after k c → count_of (Err f) [] ≡ after k c
   unfolding count_of count_by
-  check-stops v n p s e = sym (ap (count_by (λ _. [])) e) ∙ s
+  check-stops f e = e

@@ -1,7 +1,9 @@
 -- Fields, sequences and items: each way through them, and one turn of each loop.
-use Rattle.std.proofs.Common.{◌≡◌, ℕ, zero, suc, ◌+◌, ◌-◌, ◌*◌, ◌%◌, ◌^◌, ◌<◌, ◌≤◌, Bool, true, false, cond, not, ◌&&◌, eqb, leb, List, length, drop, sym, refl, ap, ◌∙◌, add-mul, arith, eq-eqb, eqb-true}
+use Rattle.std.proofs.Common.{Ok, Err, mul-le-mul_right, ◌≡◌, ℕ, zero, suc, ◌+◌, ◌-◌, ◌*◌, ◌%◌, ◌^◌, ◌<◌, ◌≤◌, Bool, true, false, not, ◌&&◌, eqb, leb, List, length, drop, sym, refl, ap, ◌∙◌, add-mul, arith, eq-eqb, eqb-true}
 use native.Mathlib.Nat.{sub-zero}
+use mir.Val.{bool_byte}
 use borrow.Author.Tests.{eqb-false, not-true, not-false}
+use Rattle.schema.specs.declared.Fault.{Fault}
 use Rattle.schema.specs.Schema.{Kind, plain, inline, any, Field, Group, kind_width, value_width, field_width, fields_of, fields_width, width, shallow_kind, shallow_fields, shallow}
 use Rattle.schema.specs.Table.{field_at, fields_at, field_count, enums, schema}
 use Rattle.schema.specs.Layout.{group_place, Layout}
@@ -19,24 +21,22 @@ use Rattle.message.specs.Walk.{Here, here, Reader, Inner, byte, locate, indirect
 use Rattle.message.specs.Count.{Count, failed, counted, count, more, and_then}
 use Rattle.message.specs.Check.{count_by, after, place_by, Lands, item_r, marked_value_r, Ready}
 use Rattle.message.specs.declared.Step.{Step}
-use Rattle.message.specs.declared.Step.TheVariants.{Counted, Refused}
 use Rattle.message.specs.declared.Frame.{Frame}
-use Rattle.message.specs.declared.Located.{Located}
-use Rattle.message.specs.declared.Located.TheVariants.{At, Nowhere}
+use Rattle.message.specs.declared.Found.{Found}
 use Rattle.message.proofs.Count.{more-more, count_none, count-marked, count-list, count-lost, count-found, items-one, count-items, count-fields}
 use Rattle.message.proofs.CheckAnswers.{stays, goes_on, passed, stopped}
 use Rattle.message.proofs.CheckValues.{plain-counts}
 
 -- BEHIND AN OFFSET
 
-module _ (past w : ℕ) (inside : ℕ → Reader) (h : Here) (at : ℕ) (m : List ℕ) (F : ℕ → List ℕ) (l : Located) (s : place_by F l ≡ locate past w h at m) where
-  pub leads-nowhere : (n p : ℕ) → l ≡ Nowhere n p → count (indirect_r past w inside h at m) ≡ failed n p
+module _ (past w : ℕ) (inside : ℕ → Reader) (h : Here) (at : ℕ) (m : List ℕ) (F : ℕ → List ℕ) where
+  pub leads-nowhere : (f : Fault) → place_by F (Err f) ≡ locate past w h at m → count (indirect_r past w inside h at m) ≡ failed f.number f.place
   unfolding place_by
-  leads-nowhere n p e = count-lost h at m past w inside n p (sym s ∙ ap (place_by F) e)
+  leads-nowhere f s = count-lost h at m past w inside f.number f.place (sym s)
 
-  pub leads-to : (n p : ℕ) (x : ℕ) → l ≡ At p n x → count (indirect_r past w inside h at m) ≡ count (inside n h p (F x))
+  pub leads-to : (f : Found) → place_by F (Ok f) ≡ locate past w h at m → count (indirect_r past w inside h at m) ≡ count (inside f.count h f.place (F f.taken))
   unfolding place_by
-  leads-to n p x e = count-found h at m past w inside p n (F x) (sym s ∙ ap (place_by F) e)
+  leads-to f s = count-found h at m past w inside f.place f.count (F f.taken) (sym s)
 
 -- FIELDS
 
@@ -45,17 +45,18 @@ module _ (I : Inner) (sw : ℕ → ℕ) (S : ℕ → Reader) (es : List (List �
       ≡ and_then (count (field_r I sw S (field_at es (drop q t)) h at m)) (λ m'. count (fields_r I sw S (fields_at es (n - (i + 1)) (drop (q + 16) t)) h (at + field_width sw (field_at es (drop q t))) m'))
   fields-turn l = rw (fields-more es t q n i l) (count-fields h at m I sw S (field_at es (drop q t)) (fields_at es (n - (i + 1)) (drop (q + 16) t)))
 
-  module _ (F : ℕ → List ℕ) (v : Step) (s : count_by F v ≡ after k (count (field_r I sw S (field_at es (drop q t)) h at m))) (l : i < n) where
-    pub fields-passed : (j w : ℕ) (x : ℕ) → v ≡ Counted j x → w ≡ field_width sw (field_at es (drop q t))
-        → after k (count (fields_r I sw S (fields_at es (n - i) (drop q t)) h at m)) ≡ after j (count (fields_r I sw S (fields_at es (n - (i + 1)) (drop (q + 16) t)) h (at + w) (F x)))
-    fields-passed j w x e iw = rw (fields-turn l, iw) (passed F k _ v s j x _ e)
+  module _ (F : ℕ → List ℕ) (l : i < n) where
+    pub fields-passed : (s : Step) (w : ℕ) → count_by F (Ok s) ≡ after k (count (field_r I sw S (field_at es (drop q t)) h at m)) → w ≡ field_width sw (field_at es (drop q t))
+        → after k (count (fields_r I sw S (fields_at es (n - i) (drop q t)) h at m)) ≡ after s.length (count (fields_r I sw S (fields_at es (n - (i + 1)) (drop (q + 16) t)) h (at + w) (F s.taken)))
+    fields-passed s w e iw = rw (fields-turn l, iw) (passed F k _ s _ e)
 
-    pub fields-stopped : (G : ℕ → List ℕ) (x p : ℕ) → v ≡ Refused x p → count_by G (Refused x p) ≡ after k (count (fields_r I sw S (fields_at es (n - i) (drop q t)) h at m))
-    fields-stopped G x p e = rw (fields-turn l) (stopped F k _ v s G x p _ e)
+    pub fields-stopped : (G : ℕ → List ℕ) (f : Fault) → count_by F (Err f) ≡ after k (count (field_r I sw S (field_at es (drop q t)) h at m))
+        → count_by G (Err f) ≡ after k (count (fields_r I sw S (fields_at es (n - i) (drop q t)) h at m))
+    fields-stopped G f e = rw (fields-turn l) (stopped F k _ G f _ e)
 
-  pub fields-end : (F : ℕ → List ℕ) (x : ℕ) → F x ≡ m → n ≤ i → k < 2 ^ 64 → count_by F (Counted k x) ≡ after k (count (fields_r I sw S (fields_at es (n - i) (drop q t)) h at m))
+  pub fields-end : (F : ℕ → List ℕ) (s : Step) → F s.taken ≡ m → s.length ≡ k → n ≤ i → k < 2 ^ 64 → count_by F (Ok s) ≡ after k (count (fields_r I sw S (fields_at es (n - i) (drop q t)) h at m))
   unfolding fields_r
-  fields-end F x f l b = rw (fields-none es t q n i l) (stays F k _ x (rw f (count_none h at m)) b)
+  fields-end F s f e l b = rw (fields-none es t q n i l) (stays F k _ s (rw f (count_none h at m)) e b)
 
 plain-field-wide : (sw : ℕ → ℕ) (n w : ℕ) → field_width sw (plain_field n w) ≡ w
 unfolding field_width value_width kind_width
@@ -86,7 +87,7 @@ pub record ItemsAt (w : ℕ) (R : Reader) (h : Here) (c : Count) (n p k : ℕ) (
   pub inside : p + n * w ≤ length h.bytes
   pub counts : after k (count (items_r w R n h p m)) ≡ c
 
-pub flag-wide : (sw : ℕ → ℕ) (f : Field) (o : Bool) → o ≡ f.optional → cond o 1 0 + value_width sw f ≡ field_width sw f
+pub flag-wide : (sw : ℕ → ℕ) (f : Field) (o : Bool) → o ≡ f.optional → bool_byte o + value_width sw f ≡ field_width sw f
 flag-wide sw f true i = let w = width-optional sw f (sym i) in omega (arith, w)
 flag-wide sw f false i = let w = width-required sw f (sym i) in omega (arith, w)
 
@@ -107,7 +108,7 @@ module _ (I : Inner) (sw : ℕ → ℕ) (S : ℕ → Reader) (f : Field) (h : He
   field-there e o = field-optional e ∙ rw (eq-eqb _ _ o)
 
   -- its value stands behind the flag, if it has one and that is set
-  pub field-set : (o : Bool) → o ≡ f.optional → o && not (eqb (byte at h.bytes) 1) ≡ false → (k : ℕ) → k ≡ cond o 1 0 → field_r I sw S f h at m ≡ marked_value_r I sw S f h (at + k) m
+  pub field-set : (o : Bool) → o ≡ f.optional → o && not (eqb (byte at h.bytes) 1) ≡ false → (k : ℕ) → k ≡ bool_byte o → field_r I sw S f h at m ≡ marked_value_r I sw S f h (at + k) m
   field-set true i e k q = rw q (field-there (sym i) (eqb-true _ _ (not-false _ e)))
   field-set false i e k q = let z : at + k ≡ at = omega (arith, q) in rw z (field-required (sym i))
 
@@ -121,42 +122,55 @@ module _ (I : Inner) (sw : ℕ → ℕ) (S : ℕ → Reader) (f : Field) (h : He
       one-item k e l = let v : w ≡ value_width sw f = iw ∙ ap (kind_width sw) ix ∙ width_one sw f e in
           record { few = omega arith; inside = omega (arith, v, l); counts = ap (λ r. after k (count r)) (items-one h at m w (item_r I S x) ∙ sym (value-one e)) }
 
-      module _ (e : f.sequence ≡ true) (F : ℕ → List ℕ) (l : Located) (s : place_by F l ≡ locate 13 w h at m) where
+      module _ (e : f.sequence ≡ true) (F : ℕ → List ℕ) where
         sequence-is : count (marked_value_r I sw S f h at m) ≡ more 2 (count (indirect_r 13 w (list_r w (item_r I S x)) h at m))
         unfolding value_r
         sequence-is = count-marked h at m (field_mark f) (value_r I sw S f) ∙ rw (iw, ix, e)
 
-        pub sequence-nowhere : (n p : ℕ) → l ≡ Nowhere n p → count (marked_value_r I sw S f h at m) ≡ failed n p
+        pub sequence-nowhere : (l : Fault) → place_by F (Err l) ≡ locate 13 w h at m → count (marked_value_r I sw S f h at m) ≡ failed l.number l.place
         unfolding more
-        sequence-nowhere n p o = sequence-is ∙ ap (more 2) (leads-nowhere 13 w (list_r w (item_r I S x)) h at m F l s n p o)
+        sequence-nowhere l s = sequence-is ∙ ap (more 2) (leads-nowhere 13 w (list_r w (item_r I S x)) h at m F l s)
 
-        sequence-found : (n p y : ℕ) → l ≡ At p n y → p + 4 ≤ length h.bytes → count (marked_value_r I sw S f h at m) ≡ more 6 (count (items_r w (item_r I S x) n h (p + 4) (F y)))
-        sequence-found n p y o g =
-            sequence-is
-            ∙ ap (more 2) (leads-to 13 w (list_r w (item_r I S x)) h at m F l s n p y o ∙ count-list h p (F y) w (item_r I S x) n g)
-            ∙ more-more 2 4 _
+        module _ (l : Found) (s : place_by F (Ok l) ≡ locate 13 w h at m) where
+          sequence-found : l.place + 4 ≤ length h.bytes → count (marked_value_r I sw S f h at m) ≡ more 6 (count (items_r w (item_r I S x) l.count h (l.place + 4) (F l.taken)))
+          sequence-found g =
+              sequence-is
+              ∙ ap (more 2) (leads-to 13 w (list_r w (item_r I S x)) h at m F l s ∙ count-list h l.place (F l.taken) w (item_r I S x) l.count g)
+              ∙ more-more 2 4 _
 
-        pub sequence-items : (k j n p y : ℕ) → Lands F w h.bytes l → l ≡ At p n y → j ≡ (k + 6) % 2 ^ 64
-            → ItemsAt w (item_r I S x) h (after k (count (marked_value_r I sw S f h at m))) n (p + 4) j (F y)
-        sequence-items k j n p y L o q = let g = L.inside p n y o in
-            record { few = L.four p n y o; inside = omega (arith, g); counts = sym (goes_on k 6 j _ _ (sequence-found n p y o (omega (arith, g))) q) }
+          pub sequence-items : (k j : ℕ) → Lands F w h.bytes l → j ≡ (k + 6) % 2 ^ 64
+              → ItemsAt w (item_r I S x) h (after k (count (marked_value_r I sw S f h at m))) l.count (l.place + 4) j (F l.taken)
+          sequence-items k j L q = let g = L.inside in
+              record { few = L.four; inside = omega (arith, g); counts = sym (goes_on k 6 j _ _ (sequence-found (omega (arith, g))) q) }
 
 -- ITEMS
 
-module _ (w : ℕ) (R : Reader) (h : Here) (n i at k : ℕ) (m : List ℕ) where
-  items-turn : i < n → count (items_r w R (n - i) h at m) ≡ and_then (count (R h at m)) (λ m'. count (items_r w R (n - (i + 1)) h (at + w) m'))
-  items-turn l = let e : n - i ≡ suc (n - (i + 1)) = omega arith in rw e (count-items h at m w R (n - (i + 1)))
+-- after i of n items from p on
+module _ (w : ℕ) (R : Reader) (h : Here) (n i p k : ℕ) (m : List ℕ) where
+  items-turn : i < n → count (items_r w R (n - i) h (p + i * w) m) ≡ and_then (count (R h (p + i * w) m)) (λ m'. count (items_r w R (n - (i + 1)) h (p + (i + 1) * w) m'))
+  items-turn l =
+      let e : n - i ≡ suc (n - (i + 1)) = omega arith in
+      let q : p + (i + 1) * w ≡ p + i * w + w = omega (arith, add-mul i 1 w) in
+      rw (e, q) (count-items h (p + i * w) m w R (n - (i + 1)))
 
-  module _ (F : ℕ → List ℕ) (v : Step) (s : count_by F v ≡ after k (count (R h at m))) (l : i < n) where
-    pub items-passed : (j : ℕ) (x : ℕ) → v ≡ Counted j x → after k (count (items_r w R (n - i) h at m)) ≡ after j (count (items_r w R (n - (i + 1)) h (at + w) (F x)))
-    items-passed j x e = rw (items-turn l) (passed F k _ v s j x _ e)
+  module _ (F : ℕ → List ℕ) (l : i < n) where
+    pub items-passed : (s : Step) → count_by F (Ok s) ≡ after k (count (R h (p + i * w) m))
+        → after k (count (items_r w R (n - i) h (p + i * w) m)) ≡ after s.length (count (items_r w R (n - (i + 1)) h (p + (i + 1) * w) (F s.taken)))
+    items-passed s e = rw (items-turn l) (passed F k _ s _ e)
 
-    pub items-stopped : (G : ℕ → List ℕ) (x p : ℕ) → v ≡ Refused x p → count_by G (Refused x p) ≡ after k (count (items_r w R (n - i) h at m))
-    items-stopped G x p e = rw (items-turn l) (stopped F k _ v s G x p _ e)
+    pub items-stopped : (G : ℕ → List ℕ) (f : Fault) → count_by F (Err f) ≡ after k (count (R h (p + i * w) m)) → count_by G (Err f) ≡ after k (count (items_r w R (n - i) h (p + i * w) m))
+    items-stopped G f e = rw (items-turn l) (stopped F k _ G f _ e)
 
-  pub items-end : (F : ℕ → List ℕ) (x : ℕ) → F x ≡ m → n ≤ i → k < 2 ^ 64 → count_by F (Counted k x) ≡ after k (count (items_r w R (n - i) h at m))
+  pub items-end : (F : ℕ → List ℕ) (s : Step) → F s.taken ≡ m → s.length ≡ k → n ≤ i → k < 2 ^ 64 → count_by F (Ok s) ≡ after k (count (items_r w R (n - i) h (p + i * w) m))
   unfolding items_r
-  items-end F x f l b = let e : n - i ≡ 0 = omega arith in rw e (stays F k _ x (rw f (count_none h at m)) b)
+  items-end F s f q l b = let e : n - i ≡ 0 = omega arith in rw e (stays F k _ s (rw f (count_none h (p + i * w) m)) q b)
+
+-- before the first item, and the bytes of one
+pub items-begin : (w : ℕ) (R : Reader) (h : Here) (n p : ℕ) (m : List ℕ) → items_r w R n h p m ≡ items_r w R (n - 0) h (p + 0 * w) m
+items-begin w R h n p m = let e : p + 0 * w ≡ p = omega arith in rw (sub-zero, e) refl
+
+pub item-inside : (n i w : ℕ) → i < n → i * w + w ≤ n * w
+item-inside n i w h = omega (arith, add-mul i 1 w, mul-le-mul_right {m = i + 1} {n = n} w (omega arith))
 
 -- what is left of n items of w bytes, one item further
 pub items_left : (n i w : ℕ) → i < n → (n - i) * w ≡ w + (n - (i + 1)) * w

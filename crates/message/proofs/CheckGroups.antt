@@ -1,8 +1,9 @@
 -- Dynamic groups, the extension and the whole message: each way through them.
-use Rattle.std.proofs.Common.{◌≡◌, ℕ, zero, suc, ◌+◌, ◌-◌, ◌*◌, ◌%◌, ◌^◌, ◌<◌, ◌≤◌, min, Bool, true, false, ◌||◌, List, [], ◌++◌, length, drop, replicate, refl, ap, ◌∙◌, append-nil, mul-one, arith, length-append, drop_of_length-le, le-ltb, lt-ltb, eq-eqb, ne_eqb, le-leb}
+use Rattle.std.proofs.Common.{Ok, Err, ◌≡◌, ℕ, zero, suc, ◌+◌, ◌-◌, ◌*◌, ◌%◌, ◌^◌, ◌<◌, ◌≤◌, min, Bool, true, false, ◌||◌, List, [], ◌++◌, length, drop, replicate, refl, ap, ◌∙◌, append-nil, mul-one, arith, length-append, drop_of_length-le, le-ltb, lt-ltb, eq-eqb, ne_eqb, le-leb}
 use borrow.Author.Tests.{lt-leb}
 use Rattle.wire.specs.Bytes.{part, splice, le}
 use Rattle.wire.proofs.Laws.{length_part, splice-nil}
+use Rattle.schema.specs.declared.Fault.{Fault}
 use Rattle.schema.specs.Faults.{need}
 use Rattle.schema.specs.Schema.{Group, text_ok, width, find, known, allows}
 use Rattle.message.specs.Occupancy.{pads_zero, pads_before, occupy}
@@ -12,9 +13,7 @@ use Rattle.message.specs.Walk.{Reading, refused, done, prefixed, next, Here, her
 use Rattle.message.specs.Count.{Count, failed, counted, count, more, and_then}
 use Rattle.message.specs.Check.{packed, occupancy_of, closing, count_by, after, place_by}
 use Rattle.message.specs.declared.Step.{Step}
-use Rattle.message.specs.declared.Step.TheVariants.{Counted}
-use Rattle.message.specs.declared.Located.{Located}
-use Rattle.message.specs.declared.Located.TheVariants.{At, Nowhere}
+use Rattle.message.specs.declared.Found.{Found}
 use Rattle.message.proofs.Tests.{or_right}
 use Rattle.message.proofs.Count.{more-zero, more-more, then-then, then-passed, count_next, count-prefixed, count-marked, count-list, count-inner, length-mark}
 use Rattle.message.proofs.CheckOccupancy.{packed-is, not-scattered}
@@ -23,10 +22,10 @@ use Rattle.message.proofs.CheckFields.{leads-nowhere, leads-to}
 
 -- A NESTED GROUP
 
-pub nested-passed : (F : ℕ → List ℕ) (k : ℕ) (c : Count) (v : Step) (l : ℕ) (x y : ℕ) (m : List ℕ) → count_by (λ _. []) v ≡ after k c → v ≡ Counted l x → F y ≡ m
-    → count_by F (Counted l y) ≡ after k (and_then c (λ _. counted 0 m))
-nested-passed F k c v l x y m s e o =
-    rw (passed (λ _. []) k c v s l x (λ _. counted 0 m) e) (stays F l (counted 0 m) y (rw o refl) (bounded (λ _. []) k c v s l x e))
+pub nested-passed : (F : ℕ → List ℕ) (k : ℕ) (c : Count) (s : Step) (y : ℕ) (m : List ℕ) → count_by (λ _. []) (Ok s) ≡ after k c → F y ≡ m
+    → count_by F (Ok (record { length = s.length; taken = y })) ≡ after k (and_then c (λ _. counted 0 m))
+nested-passed F k c s y m e o =
+    rw (passed (λ _. []) k c s (λ _. counted 0 m) e) (stays F s.length (counted 0 m) _ (rw o refl) refl (bounded (λ _. []) k c s e))
 
 -- THE EXTENSION
 
@@ -35,44 +34,45 @@ module _ (gs : List Group) (I : Inner) (h : Here) (at : ℕ) (m : List ℕ) wher
   unfolding extension_r count
   extension-zero e = rw (eq-eqb _ _ e)
 
-  module _ (e : word at h.bytes ≡ 0 → ⊥) (F : ℕ → List ℕ) (l : Located) (s : place_by F l ≡ locate 13 4 h at m) where
+  module _ (e : word at h.bytes ≡ 0 → ⊥) (F : ℕ → List ℕ) where
     extension-is : extension_r gs I h at m ≡ indirect_r 13 4 (groups_r gs I) h at m
     unfolding extension_r
     extension-is = rw (ne_eqb _ _ e)
 
-    pub extension-nowhere : (n p : ℕ) → l ≡ Nowhere n p → count (extension_r gs I h at m) ≡ failed n p
-    extension-nowhere n p o = ap count extension-is ∙ leads-nowhere 13 4 (groups_r gs I) h at m F l s n p o
+    pub extension-nowhere : (f : Fault) → place_by F (Err f) ≡ locate 13 4 h at m → count (extension_r gs I h at m) ≡ failed f.number f.place
+    extension-nowhere f s = ap count extension-is ∙ leads-nowhere 13 4 (groups_r gs I) h at m F f s
 
-    pub extension-empty : (n p : ℕ) (x : ℕ) → l ≡ At p n x → n ≡ 0 → count (extension_r gs I h at m) ≡ counted 0 (F x)
-    unfolding groups_r count
-    extension-empty n p x o z = ap count extension-is ∙ leads-to 13 4 (groups_r gs I) h at m F l s n p x o ∙ rw (eq-eqb _ _ z)
+    module _ (f : Found) (s : place_by F (Ok f) ≡ locate 13 4 h at m) where
+      pub extension-empty : f.count ≡ 0 → count (extension_r gs I h at m) ≡ counted 0 (F f.taken)
+      unfolding groups_r count
+      extension-empty z = ap count extension-is ∙ leads-to 13 4 (groups_r gs I) h at m F f s ∙ rw (eq-eqb _ _ z)
 
-    pub extension-some : (n p : ℕ) (x : ℕ) → l ≡ At p n x → (n ≡ 0 → ⊥) → p + 4 ≤ length h.bytes → count (extension_r gs I h at m) ≡ more 6 (count (items_r 4 (indirect_r 26 1 (extending_r gs I)) n h (p + 4) (F x)))
-    unfolding groups_r
-    extension-some n p x o z g =
-        ap count extension-is ∙ leads-to 13 4 (groups_r gs I) h at m F l s n p x o
-        ∙ rw (ne_eqb _ _ z) (count-marked h p (F x) XT (list_r 4 (indirect_r 26 1 (extending_r gs I)) n)
-        ∙ ap (more 2) (count-list h p (F x) 4 (indirect_r 26 1 (extending_r gs I)) n g) ∙ more-more 2 4 _)
+      pub extension-some : (f.count ≡ 0 → ⊥) → f.place + 4 ≤ length h.bytes → count (extension_r gs I h at m) ≡ more 6 (count (items_r 4 (indirect_r 26 1 (extending_r gs I)) f.count h (f.place + 4) (F f.taken)))
+      unfolding groups_r
+      extension-some z g =
+          ap count extension-is ∙ leads-to 13 4 (groups_r gs I) h at m F f s
+          ∙ rw (ne_eqb _ _ z) (count-marked h f.place (F f.taken) XT (list_r 4 (indirect_r 26 1 (extending_r gs I)) f.count)
+          ∙ ap (more 2) (count-list h f.place (F f.taken) 4 (indirect_r 26 1 (extending_r gs I)) f.count g) ∙ more-more 2 4 _)
 
   -- one of its groups
-  module _ (F : ℕ → List ℕ) (l : Located) (s : place_by F l ≡ locate 26 1 h at m) (n p : ℕ) (x : ℕ) (o : l ≡ At p n x) where
-    pub extending-short : n < 12 → count (indirect_r 26 1 (extending_r gs I) h at m) ≡ failed 1 (h.base + p)
+  module _ (F : ℕ → List ℕ) (f : Found) (s : place_by F (Ok f) ≡ locate 26 1 h at m) where
+    pub extending-short : f.count < 12 → count (indirect_r 26 1 (extending_r gs I) h at m) ≡ failed 1 (h.base + f.place)
     unfolding extending_r need count
-    extending-short z = leads-to 26 1 (extending_r gs I) h at m F l s n p x o ∙ rw (lt-leb 12 n z)
+    extending-short z = leads-to 26 1 (extending_r gs I) h at m F f s ∙ rw (lt-leb 12 f.count z)
 
-    pub extending-known : 12 ≤ n → known gs (le (part 8 (p + 4) h.bytes)) ≡ true
-        → count (indirect_r 26 1 (extending_r gs I) h at m) ≡ more 2 (and_then (count (I 0 (h.base + p) (part (4 + n) p h.bytes))) (λ _. counted 0 (F x)))
+    pub extending-known : 12 ≤ f.count → known gs (le (part 8 (f.place + 4) h.bytes)) ≡ true
+        → count (indirect_r 26 1 (extending_r gs I) h at m) ≡ more 2 (and_then (count (I 0 (h.base + f.place) (part (4 + f.count) f.place h.bytes))) (λ _. counted 0 (F f.taken)))
     unfolding extending_r need
     extending-known z u =
-        leads-to 26 1 (extending_r gs I) h at m F l s n p x o
-        ∙ rw (le-leb 12 n z, u) (count-marked h p (F x) GB (inner_r I 0 n) ∙ ap (more 2) (count-inner h p (F x) I 0 n))
+        leads-to 26 1 (extending_r gs I) h at m F f s
+        ∙ rw (le-leb 12 f.count z, u) (count-marked h f.place (F f.taken) GB (inner_r I 0 f.count) ∙ ap (more 2) (count-inner h f.place (F f.taken) I 0 f.count))
 
-    pub extending-kept : 12 ≤ n → known gs (le (part 8 (p + 4) h.bytes)) ≡ false → p + (4 + n * 1) ≤ length h.bytes → count (indirect_r 26 1 (extending_r gs I) h at m) ≡ counted (6 + n) (F x)
+    pub extending-kept : 12 ≤ f.count → known gs (le (part 8 (f.place + 4) h.bytes)) ≡ false → f.place + (4 + f.count * 1) ≤ length h.bytes → count (indirect_r 26 1 (extending_r gs I) h at m) ≡ counted (6 + f.count) (F f.taken)
     unfolding extending_r need text_r text_ok count more
     extending-kept z u g =
-        let f = rw mul-one at g in
-        leads-to 26 1 (extending_r gs I) h at m F l s n p x o
-        ∙ rw (le-leb 12 n z, u) (count-marked h p (F x) XU (text_r false n) ∙ rw (length_part (4 + n) p h.bytes f) (ap (λ (j : ℕ). counted j (F x)) (let r : 2 + (4 + n) ≡ 6 + n = omega arith in r)))
+        let k = rw mul-one at g in
+        leads-to 26 1 (extending_r gs I) h at m F f s
+        ∙ rw (le-leb 12 f.count z, u) (count-marked h f.place (F f.taken) XU (text_r false f.count) ∙ rw (length_part (4 + f.count) f.place h.bytes k) (ap (λ (j : ℕ). counted j (F f.taken)) (let r : 2 + (4 + f.count) ≡ 6 + f.count = omega arith in r)))
 
 -- THE BODY
 

@@ -218,14 +218,14 @@ module _ (a : ℕ) (s : ℕ) (m : List ℕ) where
 
 -- the scratch after a value was taken in it: as it was, or cleared before
 pub claimed-scattered : (a : ℕ) (s : ℕ) (m m' : List ℕ) (p n : ℕ) → a ≤ p → 1 ≤ n → p + n ≤ length m → packed s ≤ p → scattered s ≡ true
-    → m' ≡ splice n p (replicate n 1) m → occupy p n (occupancy_of a s m) ≡ occupancy_of a s m'
+    → m' ≡ occupy p n m → occupy p n (occupancy_of a s m) ≡ occupancy_of a s m'
 unfolding occupancy_of occupy
 claimed-scattered a s m m' p n h o l q e r =
     let k : length m' ≡ length m = ap length r ∙ length-splice n p (replicate n 1) m l (length-replicate n 1) in
     claim-swap a s m p n h o l q ∙ rw (k, e, r)
 
 pub claimed-first : (a : ℕ) (s : ℕ) (m o m' : List ℕ) (p n : ℕ) → a ≤ p → 1 ≤ n → p + n ≤ length m → packed s ≤ p → s < 131072
-    → o ≡ replicate (length m) 0 → m' ≡ splice n p (replicate n 1) o → occupy p n (occupancy_of a s m) ≡ occupancy_of a (s + 131072) m'
+    → o ≡ replicate (length m) 0 → m' ≡ occupy p n o → occupy p n (occupancy_of a s m) ≡ occupancy_of a (s + 131072) m'
 unfolding occupancy_of occupy
 claimed-first a s m o m' p n h i l q e z r =
     let j : length o ≡ length m = ap length z ∙ length-replicate (length m) 0 in
@@ -236,7 +236,7 @@ claimed-first a s m o m' p n h i l q e z r =
 
 -- what a nested group left in the scratch is gone
 module _ (a : ℕ) (s : ℕ) (m m' m'' ys : List ℕ) (p n : ℕ) (h : a ≤ length m) (l : p + n ≤ length m) (y : length ys ≡ n)
-    (e : m' ≡ splice n p ys m) (r : m'' ≡ cond (scattered s) (splice n p (replicate n 1) m') m') (t : occupy p n (occupancy_of a s m) ≡ occupancy_of a s m) where
+    (e : m' ≡ splice n p ys m) (r : m'' ≡ cond (scattered s) (occupy p n m') m') (t : occupy p n (occupancy_of a s m) ≡ occupancy_of a s m) where
   retaken-length : length m' ≡ length m
   retaken-length = ap length e ∙ length-splice n p ys m l y
 
@@ -324,13 +324,13 @@ module _ (a : ℕ) (s : ℕ) (m b : List ℕ) (same : length m ≡ length b) (ro
       sym (pads-packed s x (not-scattered s h) (omega arith)) ∙ rw k
 
 -- the occupancy, written out
-module _ (a : ℕ) (s : ℕ) (m o : List ℕ) (e : o ≡ cond (scattered s) m (replicate (length m) 0)) (y : ℕ) (iy : y ≡ min (packed s) (length o)) where
+module _ (a : ℕ) (s : ℕ) (m o : List ℕ) (e : o ≡ cond (scattered s) m (replicate (length m) 0)) (y : ℕ) (iy : y ≡ min (length o) (packed s)) where
   o-length : length o ≡ length m
   o-length = ap length e ∙ under-length (scattered s) m
 
-  pub written-some : (m' : List ℕ) → m' ≡ splice (y - a) a (replicate (y - a) 1) o → m' ≡ occupancy_of a s m
+  pub written-some : (m' : List ℕ) → m' ≡ occupy a (y - a) o → m' ≡ occupancy_of a s m
   unfolding occupancy_of occupy
-  written-some m' r = let k : y ≡ min (packed s) (length m) = iy ∙ rw o-length in r ∙ rw (k, e)
+  written-some m' r = let k : y ≡ min (packed s) (length m) = omega (arith, iy, o-length) in r ∙ rw (k, e)
 
   pub written_none : y ≤ a → o ≡ occupancy_of a s m
   unfolding occupancy_of occupy

@@ -1,65 +1,48 @@
 -- Where an offset leads, and the occupancy of what was found.
-use Rattle.std.proofs.Common.{◌≡◌, ℕ, zero, suc, ◌+◌, ◌-◌, ◌*◌, ◌^◌, ◌<◌, ◌≤◌, Bool, true, false, not, ◌&&◌, ◌||◌, eqb, List, ◌∷◌, length, get_or, drop, sym, refl, mul-le-mul_right, arith, drop_of_length-le, le-ltb, lt-ltb, ne_eqb, le-leb}
+use Rattle.std.proofs.Common.{Ok, Err, Result, IfOk, ◌≡◌, ℕ, zero, suc, ◌+◌, ◌-◌, ◌*◌, ◌^◌, ◌<◌, ◌≤◌, Bool, true, false, not, ◌&&◌, ◌||◌, eqb, List, ◌∷◌, length, get_or, drop, sym, refl, mul-le-mul_right, arith, drop_of_length-le, le-ltb, lt-ltb, ne_eqb, le-leb}
+use Rattle.std.proofs.lemmas.Result.{IfOk-weaker}
 use mathlib.Core.Bool.{and_assoc, and-true}
 use borrow.Author.Tests.{lt-leb}
 use Rattle.wire.proofs.Laws.{drop_more}
-use Rattle.schema.specs.Faults.{need}
+use Rattle.schema.specs.declared.Fault.{Fault}
+use Rattle.schema.specs.Faults.{fault_at, need}
 use Rattle.message.specs.Occupancy.{free, occupy, pads_zero, pads_before}
 use Rattle.message.proofs.CheckOccupancy.{occupy-twice}
 use Rattle.settings.specs.declared.Ignored.{Ignored}
 use Rattle.message.specs.Walk.{lost, found, here, word, in_area, locate}
 use Rattle.message.specs.Check.{place_by, Claims, Lands}
-use Rattle.message.specs.declared.Located.{Located}
-use Rattle.message.specs.declared.Located.TheVariants.{At, Nowhere}
+use Rattle.message.specs.declared.Found.{Found}
 
 pub small : (n w : ℕ) → n < 2 ^ 32 → w ≤ 4096 → n * w ≤ 17592186044416
 small n w h l = omega (arith, mul-le-mul_right {m = n} {n = 4294967296} w (omega arith))
 
 -- LANDS
 
-told : (q p j n : ℕ) (s x : ℕ) → At p n s ≡ At q j x → (q ≡ p) × (j ≡ n) × (x ≡ s)
-told q p j n s x e = ((cc), (cc), (cc))
-
-never : {A : Type 0} (n p q j : ℕ) (x : ℕ) → Nowhere n p ≡ At q j x → A
-never n p q j x e = absurd (let z : ◌≡◌ {A = ℕ} 0 1 = cc in omega arith)
-
 module _ (F : ℕ → List ℕ) where
-  pub claims-nowhere : (p n k x y : ℕ) → Claims F p n k (Nowhere x y)
-  claims-nowhere p n k x y = record { place = λ q j s e. never x y q j s e; word = λ q j s e. never x y q j s e; taken = λ q j s e. never x y q j s e }
+  pub claims-at : (p n k : ℕ) (s : ℕ) (m : List ℕ) → occupy p k m ≡ F s → p + k ≤ length m → Claims F p n k (record { place = p; count = n; taken = s })
+  claims-at p n k s m e l = record { place = refl; word = refl; taken = rw (← e) (occupy-twice p k m l) }
 
-  pub claims-at : (p n k : ℕ) (s : ℕ) (m : List ℕ) → occupy p k m ≡ F s → p + k ≤ length m → Claims F p n k (At p n s)
-  claims-at p n k s m e l =
-      let t : occupy p k (F s) ≡ F s = rw (← e) (occupy-twice p k m l) in
-      record { place = λ q j x r. (told q p j n s x r).0; word = λ q j x r. (told q p j n s x r).1; taken = λ q j x r. rw (told q p j n s x r).2 t }
-
-  pub lands-nowhere : (w : ℕ) (b : List ℕ) (x y : ℕ) → Lands F w b (Nowhere x y)
-  lands-nowhere w b x y = record { four = λ q j s e. never x y q j s e; inside = λ q j s e. never x y q j s e; taken = λ q j s e. never x y q j s e }
-
-  pub lands-claim : (w : ℕ) (b : List ℕ) (p n k : ℕ) (r : Located) → Claims F p n k r → n < 2 ^ 32 → k ≡ 4 + n * w → p + k ≤ length b → Lands F w b r
+  pub lands-claim : (w : ℕ) (b : List ℕ) (p n k : ℕ) (r : Result Found Fault) → IfOk r (Claims F p n k) → n < 2 ^ 32 → k ≡ 4 + n * w → p + k ≤ length b → IfOk r (Lands F w b)
   lands-claim w b p n k r C h e l =
-      record {
-        four = λ q j s g. rw (C.word q j s g) h;
-        inside = λ q j s g. rw (C.place q j s g, C.word q j s g, ← e) l;
-        taken = λ q j s g. rw (C.place q j s g, C.word q j s g, ← e) (C.taken q j s g);
-      }
+      IfOk-weaker r (Claims F p n k) (Lands F w b) (λ f C. record { four = rw C.word h; inside = rw (C.place, C.word, ← e) l; taken = rw (C.place, C.word, ← e) C.taken }) C
 
 -- LOCATE
 
 module _ (y : Ignored) (F : ℕ → List ℕ) (past w : ℕ) (b : List ℕ) (base area at : ℕ) (m : List ℕ) (o p n k : ℕ) (io : o ≡ word at b) (ip : p ≡ at + o) where
-  pub low : p < area → place_by F (Nowhere 5 (base + at)) ≡ locate past w (here y b base area) at m
+  pub low : p < area → place_by F (Err (fault_at 5 (base + at))) ≡ locate past w (here y b base area) at m
   unfolding place_by locate need in_area
   low h = rw (← io, ← ip, lt-leb area p h)
 
-  pub high : area ≤ p → length b ≤ p → place_by F (Nowhere 5 (base + at)) ≡ locate past w (here y b base area) at m
+  pub high : area ≤ p → length b ≤ p → place_by F (Err (fault_at 5 (base + at))) ≡ locate past w (here y b base area) at m
   unfolding place_by locate need in_area
   high h k = rw (← io, ← ip, le-leb area p h, le-ltb p (length b) k)
 
-  pub cut : area ≤ p → p < length b → length b < p + 4 → place_by F (Nowhere 26 (base + p)) ≡ locate past w (here y b base area) at m
+  pub cut : area ≤ p → p < length b → length b < p + 4 → place_by F (Err (fault_at 26 (base + p))) ≡ locate past w (here y b base area) at m
   unfolding place_by locate need in_area
   cut h k l = rw (← io, ← ip, le-leb area p h, lt-ltb p (length b) k, lt-leb (p + 4) (length b) l)
 
   module _ (h : area ≤ p) (g : p < length b) (l : p + 4 ≤ length b) (in' : n ≡ word p b) (ik : k ≡ 4 + n * w) where
-    pub over : length b < p + k → place_by F (Nowhere past (base + p)) ≡ locate past w (here y b base area) at m
+    pub over : length b < p + k → place_by F (Err (fault_at past (base + p))) ≡ locate past w (here y b base area) at m
     unfolding place_by locate need in_area
     over q = rw (← io, ← ip, ← in', ← ik, le-leb area p h, lt-ltb p (length b) g, le-leb (p + 4) (length b) l, lt-leb (p + k) (length b) q)
 
@@ -70,11 +53,11 @@ module _ (y : Ignored) (F : ℕ → List ℕ) (past w : ℕ) (b : List ℕ) (bas
 -- CLAIM
 
 module _ (F : ℕ → List ℕ) (base p n k : ℕ) (m : List ℕ) where
-  pub claim-shared : free p k m ≡ false → place_by F (Nowhere 27 (base + p)) ≡ need (free p k m) (lost 27 (base + p)) (found p n (occupy p k m))
+  pub claim-shared : free p k m ≡ false → place_by F (Err (fault_at 27 (base + p))) ≡ need (free p k m) (lost 27 (base + p)) (found p n (occupy p k m))
   unfolding place_by need
   claim-shared e = rw e
 
-  pub claim-free : (s : ℕ) → free p k m ≡ true → occupy p k m ≡ F s → place_by F (At p n s) ≡ need (free p k m) (lost 27 (base + p)) (found p n (occupy p k m))
+  pub claim-free : (s : ℕ) → free p k m ≡ true → occupy p k m ≡ F s → place_by F (Ok (record { place = p; count = n; taken = s })) ≡ need (free p k m) (lost 27 (base + p)) (found p n (occupy p k m))
   unfolding place_by need
   claim-free s e f = rw (e, f)
 

@@ -1,9 +1,10 @@
 -- The values that hold no other, each way through them.
-use Rattle.std.proofs.Common.{◌≡◌, ℕ, ◌+◌, ◌-◌, ◌*◌, ◌<◌, ◌≤◌, Bool, true, false, ◌||◌, ltb, List, [], ◌++◌, length, get_or, take, drop, sym, refl, ap, ◌∙◌, mul-one, arith, length-append, eq-eqb, ne_eqb, le-leb}
+use Rattle.std.proofs.Common.{Ok, Err, ◌≡◌, ℕ, zero, suc, ◌+◌, ◌-◌, ◌*◌, ◌<◌, ◌≤◌, Bool, true, false, ◌||◌, ltb, List, [], ◌++◌, length, get_or, take, drop, sym, refl, ap, ◌∙◌, mul-one, arith, length-append, eq-eqb, ne_eqb, le-leb}
 use borrow.Author.Tests.{lt-leb}
 use Rattle.wire.specs.Bytes.{part, bytes_of, all_zero, zeros}
 use Rattle.wire.proofs.Laws.{length_part, length-bytes}
-use Rattle.schema.specs.Faults.{need}
+use Rattle.schema.specs.declared.Fault.{Fault}
+use Rattle.schema.specs.Faults.{fault_at, judged, need}
 use Rattle.schema.specs.Schema.{Test, any, flag, below, symbol, passes, test_fault, text_ok, plain, inline, kind_width}
 use Rattle.schema.specs.FieldKinds.{tested_kind, kind_fault}
 use Rattle.schema.specs.declared.Tested.{Tested}
@@ -13,8 +14,7 @@ use Rattle.settings.specs.declared.Ignored.{Ignored}
 use Rattle.message.specs.Walk.{here, Reader, Inner, word, byte, optional_r, plain_r, inline_r, in_area, extension_in, locate, indirect_r, text_r, kind_r, marked_r}
 use Rattle.message.specs.Count.{failed, counted, count, more}
 use Rattle.message.specs.Check.{place_by, item_r}
-use Rattle.message.specs.declared.Located.{Located}
-use Rattle.message.specs.declared.Located.TheVariants.{At, Nowhere}
+use Rattle.message.specs.declared.Found.{Found}
 use Rattle.message.proofs.Count.{count-marked, count-lost, count-found}
 
 -- NUMBERS
@@ -27,6 +27,17 @@ module _ (y : Ignored) (w : ℕ) (x : Test) (b : List ℕ) (base area at : ℕ) 
   plain-fails : passes x (part w at b) ≡ false → count (plain_r w x (here y b base area) at m) ≡ failed (test_fault x) (base + at)
   unfolding plain_r need count
   plain-fails e = rw e
+
+-- what a test's answer says of its fault's number
+pub judged-passes : (n p : ℕ) → Ok tt ≡ judged n p → n ≡ 0
+unfolding judged
+judged-passes zero p e = refl
+judged-passes (suc n) p e = cc
+
+pub judged-fails : (f : Fault) (n p : ℕ) → Err f ≡ judged n p → (n ≡ 0 → ⊥) × (f ≡ fault_at n p)
+unfolding judged
+judged-fails f zero p e = cc
+judged-fails f (suc n) p e = ((λ z. omega arith), (cc))
 
 -- the fault of a test, and what it tells of the value
 module _ (w : ℕ) (x : Test) (s : List ℕ) where
@@ -110,27 +121,27 @@ module _ (y : Ignored) (I : Inner) (S : ℕ → Reader) (b : List ℕ) (base are
 
 -- INDIRECT TEXT
 
-module _ (y : Ignored) (u : Bool) (b : List ℕ) (base area at : ℕ) (m : List ℕ) (F : ℕ → List ℕ) (f : Located) (is : place_by F f ≡ locate 26 1 (here y b base area) at m) where
-  pub text-lost : (n p : ℕ) → f ≡ Nowhere n p → count (marked_r ST (indirect_r 26 1 (text_r u)) (here y b base area) at m) ≡ failed n p
+module _ (y : Ignored) (u : Bool) (b : List ℕ) (base area at : ℕ) (m : List ℕ) (F : ℕ → List ℕ) where
+  pub text-lost : (f : Fault) → place_by F (Err f) ≡ locate 26 1 (here y b base area) at m → count (marked_r ST (indirect_r 26 1 (text_r u)) (here y b base area) at m) ≡ failed f.number f.place
   unfolding place_by more
-  text-lost n p e =
+  text-lost f s =
       count-marked (here y b base area) at m ST (indirect_r 26 1 (text_r u))
-      ∙ ap (more 2) (count-lost (here y b base area) at m 26 1 (text_r u) n p (sym is ∙ ap (place_by F) e))
+      ∙ ap (more 2) (count-lost (here y b base area) at m 26 1 (text_r u) f.number f.place (sym s))
 
-  module _ (n p : ℕ) (s : ℕ) (e : f ≡ At p n s) where
-    text-open : count (marked_r ST (indirect_r 26 1 (text_r u)) (here y b base area) at m) ≡ more 2 (count (text_r u n (here y b base area) p (F s)))
+  module _ (f : Found) (s : place_by F (Ok f) ≡ locate 26 1 (here y b base area) at m) where
+    text-open : count (marked_r ST (indirect_r 26 1 (text_r u)) (here y b base area) at m) ≡ more 2 (count (text_r u f.count (here y b base area) f.place (F f.taken)))
     unfolding place_by
     text-open =
         count-marked (here y b base area) at m ST (indirect_r 26 1 (text_r u))
-        ∙ ap (more 2) (count-found (here y b base area) at m 26 1 (text_r u) p n (F s) (sym is ∙ ap (place_by F) e))
+        ∙ ap (more 2) (count-found (here y b base area) at m 26 1 (text_r u) f.place f.count (F f.taken) (sym s))
 
-    pub text-bad : text_ok u (part n (p + 4) b) ≡ false → count (marked_r ST (indirect_r 26 1 (text_r u)) (here y b base area) at m) ≡ failed 9 (base + (p + 4))
+    pub text-bad : text_ok u (part f.count (f.place + 4) b) ≡ false → count (marked_r ST (indirect_r 26 1 (text_r u)) (here y b base area) at m) ≡ failed 9 (base + (f.place + 4))
     unfolding text_r need count more
     text-bad o = text-open ∙ rw o
 
-    pub text-counts : text_ok u (part n (p + 4) b) ≡ true → p + (4 + n * 1) ≤ length b → count (marked_r ST (indirect_r 26 1 (text_r u)) (here y b base area) at m) ≡ counted (6 + n) (F s)
+    pub text-counts : text_ok u (part f.count (f.place + 4) b) ≡ true → f.place + (4 + f.count * 1) ≤ length b → count (marked_r ST (indirect_r 26 1 (text_r u)) (here y b base area) at m) ≡ counted (6 + f.count) (F f.taken)
     unfolding text_r need count more
-    text-counts o h = let k = rw mul-one at h in text-open ∙ rw (o, length_part (4 + n) p b k) (ap (λ (j : ℕ). counted j (F s)) (let r : 2 + (4 + n) ≡ 6 + n = omega arith in r))
+    text-counts o h = let k = rw mul-one at h in text-open ∙ rw (o, length_part (4 + f.count) f.place b k) (ap (λ (j : ℕ). counted j (F f.taken)) (let r : 2 + (4 + f.count) ≡ 6 + f.count = omega arith in r))
 
 -- AN OPTIONAL FIELD THAT IS NOT THERE
 

@@ -1,6 +1,6 @@
 -- What the check's functions answer, and what they ask of their callers.
 use Rattle.schema.specs.declared.Fault.{Fault}
-use Rattle.std.specs.Prelude.{Ok, Err, Result, ◌≡◌, ℕ, ◌+◌, ◌-◌, ◌*◌, ◌/◌, ◌%◌, ◌^◌, ◌<◌, ◌≤◌, min, Bool, cond, ◌||◌, List, [], length, drop, replicate, ◌==◌, nat_le}
+use Rattle.std.specs.Prelude.{Ok, Err, Result, ◌≡◌, ℕ, ◌+◌, ◌-◌, ◌*◌, ◌%◌, ◌^◌, ◌<◌, ◌≤◌, min, Bool, cond, ◌||◌, List, [], length, drop, replicate, nat_le}
 use Rattle.schema.specs.Faults.{need}
 use Rattle.schema.specs.Schema.{Kind, Field, width}
 use Rattle.schema.specs.Table.{schema}
@@ -11,19 +11,8 @@ use Rattle.message.specs.Sheet.{kind_mark, field_mark}
 use Rattle.message.specs.Walk.{Here, here, Reader, Inner, Place, lost, found, marked_r, kind_r, value_r, static_r, group_r}
 use Rattle.message.specs.Count.{Count, failed, counted}
 use Rattle.message.specs.declared.Step.{Step}
-use Rattle.message.specs.declared.Step.TheVariants.{Counted, Refused}
-use Rattle.message.specs.declared.Located.{Located}
-use Rattle.message.specs.declared.Located.TheVariants.{At, Nowhere}
+use Rattle.message.specs.declared.Found.{Found}
 use Rattle.message.specs.declared.Frame.{Frame}
-
--- RULES
-
--- The code keeps in one number how many levels are left below a group and, from 16 on, which faults are ignored.
-unfoldable pub levels_in : ℕ → ℕ
-levels_in n = n % 16
-
-unfoldable pub ignored_in : ℕ → Ignored
-ignored_in n = record { absent = n / 16 % 2 == 1; pads = nat_le 2 (n / 16 % 4); unused = nat_le 4 (n / 16) }
 
 -- MARKS
 -- The code keeps no occupancy of the values that stand one behind the other from the data area's start on, as most do: it knows where they end.
@@ -43,9 +32,9 @@ occupancy_of a s m = occupy a (min (packed s) (length m) - a) (cond (scattered s
 -- ANSWERS
 
 -- The answer of a step of the walk; F gives the occupancy of what is taken.
-unfoldable pub count_by : (ℕ → List ℕ) → Step → Count
-count_by F (Counted k s) = counted k (F s)
-count_by F (Refused n p) = failed n p
+unfoldable pub count_by : (ℕ → List ℕ) → Result Step Fault → Count
+count_by F (Ok s) = counted s.length (F s.taken)
+count_by F (Err f) = failed f.number f.place
 
 -- The whole walk's answer, with occupancy m.
 unfoldable pub count_of : Result ℕ Fault → List ℕ → Count
@@ -58,21 +47,21 @@ after k (failed n p) = failed n p
 after k (counted j m) = counted ((k + j) % 2 ^ 64) m
 
 -- Where an offset leads.
-unfoldable pub place_by : (ℕ → List ℕ) → Located → Place
-place_by F (At p n s) = found p n (F s)
-place_by F (Nowhere n p) = lost n p
+unfoldable pub place_by : (ℕ → List ℕ) → Result Found Fault → Place
+place_by F (Ok f) = found f.place f.count (F f.taken)
+place_by F (Err f) = lost f.number f.place
 
 -- A value of k bytes at p that was claimed, with the word n, is taken.
-pub record Claims (F : ℕ → List ℕ) (p n k : ℕ) (r : Located) : Type 0 where
-  pub place : (q j s : ℕ) → r ≡ At q j s → q ≡ p
-  pub word : (q j s : ℕ) → r ≡ At q j s → j ≡ n
-  pub taken : (q j s : ℕ) → r ≡ At q j s → occupy p k (F s) ≡ F s
+pub record Claims (F : ℕ → List ℕ) (p n k : ℕ) (f : Found) : Type 0 where
+  pub place : f.place ≡ p
+  pub word : f.count ≡ n
+  pub taken : occupy p k (F f.taken) ≡ F f.taken
 
 -- A value that was found has a count of four bytes, lies in the bytes b, and is taken.
-pub record Lands (F : ℕ → List ℕ) (w : ℕ) (b : List ℕ) (r : Located) : Type 0 where
-  pub four : (p n : ℕ) (s : ℕ) → r ≡ At p n s → n < 2 ^ 32
-  pub inside : (p n : ℕ) (s : ℕ) → r ≡ At p n s → p + (4 + n * w) ≤ length b
-  pub taken : (p n : ℕ) (s : ℕ) → r ≡ At p n s → occupy p (4 + n * w) (F s) ≡ F s
+pub record Lands (F : ℕ → List ℕ) (w : ℕ) (b : List ℕ) (f : Found) : Type 0 where
+  pub four : f.count < 2 ^ 32
+  pub inside : f.place + (4 + f.count * w) ≤ length b
+  pub taken : occupy f.place (4 + f.count * w) (F f.taken) ≡ F f.taken
 
 -- What comes behind a group's fields and its extension: "6", and the group's end mark.
 unfoldable pub closing : Here → List ℕ → Count
@@ -84,7 +73,7 @@ closing h m =
 -- READERS, AS THE CODE CALLS THEM
 
 abbrev pub within : List ℕ → Frame → Here
-within b f = here (ignored_in f.rules) b f.base f.area
+within b f = here f.ignored b f.base f.area
 
 -- An item with its mark; a field's value with its mark.
 abbrev pub item_r : Inner → (ℕ → Reader) → Kind → Reader

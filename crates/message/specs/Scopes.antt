@@ -1,15 +1,15 @@
 -- A group, as the check opens, walks and closes it: by its scope a dynamic group, whole, or the fields of a static one.
-use Rattle.std.specs.Prelude.{◌≡◌, ℕ, ◌+◌, ◌<◌, ◌≤◌, true, List, [], length}
+use Rattle.std.specs.Prelude.{Ok, Err, Result, ◌≡◌, ℕ, ◌+◌, ◌<◌, ◌≤◌, true, List, [], length}
 use Rattle.schema.specs.Schema.{shallow}
 use Rattle.schema.specs.Table.{schema}
+use Rattle.schema.specs.declared.Fault.{Fault}
 use Rattle.schema.specs.declared.Scope.{Scope}
 use Rattle.schema.specs.declared.Scope.TheVariants.{Whole, Fields}
 use Rattle.message.specs.Walk.{Here, Reader, extension_r}
 use Rattle.message.specs.Count.{Count, failed, counted, count, and_then}
-use Rattle.message.specs.Check.{levels_in, ignored_in, occupancy_of, closing, after, within, inner_of, width_of, static_of, Ready}
+use Rattle.message.specs.Check.{occupancy_of, closing, after, within, inner_of, width_of, static_of, Ready}
 use Rattle.message.specs.declared.Frame.{Frame}
-use Rattle.message.specs.declared.Opened.{Opened}
-use Rattle.message.specs.declared.Opened.TheVariants.{Begun, Refused}
+use Rattle.message.specs.declared.Begun.{Begun}
 
 -- The group, of static depth below d, in the table t and with so many levels left. Of a dynamic group h has the bytes.
 abbrev pub group_of : List ℕ → ℕ → ℕ → Scope → Reader
@@ -33,17 +33,17 @@ Lies t d (Fields g) b at = (at + width_of t d g ≤ length b) × (g < length (sc
 
 -- Its frame f, in the frame o: a dynamic group has one of its own, a level deeper; a static group is in that of the group that holds it.
 abbrev pub Inside : Scope → Frame → Frame → Type 0
-Inside (Whole a) o f = (levels_in f.rules + 1 ≡ levels_in o.rules) × (16 ≤ f.area)
+Inside (Whole a) o f = (f.levels + 1 ≡ o.levels) × (16 ≤ f.area)
 Inside (Fields g) o f = f ≡ o
 
--- It is begun: its count c, behind k bytes of the sheet, is that of the fields of group number g and of what follows them, behind l bytes.
-pub record Begins (t i b m : List ℕ) (o : Frame) (d : ℕ) (z : Scope) (at k : ℕ) (c : Count) (g : ℕ) (f : Frame) (s l : ℕ) : Type 0 where
-  pub ready : Ready t i b m f
-  pub fits : Lies t d (Fields g) b at
-  pub inside : Inside z o f
-  pub counts : after k c ≡ after l (and_then (count (static_of (ignored_in f.rules) t (levels_in f.rules) d g (within b f) at (occupancy_of f.area s m))) (behind_of t (levels_in f.rules) z (within b f)))
+-- It is begun: its count c, behind k bytes of the sheet, is that of the fields of its number and of what follows them, behind g.length bytes.
+pub record Begins (t i b m : List ℕ) (o : Frame) (d : ℕ) (z : Scope) (at k : ℕ) (c : Count) (g : Begun) : Type 0 where
+  pub ready : Ready t i b m g.frame
+  pub fits : Lies t d (Fields g.group) b at
+  pub inside : Inside z o g.frame
+  pub counts : after k c ≡ after g.length (and_then (count (static_of g.frame.ignored t g.frame.levels d g.group (within b g.frame) at (occupancy_of g.frame.area g.taken m))) (behind_of t g.frame.levels z (within b g.frame)))
 
 -- It is opened: begun, or refused by its first fault.
-unfoldable pub Opens : List ℕ → List ℕ → List ℕ → List ℕ → Frame → ℕ → Scope → ℕ → ℕ → Count → Opened → Type 0
-Opens t i b m o d z at k c (Begun g f s l) = Begins t i b m o d z at k c g f s l
-Opens t i b m o d z at k c (Refused n p) = c ≡ failed n p
+unfoldable pub Opens : List ℕ → List ℕ → List ℕ → List ℕ → Frame → ℕ → Scope → ℕ → ℕ → Count → Result Begun Fault → Type 0
+Opens t i b m o d z at k c (Ok g) = Begins t i b m o d z at k c g
+Opens t i b m o d z at k c (Err f) = c ≡ failed f.number f.place

@@ -5,7 +5,7 @@
 // that of crate `schema`. Functions count the sheet's length on from `before`, what comes before them.
 #![tactic(auto)]
 
-ghost use Rattle.std.specs.Prelude.{◌≡◌, ℕ, ◌+◌, ◌-◌, ◌*◌, ◌%◌, ◌^◌, ◌<◌, ◌≤◌, min, max, true, not, ◌&&◌, ◌||◌, List, [], length, drop, replicate, if◌then◌else◌, ◌==◌, ◌≢◌};
+ghost use Rattle.std.specs.Prelude.{IfOk, ◌≡◌, ℕ, ◌+◌, ◌-◌, ◌*◌, ◌%◌, ◌^◌, ◌<◌, ◌≤◌, min, max, true, not, ◌&&◌, ◌||◌, List, [], length, drop, replicate, if◌then◌else◌, ◌==◌, ◌≢◌};
 ghost use Rattle.wire.specs.Bytes.{part, splice, all_zero};
 ghost use Rattle.schema.specs.Faults.{need};
 ghost use Rattle.schema.specs.Schema.{inline, kind_width, value_width, field_width, shallow_kind, shallow};
@@ -18,11 +18,11 @@ ghost use Rattle.message.specs.Occupancy.{free, occupy, pads_zero, pads_before};
 ghost use Rattle.message.specs.Sheet.{Mark, ST};
 ghost use Rattle.message.specs.Walk.{lost, found, Reader, Inner, byte, here, marked_r, optional_r, indirect_r, text_r, inner_r, locate, items_r, field_r, extending_r, extension_r, extension_in, body_r, walk};
 ghost use Rattle.message.specs.Count.{count, and_then, counted};
-ghost use Rattle.message.specs.Check.{levels_in, ignored_in, packed, scattered, occupancy_of, closing, count_by, count_of, after, place_by, Claims, Lands, within, item_r, marked_value_r, inner_of, width_of, static_of, Ready};
+ghost use Rattle.message.specs.Check.{packed, scattered, occupancy_of, closing, count_by, count_of, after, place_by, Claims, Lands, within, item_r, marked_value_r, inner_of, width_of, static_of, Ready};
 ghost use Rattle.message.specs.declared.Frame.{Frame};
 ghost use Rattle.message.specs.Scopes.{group_of, behind_of, left_of, Lies, Opens};
 
-use schema::Fault;
+use schema::{Fault, FieldKind, Scope, Tested};
 use settings::Ignored;
 
 // Which bytes of a data area are taken, as one number, since a struct would pass through memory at each
@@ -30,83 +30,31 @@ use settings::Ignored;
 // added. Then more bytes are taken in the scratch. No message is so long.
 const SCATTERED: usize = 131072;
 
-// What a walk finds: the sheet's length so far and what is taken, or the first fault.
+// What a walk has found: how long the sheet is so far, in 64 bits, and what is taken. No sheet is so long
+// that this wraps, which is shown of the whole message; the walk need not know.
 #[derive(Clone, Copy)]
-enum Step {
-    Counted { length: usize, taken: usize },
-    Refused { number: u8, place: usize },
+struct Step {
+    length: usize,
+    taken: usize,
 }
 
-// Where an offset leads: a value's place and its count or size word, or a fault.
+// Where an offset leads: a value's place and its count or size word, and what is taken with it.
 #[derive(Clone, Copy)]
-enum Located {
-    At {
-        place: usize,
-        count: usize,
-        taken: usize,
-    },
-    Nowhere {
-        number: u8,
-        place: usize,
-    },
+struct Found {
+    place: usize,
+    count: usize,
+    taken: usize,
 }
 
 // What holds in the whole of a dynamic group: where it starts in the message, where its data area
-// starts in its own bytes, and in one number how many levels are left below it and which faults are
-// ignored. A frame goes through every call of the walk, so it is kept small.
+// starts in its own bytes, how many levels are left below it, and which faults are ignored. A frame goes
+// through every call of the walk, so it is kept small.
 #[derive(Clone, Copy)]
 struct Frame {
     base: usize,
     area: usize,
-    rules: usize,
-}
-
-// The rules of a message where this is ignored: eight levels, and 16, 32 and 64 for 4, 6 and 8.
-fn rules_of(ignored: Ignored) -> usize
-    ensures { (levels_in result ≡ 8) × (ignored_in result ≡ ignored) }
-{
-    8 + 16 * bit(ignored.absent) + 32 * bit(ignored.pads) + 64 * bit(ignored.unused)
-}
-
-fn bit(flag: bool) -> usize
-    ensures { (result ≡ (if flag then 1 else 0)) × (result ≤ 1) }
-{
-    if flag {
-        return 1;
-    }
-    0
-}
-
-fn levels_left(rules: usize) -> usize
-    ensures { result ≡ levels_in rules }
-{
-    rules % 16
-}
-
-fn ignores_absent(rules: usize) -> bool
-    ensures { result ≡ (ignored_in rules).absent }
-{
-    rules / 16 % 2 == 1
-}
-
-fn ignores_pads(rules: usize) -> bool
-    ensures { result ≡ (ignored_in rules).pads }
-{
-    2 <= rules / 16 % 4
-}
-
-fn ignores_unused(rules: usize) -> bool
-    ensures { result ≡ (ignored_in rules).unused }
-{
-    4 <= rules / 16
-}
-
-// The sheet's length, some bytes further. No sheet is as long as 64 bits can say, which is shown of
-// the whole message; the walk need not know.
-fn longer(length: usize, by: usize) -> usize
-    ensures { result ≡ (length + by) % 2 ^ 64 }
-{
-    std::num::wrapping_add_usize(length, by)
+    levels: u8,
+    ignored: Ignored,
 }
 
 // Whether the n bytes from `at` on, which hold no value, are as they must be: zero, unless that is ignored.
@@ -114,10 +62,7 @@ fn is_blank(ignored: bool, bytes: &[u8], at: usize, n: usize) -> bool
     requires { at + n ≤ length bytes.now }
     ensures { result ≡ ignored || all_zero (part n at bytes.now) }
 {
-    if ignored {
-        return true;
-    }
-    wire::all_zero(bytes, at, n)
+    ignored || wire::all_zero(bytes, at, n)
 }
 
 // THE DATA AREA
@@ -137,36 +82,30 @@ fn locate(
     at: usize,
     past: u8,
     width: usize,
-) -> Located
+) -> Result<Found, Fault>
     requires { (length occupied.old ≡ length bytes.now) × (frame.base + length bytes.now ≤ 65536) × (frame.area ≤ length bytes.now) × (at + 4 ≤ length bytes.now) × (width ≤ 4096) }
-    ensures { (place_by (λ s. occupancy_of frame.area s occupied.new) result ≡ locate past width (within bytes.now frame) at (occupancy_of frame.area taken occupied.old)) × Lands (λ s. occupancy_of frame.area s occupied.new) width bytes.now result }
+    ensures { (place_by (λ s. occupancy_of frame.area s occupied.new) result ≡ locate past width (within bytes.now frame) at (occupancy_of frame.area taken occupied.old)) × IfOk result (Lands (λ s. occupancy_of frame.area s occupied.new) width bytes.now) }
 {
     let place = at + wire::read_u32(bytes, at);
-    if place < frame.area {
-        return Located::Nowhere {
+    if place < frame.area || bytes.len() <= place {
+        return Err(Fault {
             number: 5,
             place: frame.base + at,
-        };
-    }
-    if bytes.len() <= place {
-        return Located::Nowhere {
-            number: 5,
-            place: frame.base + at,
-        };
+        });
     }
     if bytes.len() < place + 4 {
-        return Located::Nowhere {
+        return Err(Fault {
             number: 26,
             place: frame.base + place,
-        };
+        });
     }
     let count = wire::read_u32(bytes, place);
     let size = 4 + count * width;
     if bytes.len() < place + size {
-        return Located::Nowhere {
+        return Err(Fault {
             number: past,
             place: frame.base + place,
-        };
+        });
     }
     claim(occupied, frame, taken, place, count, size)
 }
@@ -179,70 +118,71 @@ fn claim(
     place: usize,
     count: usize,
     size: usize,
-) -> Located
+) -> Result<Found, Fault>
     requires { (frame.area ≤ place) × (1 ≤ size) × (place + size ≤ length occupied.old) × (frame.base + length occupied.old ≤ 65536) }
-    ensures { (place_by (λ s. occupancy_of frame.area s occupied.new) result ≡ need (free place size (occupancy_of frame.area taken occupied.old)) (lost 27 (frame.base + place)) (found place count (occupy place size (occupancy_of frame.area taken occupied.old)))) × Claims (λ s. occupancy_of frame.area s occupied.new) place count size result }
+    ensures { (place_by (λ s. occupancy_of frame.area s occupied.new) result ≡ need (free place size (occupancy_of frame.area taken occupied.old)) (lost 27 (frame.base + place)) (found place count (occupy place size (occupancy_of frame.area taken occupied.old)))) × IfOk result (Claims (λ s. occupancy_of frame.area s occupied.new) place count size) }
 {
     if place < packed_end(taken) {
-        return Located::Nowhere {
+        return Err(Fault {
             number: 27,
             place: frame.base + place,
-        };
+        });
     }
     if SCATTERED <= taken {
-        if wire::all_zero(occupied, place, size) {
-            wire::fill(occupied, place, size, 1);
-            return Located::At {
-                place,
-                count,
-                taken,
-            };
+        if !wire::all_zero(occupied, place, size) {
+            return Err(Fault {
+                number: 27,
+                place: frame.base + place,
+            });
         }
-        return Located::Nowhere {
-            number: 27,
-            place: frame.base + place,
-        };
+        occupy(occupied, place, size);
+        return Ok(Found {
+            place,
+            count,
+            taken,
+        });
     }
     if place == taken {
-        return Located::At {
+        return Ok(Found {
             place,
             count,
             taken: place + size,
-        };
+        });
     }
-    clear(occupied);
-    wire::fill(occupied, place, size, 1);
-    Located::At {
+    occupied.fill(0);
+    occupy(occupied, place, size);
+    Ok(Found {
         place,
         count,
         taken: taken + SCATTERED,
-    }
+    })
 }
 
-fn clear(occupied: &mut [u8])
-    ensures { occupied.new ≡ replicate (length occupied.old) 0 }
+// The `size` bytes at `place` are taken.
+fn occupy(occupied: &mut [u8], place: usize, size: usize)
+    requires { place + size ≤ length occupied.old }
+    ensures { occupied.new ≡ occupy place size occupied.old }
 {
-    let n = occupied.len();
-    wire::fill(occupied, 0, n, 0);
+    occupied[place..place + size].fill(1);
 }
 
 // What a nested group left in the scratch gives way to the occupancy of its own bytes.
 fn retake(occupied: &mut [u8], taken: usize, place: usize, size: usize)
     requires { place + size ≤ length occupied.old }
-    ensures { occupied.new ≡ (if scattered taken then splice size place (replicate size 1) occupied.old else occupied.old) }
+    ensures { occupied.new ≡ (if scattered taken then occupy place size occupied.old else occupied.old) }
 {
     if SCATTERED <= taken {
-        wire::fill(occupied, place, size, 1);
+        occupy(occupied, place, size);
     }
 }
 
 // PADS
 
 // A byte that a value took, or a pad byte that is zero.
-fn is_clean(occupy: u8, byte: u8) -> bool
-    ensures { result ≡ not (occupy == 0) || (byte == 0) }
+fn is_clean(taken: u8, byte: u8) -> bool
+    ensures { result ≡ not (taken == 0) || (byte == 0) }
 {
-    occupy != 0 || byte == 0
+    taken != 0 || byte == 0
 }
 
 // Whether every pad byte from `at` on is zero. The loop has no early exit, so that it becomes vector
@@ -252,10 +192,8 @@ fn pads_zero(occupied: &[u8], bytes: &[u8], at: usize) -> bool
     ensures { result ≡ pads_zero (drop at occupied.now) (drop at bytes.now) }
 {
     let mut zero = true;
-    let mut i = at;
-    while i < bytes.len() {
-        zero = zero & is_clean(occupied[i], bytes[i]);
-        i += 1;
+    for i in at..bytes.len() {
+        zero &= is_clean(occupied[i], bytes[i]);
     }
     zero
 }
@@ -265,23 +203,12 @@ fn pads_before(occupied: &[u8], bytes: &[u8], at: usize) -> usize
     requires { (length occupied.now ≡ length bytes.now) × (at ≤ length bytes.now) }
     ensures { (result ≡ pads_before (drop at occupied.now) (drop at bytes.now)) × (at + result ≤ length bytes.now) }
 {
-    let mut i = at;
-    while i < bytes.len() {
+    for i in at..bytes.len() {
         if !is_clean(occupied[i], bytes[i]) {
             return i - at;
         }
-        i += 1;
     }
-    i - at
-}
-
-fn later(a: usize, b: usize) -> usize
-    ensures { result ≡ max a b }
-{
-    if a < b {
-        return b;
-    }
-    a
+    bytes.len() - at
 }
 
 // "6", as a test of what no value took, unless it is ignored.
@@ -289,24 +216,18 @@ fn are_pads_blank(ignored: bool, occupied: &[u8], bytes: &[u8], area: usize, tak
     requires { (length occupied.now ≡ length bytes.now) × (area ≤ length bytes.now) }
     ensures { result ≡ ignored || pads_zero (drop area (occupancy_of area taken occupied.now)) (drop area bytes.now) }
 {
-    if ignored {
-        return true;
-    }
-    are_pads_zero(occupied, bytes, area, taken)
+    ignored || are_pads_zero(occupied, bytes, area, taken)
 }
 
 fn are_pads_zero(occupied: &[u8], bytes: &[u8], area: usize, taken: usize) -> bool
     requires { (length occupied.now ≡ length bytes.now) × (area ≤ length bytes.now) }
     ensures { result ≡ pads_zero (drop area (occupancy_of area taken occupied.now)) (drop area bytes.now) }
 {
-    let start = later(area, packed_end(taken));
+    let start = area.max(packed_end(taken));
     if SCATTERED <= taken {
         return pads_zero(occupied, bytes, start);
     }
-    if bytes.len() < start {
-        return true;
-    }
-    wire::all_zero(bytes, start, bytes.len() - start)
+    bytes.len() < start || wire::all_zero(bytes, start, bytes.len() - start)
 }
 
 // "6", as the place in the data area. The occupancy that was not kept is written for it.
@@ -322,51 +243,36 @@ fn write_occupancy(occupied: &mut [u8], area: usize, taken: usize)
     requires { area ≤ length occupied.old }
     ensures { occupied.new ≡ occupancy_of area taken occupied.old }
 {
-    clear_unless(occupied, taken);
-    let end = earlier(packed_end(taken), occupied.len());
-    if area < end {
-        wire::fill(occupied, area, end - area, 1);
-    }
-}
-
-fn clear_unless(occupied: &mut [u8], taken: usize)
-    ensures { occupied.new ≡ (if scattered taken then occupied.old else replicate (length occupied.old) 0) }
-{
     if taken < SCATTERED {
-        clear(occupied);
+        occupied.fill(0);
     }
-}
-
-fn earlier(a: usize, b: usize) -> usize
-    ensures { result ≡ min a b }
-{
-    if a < b {
-        return a;
+    let end = occupied.len().min(packed_end(taken));
+    if area < end {
+        occupy(occupied, area, end - area);
     }
-    b
 }
 
 // "6", and the group's end.
-fn check_pads(bytes: &[u8], occupied: &mut [u8], frame: Frame, taken: usize, before: usize) -> Step
+fn check_pads(
+    bytes: &[u8],
+    occupied: &mut [u8],
+    frame: Frame,
+    taken: usize,
+    before: usize,
+) -> Result<Step, Fault>
     requires { (length occupied.old ≡ length bytes.now) × (frame.base + length bytes.now ≤ 65536) × (frame.area ≤ length bytes.now) }
     ensures { count_by (λ _. []) result ≡ after before (closing (within bytes.now frame) (occupancy_of frame.area taken occupied.old)) }
 {
-    if are_pads_blank(
-        ignores_pads(frame.rules),
-        occupied,
-        bytes,
-        frame.area,
-        taken,
-    ) {
-        return Step::Counted {
-            length: longer(before, 2),
+    if are_pads_blank(frame.ignored.pads, occupied, bytes, frame.area, taken) {
+        return Ok(Step {
+            length: before.wrapping_add(2),
             taken,
-        };
+        });
     }
-    Step::Refused {
+    Err(Fault {
         number: 6,
         place: frame.base + frame.area + bad_pad(occupied, bytes, frame.area, taken),
-    }
+    })
 }
 
 // VALUES THAT HOLD NO OTHER
@@ -377,25 +283,20 @@ fn check_number(
     index: &[u16],
     bytes: &[u8],
     base: usize,
-    tested: schema::Tested,
+    tested: Tested,
     at: usize,
     taken: usize,
     before: usize,
-) -> Step
+) -> Result<Step, Fault>
     requires { (Layout table.now index.now) × (at + kind_width (width_in index.now) (tested_kind (enums table.now) tested) ≤ length bytes.now) × (base + length bytes.now ≤ 65536) }
     ensures { (x : Ignored) (I : Inner) (S : ℕ → Reader) (area : ℕ) (F : ℕ → List ℕ) → count_by F result ≡ after before (count (item_r I S (tested_kind (enums table.now) tested) (here x bytes.now base area) at (F taken))) }
 {
-    let fault = schema::test_fault(table, index, tested, bytes, at);
-    if fault != 0 {
-        return Step::Refused {
-            number: fault,
-            place: base + at,
-        };
-    }
-    Step::Counted {
-        length: longer(before, 2 + wire::wide(schema::tested_width(tested))),
+    schema::check_tested(table, index, tested, bytes, at, base + at)?;
+    let width = usize::from(schema::tested_width(tested));
+    Ok(Step {
+        length: before.wrapping_add(2 + width),
         taken,
-    }
+    })
 }
 
 // So many numbers in a row, each with its test.
@@ -404,41 +305,33 @@ fn check_numbers(
     index: &[u16],
     bytes: &[u8],
     base: usize,
-    tested: schema::Tested,
+    tested: Tested,
     total: usize,
     at: usize,
     taken: usize,
     before: usize,
-) -> Step
+) -> Result<Step, Fault>
     requires { (Layout table.now index.now) × (at + total * kind_width (width_in index.now) (tested_kind (enums table.now) tested) ≤ length bytes.now) × (base + length bytes.now ≤ 65536) }
     ensures { (x : Ignored) (I : Inner) (S : ℕ → Reader) (area : ℕ) (F : ℕ → List ℕ) → count_by F result ≡ after before (count (items_r (kind_width (width_in index.now) (tested_kind (enums table.now) tested)) (item_r I S (tested_kind (enums table.now) tested)) total (here x bytes.now base area) at (F taken))) }
 {
-    let width = wire::wide(schema::tested_width(tested));
-    let mut i = 0;
-    let mut place = at;
-    let mut length = before;
-    let mut holds = taken;
-    while i < total {
-        let number = check_number(table, index, bytes, base, tested, place, holds, length);
-        match number {
-            Step::Counted {
-                length: sum,
-                taken: now,
-            } => {
-                length = sum;
-                holds = now;
-            }
-            Step::Refused { number, place } => {
-                return Step::Refused { number, place };
-            }
-        }
-        place += width;
-        i += 1;
+    let width = usize::from(schema::tested_width(tested));
+    let mut step = Step {
+        length: before,
+        taken,
+    };
+    for i in 0..total {
+        step = check_number(
+            table,
+            index,
+            bytes,
+            base,
+            tested,
+            at + i * width,
+            step.taken,
+            step.length,
+        )?;
     }
-    Step::Counted {
-        length,
-        taken: holds,
-    }
+    Ok(step)
 }
 
 // "Inline text: 7, 8, 9."
@@ -450,35 +343,35 @@ fn check_inline(
     at: usize,
     taken: usize,
     before: usize,
-) -> Step
+) -> Result<Step, Fault>
     requires { (at + (capacity + 1) ≤ length bytes.now) × (frame.base + length bytes.now ≤ 65536) }
     ensures { (I : Inner) (S : ℕ → Reader) (F : ℕ → List ℕ) → count_by F result ≡ after before (count (item_r I S (inline utf8 capacity) (within bytes.now frame) at (F taken))) }
 {
-    let room = wire::wide(capacity);
-    let count = wire::wide(bytes[at]);
+    let room = usize::from(capacity);
+    let count = usize::from(bytes[at]);
     if room < count {
-        return Step::Refused {
+        return Err(Fault {
             number: 7,
             place: frame.base + at,
-        };
+        });
     }
     let end = at + 1 + count;
-    if is_blank(ignores_unused(frame.rules), bytes, end, room - count) {
-        if schema::is_text(utf8, bytes, at + 1, count) {
-            return Step::Counted {
-                length: longer(before, 6 + count),
-                taken,
-            };
-        }
-        return Step::Refused {
+    if !is_blank(frame.ignored.unused, bytes, end, room - count) {
+        return Err(Fault {
+            number: 8,
+            place: frame.base + end + wire::count_zeros(bytes, end, room - count),
+        });
+    }
+    if !schema::is_text(utf8, bytes, at + 1, count) {
+        return Err(Fault {
             number: 9,
             place: frame.base + (at + 1),
-        };
+        });
     }
-    Step::Refused {
-        number: 8,
-        place: frame.base + end + wire::count_zeros(bytes, end, room - count),
-    }
+    Ok(Step {
+        length: before.wrapping_add(6 + count),
+        taken,
+    })
 }
 
 // "Indirect string: u32 count and bytes."
@@ -490,30 +383,22 @@ fn check_text(
     at: usize,
     taken: usize,
     before: usize,
-) -> Step
+) -> Result<Step, Fault>
     requires { (length occupied.old ≡ length bytes.now) × (frame.base + length bytes.now ≤ 65536) × (frame.area ≤ length bytes.now) × (at + 4 ≤ length bytes.now) }
     ensures { count_by (λ s. occupancy_of frame.area s occupied.new) result ≡ after before (count (marked_r ST (indirect_r 26 1 (text_r utf8)) (within bytes.now frame) at (occupancy_of frame.area taken occupied.old))) }
 {
-    let found = locate(bytes, occupied, frame, taken, at, 26, 1);
-    match found {
-        Located::At {
-            place,
-            count,
-            taken: now,
-        } => {
-            if schema::is_text(utf8, bytes, place + 4, count) {
-                return Step::Counted {
-                    length: longer(before, 6 + count),
-                    taken: now,
-                };
-            }
-            Step::Refused {
-                number: 9,
-                place: frame.base + (place + 4),
-            }
-        }
-        Located::Nowhere { number, place } => Step::Refused { number, place },
+    let found = locate(bytes, occupied, frame, taken, at, 26, 1)?;
+    let text = found.place + 4;
+    if !schema::is_text(utf8, bytes, text, found.count) {
+        return Err(Fault {
+            number: 9,
+            place: frame.base + text,
+        });
     }
+    Ok(Step {
+        length: before.wrapping_add(6 + found.count),
+        taken: found.taken,
+    })
 }
 
 fn check_texts(
@@ -525,35 +410,26 @@ fn check_texts(
     at: usize,
     taken: usize,
     before: usize,
-) -> Step
+) -> Result<Step, Fault>
     requires { (length occupied.old ≡ length bytes.now) × (frame.base + length bytes.now ≤ 65536) × (frame.area ≤ length bytes.now) × (at + total * 4 ≤ length bytes.now) }
     ensures { count_by (λ s. occupancy_of frame.area s occupied.new) result ≡ after before (count (items_r 4 (marked_r ST (indirect_r 26 1 (text_r utf8))) total (within bytes.now frame) at (occupancy_of frame.area taken occupied.old))) }
 {
-    let mut i = 0;
-    let mut place = at;
-    let mut length = before;
-    let mut holds = taken;
-    while i < total {
-        let text = check_text(bytes, occupied, frame, utf8, place, holds, length);
-        match text {
-            Step::Counted {
-                length: sum,
-                taken: now,
-            } => {
-                length = sum;
-                holds = now;
-            }
-            Step::Refused { number, place } => {
-                return Step::Refused { number, place };
-            }
-        }
-        place += 4;
-        i += 1;
+    let mut step = Step {
+        length: before,
+        taken,
+    };
+    for i in 0..total {
+        step = check_text(
+            bytes,
+            occupied,
+            frame,
+            utf8,
+            at + i * 4,
+            step.taken,
+            step.length,
+        )?;
     }
-    Step::Counted {
-        length,
-        taken: holds,
-    }
+    Ok(step)
 }
 
 // An optional field whose flag is not 1: "11 on its flag, 4", or absent.
@@ -564,26 +440,26 @@ fn check_absent(
     width: usize,
     taken: usize,
     before: usize,
-) -> Step
+) -> Result<Step, Fault>
     requires { (byte at bytes.now ≢ 1) × (at + (width + 1) ≤ length bytes.now) × (frame.base + length bytes.now ≤ 65536) }
     ensures { (k : Mark) (R : Reader) (F : ℕ → List ℕ) → count_by F result ≡ after before (count (optional_r k width R (within bytes.now frame) at (F taken))) }
 {
     if bytes[at] != 0 {
-        return Step::Refused {
+        return Err(Fault {
             number: 11,
             place: frame.base + at,
-        };
+        });
     }
-    if is_blank(ignores_absent(frame.rules), bytes, at + 1, width) {
-        return Step::Counted {
-            length: longer(before, 2),
+    if is_blank(frame.ignored.absent, bytes, at + 1, width) {
+        return Ok(Step {
+            length: before.wrapping_add(2),
             taken,
-        };
+        });
     }
-    Step::Refused {
+    Err(Fault {
         number: 4,
         place: frame.base + (at + 1) + wire::count_zeros(bytes, at + 1, width),
-    }
+    })
 }
 
 // Whether a field has a flag that is not 1.
@@ -591,22 +467,7 @@ fn is_unset(optional: bool, bytes: &[u8], at: usize) -> bool
     requires { optional ≡ true → at < length bytes.now }
     ensures { result ≡ optional && not (byte at bytes.now == 1) }
 {
-    if optional {
-        if bytes[at] != 1 {
-            return true;
-        }
-        return false;
-    }
-    false
-}
-
-fn flag_width(optional: bool) -> usize
-    ensures { result ≡ (if optional then 1 else 0) }
-{
-    if optional {
-        return 1;
-    }
-    0
+    optional && bytes[at] != 1
 }
 
 // Whether the extension's offset, which stands at 12, is zero or leads into the data area.
@@ -615,30 +476,18 @@ fn extension_inside(bytes: &[u8], area: usize) -> bool
     ensures { (x : Ignored) (base : ℕ) → result ≡ extension_in (here x bytes.now base area) 12 }
 {
     let offset = wire::read_u32(bytes, 12);
-    if offset == 0 {
-        return true;
-    }
-    if 12 + offset < area {
-        return false;
-    }
-    12 + offset < bytes.len()
+    offset == 0 || area <= 12 + offset && 12 + offset < bytes.len()
 }
 
 // GROUPS, FIELDS AND ITEMS
 
-// A group that is begun: its number, its frame, what is taken and counted so far; or the first fault.
+// A group that is begun: its number, its frame, what is taken and counted so far.
 #[derive(Clone, Copy)]
-enum Opened {
-    Begun {
-        group: usize,
-        frame: Frame,
-        taken: usize,
-        length: usize,
-    },
-    Refused {
-        number: u8,
-        place: usize,
-    },
+struct Begun {
+    group: usize,
+    frame: Frame,
+    taken: usize,
+    length: usize,
 }
 
 // A group: of a dynamic one `bytes` are the whole, and `outer` says where it starts and how many levels
@@ -652,34 +501,37 @@ fn check_group(
     occupied: &mut [u8],
     outer: Frame,
     depth: usize,
-    scope: schema::Scope,
+    scope: Scope,
     at: usize,
     taken: usize,
     before: usize,
-) -> Step
+) -> Result<Step, Fault>
     requires { (Ready table.now index.now bytes.now occupied.old outer) × (Lies table.now depth scope bytes.now at) }
-    ensures { count_by (λ s. left_of scope outer.area s occupied.new) result ≡ after before (count (group_of table.now (levels_in outer.rules) depth scope (within bytes.now outer) at (occupancy_of outer.area taken occupied.old))) }
+    ensures { count_by (λ s. left_of scope outer.area s occupied.new) result ≡ after before (count (group_of table.now outer.levels depth scope (within bytes.now outer) at (occupancy_of outer.area taken occupied.old))) }
 {
-    let opening = open_group(table, index, bytes, outer, scope, taken, before);
-    match opening {
-        Opened::Begun {
-            group,
-            frame,
-            taken: start,
-            length: head,
-        } => {
-            let fields = check_fields(
-                table, index, bytes, occupied, frame, depth, group, at, start, head,
-            );
-            match fields {
-                Step::Counted { length, taken: now } => close_group(
-                    table, index, bytes, occupied, frame, scope, now, length,
-                ),
-                Step::Refused { number, place } => Step::Refused { number, place },
-            }
-        }
-        Opened::Refused { number, place } => Step::Refused { number, place },
-    }
+    let begun = open_group(table, index, bytes, outer, scope, taken, before)?;
+    let fields = check_fields(
+        table,
+        index,
+        bytes,
+        occupied,
+        begun.frame,
+        depth,
+        begun.group,
+        at,
+        begun.taken,
+        begun.length,
+    )?;
+    close_group(
+        table,
+        index,
+        bytes,
+        occupied,
+        begun.frame,
+        scope,
+        fields.taken,
+        fields.length,
+    )
 }
 
 // What stands before a group's fields: of a dynamic one its head.
@@ -688,23 +540,21 @@ fn open_group(
     index: &[u16],
     bytes: &[u8],
     frame: Frame,
-    scope: schema::Scope,
+    scope: Scope,
     taken: usize,
     before: usize,
-) -> Opened
+) -> Result<Begun, Fault>
     requires { (Layout table.now index.now) × (frame.base + length bytes.now ≤ 65536) }
-    ensures { (m : List ℕ) (d at : ℕ) → Ready table.now index.now bytes.now m frame → Lies table.now d scope bytes.now at → Opens table.now index.now bytes.now m frame d scope at before (count (group_of table.now (levels_in frame.rules) d scope (within bytes.now frame) at (occupancy_of frame.area taken m))) result }
+    ensures { (m : List ℕ) (d at : ℕ) → Ready table.now index.now bytes.now m frame → Lies table.now d scope bytes.now at → Opens table.now index.now bytes.now m frame d scope at before (count (group_of table.now frame.levels d scope (within bytes.now frame) at (occupancy_of frame.area taken m))) result }
 {
     match scope {
-        schema::Scope::Whole { allowed } => open_dynamic(
-            table, index, bytes, frame, allowed, before,
-        ),
-        schema::Scope::Fields { group } => Opened::Begun {
+        Scope::Whole { allowed } => open_dynamic(table, index, bytes, frame, allowed, before),
+        Scope::Fields { group } => Ok(Begun {
             group,
             frame,
             taken,
             length: before,
-        },
+        }),
     }
 }
 
@@ -717,66 +567,74 @@ fn open_dynamic(
     frame: Frame,
     allowed: usize,
     before: usize,
-) -> Opened
+) -> Result<Begun, Fault>
     requires { (Layout table.now index.now) × (frame.base + length bytes.now ≤ 65536) }
-    ensures { (m : List ℕ) (o : Frame) → length m ≡ length bytes.now → levels_in o.rules ≡ levels_in frame.rules → Opens table.now index.now bytes.now m o 5 (Whole allowed) 16 before (count (inner_of (ignored_in frame.rules) table.now (levels_in frame.rules) allowed frame.base bytes.now)) result }
+    ensures { (m : List ℕ) (o : Frame) → length m ≡ length bytes.now → o.levels ≡ frame.levels → Opens table.now index.now bytes.now m o 5 (Whole allowed) 16 before (count (inner_of frame.ignored table.now frame.levels allowed frame.base bytes.now)) result }
 {
     if bytes.len() < 16 {
-        return Opened::Refused {
+        return Err(Fault {
             number: 1,
             place: frame.base,
-        };
+        });
     }
     let total = schema::group_total(index);
     let group = schema::find(table, index, total, wire::read_u64(bytes, 4));
     if total <= group {
-        return Opened::Refused {
+        return Err(Fault {
             number: 2,
             place: frame.base,
-        };
+        });
     }
-    if schema::allows(table, index, allowed, group) {
-        if levels_left(frame.rules) == 0 {
-            return Opened::Refused {
-                number: 24,
-                place: frame.base,
-            };
-        }
-        return open_area(index, bytes, frame, group, before);
+    if !schema::allows(table, index, allowed, group) {
+        return Err(Fault {
+            number: 25,
+            place: frame.base,
+        });
     }
-    Opened::Refused {
-        number: 25,
-        place: frame.base,
+    if frame.levels == 0 {
+        return Err(Fault {
+            number: 24,
+            place: frame.base,
+        });
     }
+    open_area(index, bytes, frame, group, before)
 }
 
 // "14, 3": a group in the frame `outer` that has a frame of its own, a level deeper.
-fn open_area(index: &[u16], bytes: &[u8], outer: Frame, group: usize, before: usize) -> Opened
-    requires { (Widths index.now) × (16 ≤ length bytes.now) × (outer.base + length bytes.now ≤ 65536) × (1 ≤ levels_in outer.rules) }
-    ensures { (t m : List ℕ) (o : Frame) (allowed : ℕ) → Layout t index.now → group < length (schema t) → length m ≡ length bytes.now → levels_in o.rules ≡ levels_in outer.rules → Opens t index.now bytes.now m o 5 (Whole allowed) 16 before (count (body_r (ignored_in outer.rules) (schema t) (inner_of (ignored_in outer.rules) t (levels_in outer.rules - 1)) group outer.base bytes.now)) result }
+fn open_area(
+    index: &[u16],
+    bytes: &[u8],
+    outer: Frame,
+    group: usize,
+    before: usize,
+) -> Result<Begun, Fault>
+    requires { (Widths index.now) × (16 ≤ length bytes.now) × (outer.base + length bytes.now ≤ 65536) × (1 ≤ outer.levels) }
+    ensures { (t m : List ℕ) (o : Frame) (allowed : ℕ) → Layout t index.now → group < length (schema t) → length m ≡ length bytes.now → o.levels ≡ outer.levels → Opens t index.now bytes.now m o 5 (Whole allowed) 16 before (count (body_r outer.ignored (schema t) (inner_of outer.ignored t (outer.levels - 1)) group outer.base bytes.now)) result }
 {
     let area = 16 + schema::group_width(index, group);
     if bytes.len() < area {
-        return Opened::Refused {
+        return Err(Fault {
             number: 14,
             place: outer.base,
-        };
+        });
     }
     if !extension_inside(bytes, area) {
-        return Opened::Refused {
+        return Err(Fault {
             number: 3,
             place: outer.base + 12,
-        };
+        });
     }
-    let mut frame = outer;
-    frame.area = area;
-    frame.rules = outer.rules - 1;
-    Opened::Begun {
+    let frame = Frame {
+        area,
+        levels: outer.levels - 1,
+        ..outer
+    };
+    Ok(Begun {
         group,
         frame,
         taken: area,
-        length: longer(before, 8),
-    }
+        length: before.wrapping_add(8),
+    })
 }
 
 // What stands behind a group's fields: of a dynamic one "extension, 6".
@@ -787,31 +645,31 @@ fn close_group(
     bytes: &[u8],
     occupied: &mut [u8],
     frame: Frame,
-    scope: schema::Scope,
+    scope: Scope,
     taken: usize,
     before: usize,
-) -> Step
+) -> Result<Step, Fault>
     requires { (Ready table.now index.now bytes.now occupied.old frame) × ((allowed : ℕ) → scope ≡ Whole allowed → 16 ≤ length bytes.now) }
-    ensures { count_by (λ s. left_of scope frame.area s occupied.new) result ≡ after before (behind_of table.now (levels_in frame.rules) scope (within bytes.now frame) (occupancy_of frame.area taken occupied.old)) }
+    ensures { count_by (λ s. left_of scope frame.area s occupied.new) result ≡ after before (behind_of table.now frame.levels scope (within bytes.now frame) (occupancy_of frame.area taken occupied.old)) }
 {
     match scope {
-        schema::Scope::Whole { allowed } => {
-            if wire::read_u32(bytes, 12) == 0 {
-                // Where the values fill the data area there is no pad.
-                if taken == bytes.len() {
-                    return Step::Counted {
-                        length: longer(before, 2),
-                        taken,
-                    };
-                }
-                return check_pads(bytes, occupied, frame, taken, before);
+        Scope::Whole { .. } => {
+            if wire::read_u32(bytes, 12) != 0 {
+                return check_rest(table, index, bytes, occupied, frame, taken, before);
             }
-            check_rest(table, index, bytes, occupied, frame, taken, before)
+            // Where the values fill the data area there is no pad.
+            if taken == bytes.len() {
+                return Ok(Step {
+                    length: before.wrapping_add(2),
+                    taken,
+                });
+            }
+            check_pads(bytes, occupied, frame, taken, before)
         }
-        schema::Scope::Fields { group } => Step::Counted {
+        Scope::Fields { .. } => Ok(Step {
             length: before,
             taken,
-        },
+        }),
     }
 }
 
@@ -825,15 +683,12 @@ fn check_rest(
     frame: Frame,
     taken: usize,
     before: usize,
-) -> Step
+) -> Result<Step, Fault>
     requires { (Ready table.now index.now bytes.now occupied.old frame) × (16 ≤ length bytes.now) }
-    ensures { count_by (λ _. []) result ≡ after before (and_then (count (extension_r (schema table.now) (inner_of (ignored_in frame.rules) table.now (levels_in frame.rules)) (within bytes.now frame) 12 (occupancy_of frame.area taken occupied.old))) (closing (within bytes.now frame))) }
+    ensures { count_by (λ _. []) result ≡ after before (and_then (count (extension_r (schema table.now) (inner_of frame.ignored table.now frame.levels) (within bytes.now frame) 12 (occupancy_of frame.area taken occupied.old))) (closing (within bytes.now frame))) }
 {
-    let extension = check_extension(table, index, bytes, occupied, frame, taken, before);
-    match extension {
-        Step::Counted { length, taken: now } => check_pads(bytes, occupied, frame, now, length),
-        Step::Refused { number, place } => Step::Refused { number, place },
-    }
+    let extension = check_extension(table, index, bytes, occupied, frame, taken, before)?;
+    check_pads(bytes, occupied, frame, extension.taken, extension.length)
 }
 
 // The fields of a group whose static depth is below `depth`. Those that need no test are passed over
@@ -850,51 +705,40 @@ fn check_fields(
     at: usize,
     taken: usize,
     before: usize,
-) -> Step
+) -> Result<Step, Fault>
     requires { (Ready table.now index.now bytes.now occupied.old frame) × (at + width_of table.now depth group ≤ length bytes.now) × (group < length (schema table.now)) × (shallow (schema table.now) depth group ≡ true) }
-    ensures { count_by (λ s. occupancy_of frame.area s occupied.new) result ≡ after before (count (static_of (ignored_in frame.rules) table.now (levels_in frame.rules) depth group (within bytes.now frame) at (occupancy_of frame.area taken occupied.old))) }
+    ensures { count_by (λ s. occupancy_of frame.area s occupied.new) result ≡ after before (count (static_of frame.ignored table.now frame.levels depth group (within bytes.now frame) at (occupancy_of frame.area taken occupied.old))) }
 {
     let start = schema::group_place(index, group);
     let total = schema::field_count(table, start);
-    let deeper = depth - 1;
-    let mut i = 0;
-    let mut field = start + 16;
     let mut place = at;
-    let mut length = before;
-    let mut holds = taken;
-    while i < total {
+    let mut step = Step {
+        length: before,
+        taken,
+    };
+    for i in 0..total {
+        let field = start + 16 * (i + 1);
         let plain = schema::plain_width(table, field);
         if plain != 0 {
-            length = longer(length, 2 + plain);
+            step.length = step.length.wrapping_add(2 + plain);
             place += plain;
-            field += 16;
-            i += 1;
             continue;
         }
-        let width = schema::field_width(table, index, field);
-        let answer = check_field(
-            table, index, bytes, occupied, frame, deeper, field, place, holds, length,
-        );
-        match answer {
-            Step::Counted {
-                length: sum,
-                taken: now,
-            } => {
-                length = sum;
-                holds = now;
-            }
-            Step::Refused { number, place } => {
-                return Step::Refused { number, place };
-            }
-        }
-        place += width;
-        field += 16;
-        i += 1;
+        step = check_field(
+            table,
+            index,
+            bytes,
+            occupied,
+            frame,
+            depth - 1,
+            field,
+            place,
+            step.taken,
+            step.length,
+        )?;
+        place += schema::field_width(table, index, field);
     }
-    Step::Counted {
-        length,
-        taken: holds,
-    }
+    Ok(step)
 }
 
 // "Field: 11 on its flag, 4, then its value": the field whose record stands at `field` of the table.
@@ -910,26 +754,18 @@ fn check_field(
     at: usize,
     taken: usize,
     before: usize,
-) -> Step
+) -> Result<Step, Fault>
     requires { (Ready table.now index.now bytes.now occupied.old frame) × (field + 16 ≤ length table.now) × (at + field_width (width_of table.now depth) (field_at (enums table.now) (drop field table.now)) ≤ length bytes.now) × (shallow_kind (shallow (schema table.now) depth) (width_of table.now depth) (field_at (enums table.now) (drop field table.now)).kind ≡ true) }
-    ensures { count_by (λ s. occupancy_of frame.area s occupied.new) result ≡ after before (count (field_r (inner_of (ignored_in frame.rules) table.now (levels_in frame.rules)) (width_of table.now depth) (static_of (ignored_in frame.rules) table.now (levels_in frame.rules) depth) (field_at (enums table.now) (drop field table.now)) (within bytes.now frame) at (occupancy_of frame.area taken occupied.old))) }
+    ensures { count_by (λ s. occupancy_of frame.area s occupied.new) result ≡ after before (count (field_r (inner_of frame.ignored table.now frame.levels) (width_of table.now depth) (static_of frame.ignored table.now frame.levels depth) (field_at (enums table.now) (drop field table.now)) (within bytes.now frame) at (occupancy_of frame.area taken occupied.old))) }
 {
     let optional = schema::is_optional(table, field);
     if is_unset(optional, bytes, at) {
         let width = schema::value_width(table, index, field);
         return check_absent(bytes, frame, at, width, taken, before);
     }
+    let start = at + usize::from(optional);
     check_value(
-        table,
-        index,
-        bytes,
-        occupied,
-        frame,
-        depth,
-        field,
-        at + flag_width(optional),
-        taken,
-        before,
+        table, index, bytes, occupied, frame, depth, field, start, taken, before,
     )
 }
 
@@ -947,36 +783,40 @@ fn check_value(
     at: usize,
     taken: usize,
     before: usize,
-) -> Step
+) -> Result<Step, Fault>
     requires { (Ready table.now index.now bytes.now occupied.old frame) × (field + 16 ≤ length table.now) × (at + value_width (width_of table.now depth) (field_at (enums table.now) (drop field table.now)) ≤ length bytes.now) × (shallow_kind (shallow (schema table.now) depth) (width_of table.now depth) (field_at (enums table.now) (drop field table.now)).kind ≡ true) }
-    ensures { count_by (λ s. occupancy_of frame.area s occupied.new) result ≡ after before (count (marked_value_r (inner_of (ignored_in frame.rules) table.now (levels_in frame.rules)) (width_of table.now depth) (static_of (ignored_in frame.rules) table.now (levels_in frame.rules) depth) (field_at (enums table.now) (drop field table.now)) (within bytes.now frame) at (occupancy_of frame.area taken occupied.old))) }
+    ensures { count_by (λ s. occupancy_of frame.area s occupied.new) result ≡ after before (count (marked_value_r (inner_of frame.ignored table.now frame.levels) (width_of table.now depth) (static_of frame.ignored table.now frame.levels depth) (field_at (enums table.now) (drop field table.now)) (within bytes.now frame) at (occupancy_of frame.area taken occupied.old))) }
 {
     let kind = schema::kind_at(table, field);
     let width = schema::kind_width(index, kind);
     let mut total = 1;
     let mut start = at;
-    let mut holds = taken;
-    let mut length = before;
+    let mut step = Step {
+        length: before,
+        taken,
+    };
     if schema::is_sequence(table, field) {
-        let found = locate(bytes, occupied, frame, taken, at, 13, width);
-        match found {
-            Located::At {
-                place,
-                count,
-                taken: now,
-            } => {
-                total = count;
-                start = place + 4;
-                holds = now;
-                length = longer(before, 6);
-            }
-            Located::Nowhere { number, place } => {
-                return Step::Refused { number, place };
-            }
-        }
+        let found = locate(bytes, occupied, frame, taken, at, 13, width)?;
+        total = found.count;
+        start = found.place + 4;
+        step = Step {
+            length: before.wrapping_add(6),
+            taken: found.taken,
+        };
     }
     check_items(
-        table, index, bytes, occupied, frame, depth, kind, width, total, start, holds, length,
+        table,
+        index,
+        bytes,
+        occupied,
+        frame,
+        depth,
+        kind,
+        width,
+        total,
+        start,
+        step.taken,
+        step.length,
     )
 }
 
@@ -990,56 +830,48 @@ fn check_items(
     occupied: &mut [u8],
     frame: Frame,
     depth: usize,
-    kind: schema::FieldKind,
+    kind: FieldKind,
     width: usize,
     total: usize,
     at: usize,
     taken: usize,
     before: usize,
-) -> Step
+) -> Result<Step, Fault>
     requires { (Ready table.now index.now bytes.now occupied.old frame) × (at + total * width ≤ length bytes.now) × (total < 2 ^ 32) × (width ≤ 4096) × (width ≡ kind_width (width_of table.now depth) (kind_from (enums table.now) kind)) × (shallow_kind (shallow (schema table.now) depth) (width_of table.now depth) (kind_from (enums table.now) kind) ≡ true) }
-    ensures { count_by (λ s. occupancy_of frame.area s occupied.new) result ≡ after before (count (items_r width (item_r (inner_of (ignored_in frame.rules) table.now (levels_in frame.rules)) (static_of (ignored_in frame.rules) table.now (levels_in frame.rules) depth) (kind_from (enums table.now) kind)) total (within bytes.now frame) at (occupancy_of frame.area taken occupied.old))) }
+    ensures { count_by (λ s. occupancy_of frame.area s occupied.new) result ≡ after before (count (items_r width (item_r (inner_of frame.ignored table.now frame.levels) (static_of frame.ignored table.now frame.levels depth) (kind_from (enums table.now) kind)) total (within bytes.now frame) at (occupancy_of frame.area taken occupied.old))) }
 {
-    if let schema::FieldKind::Plain { width: plain } = kind {
-        return Step::Counted {
-            length: longer(before, total * (2 + wire::wide(plain))),
-            taken,
-        };
-    }
-    if let schema::FieldKind::Indirect { utf8 } = kind {
-        return check_texts(bytes, occupied, frame, utf8, total, at, taken, before);
-    }
-    if let schema::FieldKind::Number { tested } = kind {
-        return check_numbers(
-            table, index, bytes, frame.base, tested, total, at, taken, before,
-        );
-    }
-    let mut i = 0;
-    let mut place = at;
-    let mut length = before;
-    let mut holds = taken;
-    while i < total {
-        let item = check_item(
-            table, index, bytes, occupied, frame, depth, kind, place, holds, length,
-        );
-        match item {
-            Step::Counted {
-                length: sum,
-                taken: now,
-            } => {
-                length = sum;
-                holds = now;
-            }
-            Step::Refused { number, place } => {
-                return Step::Refused { number, place };
-            }
+    match kind {
+        FieldKind::Plain { width: plain } => {
+            let length = before.wrapping_add(total * (2 + usize::from(plain)));
+            Ok(Step { length, taken })
         }
-        place += width;
-        i += 1;
-    }
-    Step::Counted {
-        length,
-        taken: holds,
+        FieldKind::Indirect { utf8 } => check_texts(
+            bytes, occupied, frame, utf8, total, at, taken, before,
+        ),
+        FieldKind::Number { tested } => check_numbers(
+            table, index, bytes, frame.base, tested, total, at, taken, before,
+        ),
+        _ => {
+            let mut step = Step {
+                length: before,
+                taken,
+            };
+            for i in 0..total {
+                step = check_item(
+                    table,
+                    index,
+                    bytes,
+                    occupied,
+                    frame,
+                    depth,
+                    kind,
+                    at + i * width,
+                    step.taken,
+                    step.length,
+                )?;
+            }
+            Ok(step)
+        }
     }
 }
 
@@ -1051,41 +883,39 @@ fn check_item(
     occupied: &mut [u8],
     frame: Frame,
     depth: usize,
-    kind: schema::FieldKind,
+    kind: FieldKind,
     at: usize,
     taken: usize,
     before: usize,
-) -> Step
+) -> Result<Step, Fault>
     requires { (Ready table.now index.now bytes.now occupied.old frame) × (at + kind_width (width_of table.now depth) (kind_from (enums table.now) kind) ≤ length bytes.now) × (shallow_kind (shallow (schema table.now) depth) (width_of table.now depth) (kind_from (enums table.now) kind) ≡ true) }
-    ensures { count_by (λ s. occupancy_of frame.area s occupied.new) result ≡ after before (count (item_r (inner_of (ignored_in frame.rules) table.now (levels_in frame.rules)) (static_of (ignored_in frame.rules) table.now (levels_in frame.rules) depth) (kind_from (enums table.now) kind) (within bytes.now frame) at (occupancy_of frame.area taken occupied.old))) }
+    ensures { count_by (λ s. occupancy_of frame.area s occupied.new) result ≡ after before (count (item_r (inner_of frame.ignored table.now frame.levels) (static_of frame.ignored table.now frame.levels depth) (kind_from (enums table.now) kind) (within bytes.now frame) at (occupancy_of frame.area taken occupied.old))) }
 {
     match kind {
-        schema::FieldKind::Plain { width } => Step::Counted {
-            length: longer(before, 2 + wire::wide(width)),
+        FieldKind::Plain { width } => Ok(Step {
+            length: before.wrapping_add(2 + usize::from(width)),
             taken,
-        },
-        schema::FieldKind::Number { tested } => check_number(
+        }),
+        FieldKind::Number { tested } => check_number(
             table, index, bytes, frame.base, tested, at, taken, before,
         ),
-        schema::FieldKind::Inline { utf8, capacity } => check_inline(
+        FieldKind::Inline { utf8, capacity } => check_inline(
             bytes, frame, utf8, capacity, at, taken, before,
         ),
-        schema::FieldKind::Indirect { utf8 } => check_text(
-            bytes, occupied, frame, utf8, at, taken, before,
-        ),
-        schema::FieldKind::Static { group } => check_group(
+        FieldKind::Indirect { utf8 } => check_text(bytes, occupied, frame, utf8, at, taken, before),
+        FieldKind::Static { group } => check_group(
             table,
             index,
             bytes,
             occupied,
             frame,
             depth,
-            schema::Scope::Fields { group },
+            Scope::Fields { group },
             at,
             taken,
-            longer(before, 2),
+            before.wrapping_add(2),
         ),
-        schema::FieldKind::Dynamic { allowed } => check_dynamic(
+        FieldKind::Dynamic { allowed } => check_dynamic(
             table,
             index,
             bytes,
@@ -1094,7 +924,7 @@ fn check_item(
             allowed,
             at,
             taken,
-            longer(before, 2),
+            before.wrapping_add(2),
         ),
     }
 }
@@ -1110,30 +940,23 @@ fn check_dynamic(
     at: usize,
     taken: usize,
     before: usize,
-) -> Step
+) -> Result<Step, Fault>
     requires { (Ready table.now index.now bytes.now occupied.old frame) × (at + 4 ≤ length bytes.now) }
-    ensures { count_by (λ s. occupancy_of frame.area s occupied.new) result ≡ after before (count (indirect_r 26 1 (inner_r (inner_of (ignored_in frame.rules) table.now (levels_in frame.rules)) allowed) (within bytes.now frame) at (occupancy_of frame.area taken occupied.old))) }
+    ensures { count_by (λ s. occupancy_of frame.area s occupied.new) result ≡ after before (count (indirect_r 26 1 (inner_r (inner_of frame.ignored table.now frame.levels) allowed) (within bytes.now frame) at (occupancy_of frame.area taken occupied.old))) }
 {
-    let found = locate(bytes, occupied, frame, taken, at, 26, 1);
-    match found {
-        Located::At {
-            place,
-            count,
-            taken: now,
-        } => check_nested(
-            table,
-            index,
-            bytes,
-            occupied,
-            frame,
-            allowed,
-            place,
-            4 + count,
-            now,
-            before,
-        ),
-        Located::Nowhere { number, place } => Step::Refused { number, place },
-    }
+    let found = locate(bytes, occupied, frame, taken, at, 26, 1)?;
+    check_nested(
+        table,
+        index,
+        bytes,
+        occupied,
+        frame,
+        allowed,
+        found.place,
+        4 + found.count,
+        found.taken,
+        before,
+    )
 }
 
 // The dynamic group of `size` bytes at `start`, which are taken: it has their part of the scratch for
@@ -1150,14 +973,16 @@ fn check_nested(
     size: usize,
     taken: usize,
     before: usize,
-) -> Step
+) -> Result<Step, Fault>
     requires { (Ready table.now index.now bytes.now occupied.old frame) × (start + size ≤ length bytes.now) × (occupy start size (occupancy_of frame.area taken occupied.old) ≡ occupancy_of frame.area taken occupied.old) }
-    ensures { count_by (λ s. occupancy_of frame.area s occupied.new) result ≡ after before (and_then (count (inner_of (ignored_in frame.rules) table.now (levels_in frame.rules) allowed (frame.base + start) (part size start bytes.now))) (λ _. counted 0 (occupancy_of frame.area taken occupied.old))) }
+    ensures { count_by (λ s. occupancy_of frame.area s occupied.new) result ≡ after before (and_then (count (inner_of frame.ignored table.now frame.levels allowed (frame.base + start) (part size start bytes.now))) (λ _. counted 0 (occupancy_of frame.area taken occupied.old))) }
 {
     let end = start + size;
-    let mut inner = frame;
-    inner.base = frame.base + start;
-    inner.area = 0;
+    let inner = Frame {
+        base: frame.base + start,
+        area: 0,
+        ..frame
+    };
     let group = check_group(
         table,
         index,
@@ -1165,21 +990,16 @@ fn check_nested(
         &mut occupied[start..end],
         inner,
         5,
-        schema::Scope::Whole { allowed },
+        Scope::Whole { allowed },
         16,
         0,
         before,
-    );
-    match group {
-        Step::Counted {
-            length,
-            taken: inner,
-        } => {
-            retake(occupied, taken, start, size);
-            Step::Counted { length, taken }
-        }
-        Step::Refused { number, place } => Step::Refused { number, place },
-    }
+    )?;
+    retake(occupied, taken, start, size);
+    Ok(Step {
+        length: group.length,
+        taken,
+    })
 }
 
 // "An extension is a sequence of any groups", and one of no groups means the same as none.
@@ -1192,43 +1012,34 @@ fn check_extension(
     frame: Frame,
     taken: usize,
     before: usize,
-) -> Step
+) -> Result<Step, Fault>
     requires { (Ready table.now index.now bytes.now occupied.old frame) × (16 ≤ length bytes.now) }
-    ensures { count_by (λ s. occupancy_of frame.area s occupied.new) result ≡ after before (count (extension_r (schema table.now) (inner_of (ignored_in frame.rules) table.now (levels_in frame.rules)) (within bytes.now frame) 12 (occupancy_of frame.area taken occupied.old))) }
+    ensures { count_by (λ s. occupancy_of frame.area s occupied.new) result ≡ after before (count (extension_r (schema table.now) (inner_of frame.ignored table.now frame.levels) (within bytes.now frame) 12 (occupancy_of frame.area taken occupied.old))) }
 {
     if wire::read_u32(bytes, 12) == 0 {
-        return Step::Counted {
+        return Ok(Step {
             length: before,
             taken,
-        };
+        });
     }
-    let found = locate(bytes, occupied, frame, taken, 12, 13, 4);
-    match found {
-        Located::At {
-            place,
-            count,
-            taken: now,
-        } => {
-            if count == 0 {
-                return Step::Counted {
-                    length: before,
-                    taken: now,
-                };
-            }
-            check_groups(
-                table,
-                index,
-                bytes,
-                occupied,
-                frame,
-                count,
-                place + 4,
-                now,
-                longer(before, 6),
-            )
-        }
-        Located::Nowhere { number, place } => Step::Refused { number, place },
+    let found = locate(bytes, occupied, frame, taken, 12, 13, 4)?;
+    if found.count == 0 {
+        return Ok(Step {
+            length: before,
+            taken: found.taken,
+        });
     }
+    check_groups(
+        table,
+        index,
+        bytes,
+        occupied,
+        frame,
+        found.count,
+        found.place + 4,
+        found.taken,
+        before.wrapping_add(6),
+    )
 }
 
 #[cycle(walk)]
@@ -1242,35 +1053,27 @@ fn check_groups(
     at: usize,
     taken: usize,
     before: usize,
-) -> Step
+) -> Result<Step, Fault>
     requires { (Ready table.now index.now bytes.now occupied.old frame) × (at + total * 4 ≤ length bytes.now) }
-    ensures { count_by (λ s. occupancy_of frame.area s occupied.new) result ≡ after before (count (items_r 4 (indirect_r 26 1 (extending_r (schema table.now) (inner_of (ignored_in frame.rules) table.now (levels_in frame.rules)))) total (within bytes.now frame) at (occupancy_of frame.area taken occupied.old))) }
+    ensures { count_by (λ s. occupancy_of frame.area s occupied.new) result ≡ after before (count (items_r 4 (indirect_r 26 1 (extending_r (schema table.now) (inner_of frame.ignored table.now frame.levels))) total (within bytes.now frame) at (occupancy_of frame.area taken occupied.old))) }
 {
-    let mut i = 0;
-    let mut place = at;
-    let mut length = before;
-    let mut holds = taken;
-    while i < total {
-        let group = check_extending(table, index, bytes, occupied, frame, place, holds, length);
-        match group {
-            Step::Counted {
-                length: sum,
-                taken: now,
-            } => {
-                length = sum;
-                holds = now;
-            }
-            Step::Refused { number, place } => {
-                return Step::Refused { number, place };
-            }
-        }
-        place += 4;
-        i += 1;
+    let mut step = Step {
+        length: before,
+        taken,
+    };
+    for i in 0..total {
+        step = check_extending(
+            table,
+            index,
+            bytes,
+            occupied,
+            frame,
+            at + i * 4,
+            step.taken,
+            step.length,
+        )?;
     }
-    Step::Counted {
-        length,
-        taken: holds,
-    }
+    Ok(step)
 }
 
 // A group of the extension; one of unknown type is kept as bytes.
@@ -1284,44 +1087,35 @@ fn check_extending(
     at: usize,
     taken: usize,
     before: usize,
-) -> Step
+) -> Result<Step, Fault>
     requires { (Ready table.now index.now bytes.now occupied.old frame) × (at + 4 ≤ length bytes.now) }
-    ensures { count_by (λ s. occupancy_of frame.area s occupied.new) result ≡ after before (count (indirect_r 26 1 (extending_r (schema table.now) (inner_of (ignored_in frame.rules) table.now (levels_in frame.rules))) (within bytes.now frame) at (occupancy_of frame.area taken occupied.old))) }
+    ensures { count_by (λ s. occupancy_of frame.area s occupied.new) result ≡ after before (count (indirect_r 26 1 (extending_r (schema table.now) (inner_of frame.ignored table.now frame.levels)) (within bytes.now frame) at (occupancy_of frame.area taken occupied.old))) }
 {
-    let found = locate(bytes, occupied, frame, taken, at, 26, 1);
-    match found {
-        Located::At {
-            place,
-            count,
-            taken: now,
-        } => {
-            if count < 12 {
-                return Step::Refused {
-                    number: 1,
-                    place: frame.base + place,
-                };
-            }
-            if schema::is_known(table, index, wire::read_u64(bytes, place + 4)) {
-                return check_nested(
-                    table,
-                    index,
-                    bytes,
-                    occupied,
-                    frame,
-                    0,
-                    place,
-                    4 + count,
-                    now,
-                    longer(before, 2),
-                );
-            }
-            Step::Counted {
-                length: longer(before, 6 + count),
-                taken: now,
-            }
-        }
-        Located::Nowhere { number, place } => Step::Refused { number, place },
+    let found = locate(bytes, occupied, frame, taken, at, 26, 1)?;
+    if found.count < 12 {
+        return Err(Fault {
+            number: 1,
+            place: frame.base + found.place,
+        });
     }
+    if schema::is_known(table, index, wire::read_u64(bytes, found.place + 4)) {
+        return check_nested(
+            table,
+            index,
+            bytes,
+            occupied,
+            frame,
+            0,
+            found.place,
+            4 + found.count,
+            found.taken,
+            before.wrapping_add(2),
+        );
+    }
+    Ok(Step {
+        length: before.wrapping_add(6 + found.count),
+        taken: found.taken,
+    })
 }
 
 // THE MESSAGE
@@ -1339,8 +1133,8 @@ pub fn check(
     ensures scratch_after { scratch.new ≡ splice (length message.now) 0 (replicate (length message.now) 0) scratch.old }
 {
     let n = message.len();
-    let answer = check_sized(table, index, message, rules_of(ignored), &mut scratch[0..n]);
-    wire::fill(scratch, 0, n, 0);
+    let answer = check_sized(table, index, message, ignored, &mut scratch[..n]);
+    scratch[..n].fill(0);
     answer
 }
 
@@ -1348,28 +1142,23 @@ fn check_sized(
     table: &[u8],
     index: &[u16],
     message: &[u8],
-    rules: usize,
+    ignored: Ignored,
     occupied: &mut [u8],
 ) -> Result<usize, Fault>
-    requires { (Layout table.now index.now) × (length occupied.old ≡ length message.now) × (length message.now ≤ 65536) × (levels_in rules ≡ 8) }
-    ensures { count_of result [] ≡ after 0 (count (walk (ignored_in rules) (schema table.now) message.now)) }
+    requires { (Layout table.now index.now) × (length occupied.old ≡ length message.now) × (length message.now ≤ 65536) }
+    ensures { count_of result [] ≡ after 0 (count (walk ignored (schema table.now) message.now)) }
 {
-    if message.len() < 4 {
-        return Walked::Refused {
+    if message.len() < 4 || message.len() != 4 + wire::read_u32(message, 0) {
+        return Err(Fault {
             number: 22,
             place: 0,
-        };
-    }
-    if message.len() != 4 + wire::read_u32(message, 0) {
-        return Walked::Refused {
-            number: 22,
-            place: 0,
-        };
+        });
     }
     let frame = Frame {
         base: 0,
         area: 0,
-        rules,
+        levels: 8,
+        ignored,
     };
     let group = check_group(
         table,
@@ -1378,13 +1167,10 @@ fn check_sized(
         occupied,
         frame,
         5,
-        schema::Scope::Whole { allowed: 0 },
+        Scope::Whole { allowed: 0 },
         16,
         0,
         2,
-    );
-    match group {
-        Step::Counted { length, taken } => Walked::Counted { length },
-        Step::Refused { number, place } => Walked::Refused { number, place },
-    }
+    )?;
+    Ok(group.length)
 }

@@ -1,107 +1,74 @@
-use Rattle.std.proofs.Common.{◌≡◌, ℕ, ◌+◌, ◌-◌, leb, [], drop, sym, refl, ap, ◌∙◌, mul-le-mul_right, mul-one, arith, rules}
+use Rattle.std.proofs.Common.{◌≡◌, ℕ, ◌+◌, ◌-◌, ◌*◌, leb, [], drop, sym, refl, ap, ◌∙◌, arith, rules}
 use Rattle.message.specs.Sheet.{field_mark}
-use native.Mathlib.Nat.{add-sub_cancel_left, sub-zero}
+use native.Mathlib.Nat.{add-sub_cancel_left}
 use Rattle.schema.specs.Schema.{shallow}
 use Rattle.schema.specs.Table.{field_at, enums, schema}
 use Rattle.schema.specs.Layout.{width_in}
 use Rattle.schema.specs.FieldKinds.{kind_from}
 use Rattle.schema.proofs.Records.{fields-more}
 use Rattle.schema.proofs.Types.{plain-is, width-sequence, width-optional}
-use Rattle.schema.proofs.Groups.{static-inside, placed-inside}
+use Rattle.schema.proofs.Groups.{static-inside}
 use Rattle.schema.proofs.Depth.{and_both, shallow-some, width-cons, shallow-cons, wide-kind, wide_value, wide-field}
 use Rattle.message.specs.Walk.{byte, inner_r, extending_r, value_r}
 use Rattle.message.specs.Count.{count, counted}
-use Rattle.message.specs.Check.{levels_in, ignored_in, occupancy_of, closing, after, within, item_r, marked_value_r, inner_of, width_of, static_of}
+use Rattle.message.specs.Check.{occupancy_of, closing, after, within, item_r, marked_value_r, inner_of, width_of, static_of}
 use Rattle.message.proofs.Count.{count-inner}
-use Rattle.message.proofs.CheckAnswers.{refuses, counts, stays, goes_on, passed, stopped, bounded}
+use Rattle.message.proofs.CheckAnswers.{exits, refuses, counts, stays, goes_on, passed, stopped, bounded}
 use Rattle.message.proofs.CheckOccupancy.{retaken, pads-none}
-use Rattle.message.proofs.CheckFields.{leads-nowhere, leads-to, fields-passed, fields-stopped, fields-end, plain-wide, fields-plain, flag-wide, flag-unset, field-optional, field-set, ItemsAt, one-item, sequence-nowhere, sequence-items, items-passed, items-stopped, items-end, items_left, items-plain, items-indirect, items-number, item-plain, item-number, item-inline, item-indirect, item-static, item-dynamic, wide-number, wide-inline, wide-indirect, wide-static, wide-dynamic, kind-static, start-inside, start-static, start-width, start-shallow, ready}
+use Rattle.message.proofs.CheckFields.{leads-nowhere, leads-to, fields-passed, fields-stopped, fields-end, plain-wide, fields-plain, flag-wide, flag-unset, field-optional, field-set, ItemsAt, one-item, sequence-nowhere, sequence-items, items-passed, items-stopped, items-end, items-plain, items-indirect, items-number, item-plain, item-number, item-inline, item-indirect, item-static, item-dynamic, wide-number, wide-inline, wide-indirect, wide-static, wide-dynamic, kind-static, start-inside, start-static, start-width, start-shallow, ready}
 use Rattle.message.proofs.CheckGroups.{nested-passed, extension-zero, extension-nowhere, extension-empty, extension-some, extending-short, extending-known, extending-kept, rest_plain, closing-filled}
 use Rattle.message.proofs.CheckScopes.{inside-falls, inside-long, inside-left, opens-begun, opens-refused, closes-dynamic, closes-static}
-use Rattle.message.proofs.+walk.Goals.{check_value-Joined-is_sequence, check_value-then-is_sequence+in-At, check_value-else-is_sequence}
+use Rattle.message.proofs.+walk.Goals.{check_value-Joined-is_sequence, check_value-then-is_sequence+in_ok-found, check_value-else-is_sequence}
 use Rattle.message.proofs.+walk.Goals as goal
 
 -- where the ways meet: the items that the value is
 check-value-joined : (t : ℕ) (c : check_value-Joined-is_sequence t)
     → let a = c.args in let t = a.table.now in let j = c.if-is_sequence in
-    ItemsAt c.kind_width-width.result (item_r (inner_of (ignored_in a.frame.rules) t (levels_in a.frame.rules)) (static_of (ignored_in a.frame.rules) t (levels_in a.frame.rules) a.depth) (kind_from (enums t) c.kind_at-kind.result)) (within a.bytes.now a.frame)
-    (after a.before (count (marked_value_r (inner_of (ignored_in a.frame.rules) t (levels_in a.frame.rules)) (width_of t a.depth) (static_of (ignored_in a.frame.rules) t (levels_in a.frame.rules) a.depth) (field_at (enums t) (drop a.field t)) (within a.bytes.now a.frame) a.at (occupancy_of a.frame.area a.taken a.occupied.now))))
-    j.total j.start j.length (occupancy_of a.frame.area j.holds j.occupied)
+    ItemsAt c.kind_width-width.result (item_r (inner_of a.frame.ignored t a.frame.levels) (static_of a.frame.ignored t a.frame.levels a.depth) (kind_from (enums t) c.kind_at-kind.result)) (within a.bytes.now a.frame)
+    (after a.before (count (marked_value_r (inner_of a.frame.ignored t a.frame.levels) (width_of t a.depth) (static_of a.frame.ignored t a.frame.levels a.depth) (field_at (enums t) (drop a.field t)) (within a.bytes.now a.frame) a.at (occupancy_of a.frame.area a.taken a.occupied.now))))
+    j.total j.start j.step.length (occupancy_of a.frame.area j.step.taken j.occupied)
 check-value-joined t c = let a = c.args in let t = a.table.now in
     let k = c.kind_at-kind.ensures (enums t) in
     let iw = c.kind_width-width.ensures.0 (enums t) ∙ wide-kind t a.index.now c.requires.0.layout a.depth _ (rw (sym k) at c.requires.3) in
     let q = c.is_sequence.ensures (enums t) in
     elim c.if-is_sequence.branch [
-      | check_value-then-is_sequence+in-At w ↦ rw (w.occupied-is, w.total-is, w.start-is, w.holds-is, w.length-is) (sequence-items _ _ _ _ _ _ _ _ k _ iw (sym q ∙ w.if-is_sequence.true) _ _ w.locate-found.ensures.0 a.before _ _ _ _ w.locate-found.ensures.1 w.in-At.is w.longer-length.ensures)
-      | check_value-else-is_sequence w ↦ rw (w.occupied-is, w.total-is, w.start-is, w.holds-is, w.length-is) (one-item _ _ _ _ _ _ _ _ k _ iw a.before (sym q ∙ w.if-is_sequence.false) c.requires.2)
+      | check_value-then-is_sequence+in_ok-found w ↦ rw (w.occupied-is, w.total-is, w.start-is, w.step-is) (sequence-items _ _ _ _ _ _ _ _ k _ iw (sym q ∙ w.if-is_sequence.true) _ _ w.in_ok-found.ensures.0 a.before _ w.in_ok-found.ensures.1 refl)
+      | check_value-else-is_sequence w ↦ rw (w.occupied-is, w.total-is, w.start-is, w.step-is) (one-item _ _ _ _ _ _ _ _ k _ iw a.before (sym q ∙ w.if-is_sequence.false) c.requires.2)
     ]
 
-pub check_dynamic-overflow_add-count : goal.check_dynamic-overflow_add-count
-check_dynamic-overflow_add-count t c = omega (arith, rw mul-one at (c.locate-found.ensures.1.inside _ _ _ c.in-At.is))
+pub check_dynamic-returns-in_err-found : goal.check_dynamic-returns-in_err-found
+check_dynamic-returns-in_err-found t c = let a = c.args in let t = a.table.now in let I = inner_of a.frame.ignored t a.frame.levels in rw (exits _ _ c.from_residual.ensures.1) (refuses _ _ _ _ (leads-nowhere 26 1 (inner_r I a.allowed) (within a.bytes.now a.frame) a.at (occupancy_of a.frame.area a.taken a.occupied.now) _ _ c.in_err-found.ensures.0))
 
-pub check_dynamic-check_nested-requires : goal.check_dynamic-check_nested-requires
-check_dynamic-check_nested-requires t c = let a = c.args in let g = c.in-At.is in let L = c.locate-found.ensures.1 in
-    (search rules, (ready _ _ _ _ _ _ c.requires.0 (search rules), rw mul-one at (L.inside _ _ _ g), rw mul-one at (L.taken _ _ _ g)))
+pub check_dynamic-returns : goal.check_dynamic-returns
+check_dynamic-returns t c = let a = c.args in let t = a.table.now in let I = inner_of a.frame.ignored t a.frame.levels in 
+    c.check_nested.ensures ∙ sym (ap (after a.before) (leads-to 26 1 (inner_r I a.allowed) (within a.bytes.now a.frame) a.at (occupancy_of a.frame.area a.taken a.occupied.now) _ _ c.in_ok-found.ensures.0 ∙ count-inner (within a.bytes.now a.frame) _ _ I a.allowed _))
 
-pub check_dynamic-returns-in-At : goal.check_dynamic-returns-in-At
-check_dynamic-returns-in-At t c = let a = c.args in let t = a.table.now in let I = inner_of (ignored_in a.frame.rules) t (levels_in a.frame.rules) in
-    c.check_nested.ensures ∙ sym (ap (after a.before) (leads-to 26 1 (inner_r I a.allowed) (within a.bytes.now a.frame) a.at (occupancy_of a.frame.area a.taken a.occupied.now) _ _ c.locate-found.ensures.0 _ _ _ c.in-At.is ∙ count-inner (within a.bytes.now a.frame) _ _ I a.allowed _))
+pub check_extending-returns-in_err-found : goal.check_extending-returns-in_err-found
+check_extending-returns-in_err-found t c = let a = c.args in let t = a.table.now in let I = inner_of a.frame.ignored t a.frame.levels in rw (exits _ _ c.from_residual.ensures.1) (refuses _ _ _ _ (leads-nowhere 26 1 (extending_r (schema t) I) (within a.bytes.now a.frame) a.at (occupancy_of a.frame.area a.taken a.occupied.now) _ _ c.in_err-found.ensures.0))
 
-pub check_dynamic-returns-in-Nowhere : goal.check_dynamic-returns-in-Nowhere
-check_dynamic-returns-in-Nowhere t c = let a = c.args in refuses _ _ _ _ _ (leads-nowhere 26 1 (inner_r (inner_of (ignored_in a.frame.rules) a.table.now (levels_in a.frame.rules)) a.allowed) (within a.bytes.now a.frame) a.at (occupancy_of a.frame.area a.taken a.occupied.now) _ _ c.locate-found.ensures.0 _ _ c.in-Nowhere.is)
-
-pub check_extending-overflow_add-result : goal.check_extending-overflow_add-result
-check_extending-overflow_add-result t c = omega (arith, c.locate-found.ensures.1.inside _ _ _ c.in-At.is, c.requires.0.small)
-
-pub check_extending-returns-then-count-lt12 : goal.check_extending-returns-then-count-lt12
-check_extending-returns-then-count-lt12 t c = let a = c.args in refuses _ _ _ _ _ (extending-short (schema a.table.now) (inner_of (ignored_in a.frame.rules) a.table.now (levels_in a.frame.rules)) (within a.bytes.now a.frame) a.at (occupancy_of a.frame.area a.taken a.occupied.now) _ _ c.locate-found.ensures.0 _ _ _ c.in-At.is c.if-count-lt12.true)
-
-pub check_extending-overflow_add-place : goal.check_extending-overflow_add-place
-check_extending-overflow_add-place t c = omega (arith, c.locate-found.ensures.1.inside _ _ _ c.in-At.is)
-
-pub check_extending-read_u64-requires : goal.check_extending-read_u64-requires
-check_extending-read_u64-requires t c = omega (arith, rw mul-one at (c.locate-found.ensures.1.inside _ _ _ c.in-At.is), c.if-count-lt12.false)
-
-pub check_extending-overflow_add-count : goal.check_extending-overflow_add-count
-check_extending-overflow_add-count t c = omega (arith, rw mul-one at (c.locate-found.ensures.1.inside _ _ _ c.in-At.is))
-
-pub check_extending-check_nested-requires : goal.check_extending-check_nested-requires
-check_extending-check_nested-requires t c = let a = c.args in let g = c.in-At.is in let L = c.locate-found.ensures.1 in
-    (search rules, (ready _ _ _ _ _ _ c.requires.0 (omega (arith, c.locate-found.auto, c.requires.0.same)), rw mul-one at (L.inside _ _ _ g), rw mul-one at (L.taken _ _ _ g)))
+pub check_extending-returns-then-found-lt12 : goal.check_extending-returns-then-found-lt12
+check_extending-returns-then-found-lt12 t c = let a = c.args in let t = a.table.now in let I = inner_of a.frame.ignored t a.frame.levels in refuses _ _ _ _ (extending-short (schema t) I (within a.bytes.now a.frame) a.at (occupancy_of a.frame.area a.taken a.occupied.now) _ _ c.in_ok-found.ensures.0 c.if-found-lt12.true)
 
 pub check_extending-returns-then-is_known : goal.check_extending-returns-then-is_known
-check_extending-returns-then-is_known t c = let a = c.args in
-    c.check_nested.ensures ∙ sym (goes_on a.before 2 _ _ _ (extending-known (schema a.table.now) (inner_of (ignored_in a.frame.rules) a.table.now (levels_in a.frame.rules)) (within a.bytes.now a.frame) a.at (occupancy_of a.frame.area a.taken a.occupied.now) _ _ c.locate-found.ensures.0 _ _ _ c.in-At.is c.if-count-lt12.false (rw c.read_u64.ensures at (sym c.is_known.ensures) ∙ c.if-is_known.true)) c.longer.ensures)
+check_extending-returns-then-is_known t c = let a = c.args in let t = a.table.now in let I = inner_of a.frame.ignored t a.frame.levels in 
+    c.check_nested.ensures ∙ sym (goes_on a.before 2 _ _ _ (extending-known (schema t) I (within a.bytes.now a.frame) a.at (occupancy_of a.frame.area a.taken a.occupied.now) _ _ c.in_ok-found.ensures.0 c.if-found-lt12.false (rw c.read_u64.ensures at (sym c.is_known.ensures) ∙ c.if-is_known.true)) refl)
 
-pub check_extending-overflow_add-count-in-At : goal.check_extending-overflow_add-count-in-At
-check_extending-overflow_add-count-in-At t c = omega (arith, rw mul-one at (c.locate-found.ensures.1.inside _ _ _ c.in-At.is))
-
-pub check_extending-returns-else-is_known : goal.check_extending-returns-else-is_known
-check_extending-returns-else-is_known t c = let a = c.args in
-    counts _ _ _ _ _ _ (extending-kept (schema a.table.now) (inner_of (ignored_in a.frame.rules) a.table.now (levels_in a.frame.rules)) (within a.bytes.now a.frame) a.at (occupancy_of a.frame.area a.taken a.occupied.now) _ _ c.locate-found.ensures.0 _ _ _ c.in-At.is c.if-count-lt12.false (rw c.read_u64.ensures at (sym c.is_known.ensures) ∙ c.if-is_known.false) (c.locate-found.ensures.1.inside _ _ _ c.in-At.is)) c.longer-in-At.ensures
-
-pub check_extending-returns-in-Nowhere : goal.check_extending-returns-in-Nowhere
-check_extending-returns-in-Nowhere t c = let a = c.args in refuses _ _ _ _ _ (leads-nowhere 26 1 (extending_r (schema a.table.now) (inner_of (ignored_in a.frame.rules) a.table.now (levels_in a.frame.rules))) (within a.bytes.now a.frame) a.at (occupancy_of a.frame.area a.taken a.occupied.now) _ _ c.locate-found.ensures.0 _ _ c.in-Nowhere.is)
+pub check_extending-returns : goal.check_extending-returns
+check_extending-returns t c = let a = c.args in let t = a.table.now in let I = inner_of a.frame.ignored t a.frame.levels in 
+    counts _ _ _ _ _ (extending-kept (schema t) I (within a.bytes.now a.frame) a.at (occupancy_of a.frame.area a.taken a.occupied.now) _ _ c.in_ok-found.ensures.0 c.if-found-lt12.false (rw c.read_u64.ensures at (sym c.is_known.ensures) ∙ c.if-is_known.false) c.in_ok-found.ensures.1.inside) refl
 
 pub check_extension-returns-then-read_u32-eq0 : goal.check_extension-returns-then-read_u32-eq0
-check_extension-returns-then-read_u32-eq0 t c = let a = c.args in stays _ a.before _ _ (extension-zero (schema a.table.now) (inner_of (ignored_in a.frame.rules) a.table.now (levels_in a.frame.rules)) (within a.bytes.now a.frame) 12 (occupancy_of a.frame.area a.taken a.occupied.now) (sym c.read_u32.ensures.0 ∙ c.if-read_u32-eq0.true)) (search rules)
+check_extension-returns-then-read_u32-eq0 t c = let a = c.args in let t = a.table.now in let I = inner_of a.frame.ignored t a.frame.levels in stays _ a.before _ _ (extension-zero (schema t) I (within a.bytes.now a.frame) 12 (occupancy_of a.frame.area a.taken a.occupied.now) (sym c.read_u32.ensures.0 ∙ c.if-read_u32-eq0.true)) refl (search rules)
 
-pub check_extension-returns-then-count-eq0 : goal.check_extension-returns-then-count-eq0
-check_extension-returns-then-count-eq0 t c = let a = c.args in stays _ a.before _ _ (extension-empty (schema a.table.now) (inner_of (ignored_in a.frame.rules) a.table.now (levels_in a.frame.rules)) (within a.bytes.now a.frame) 12 (occupancy_of a.frame.area a.taken a.occupied.now) (λ z. c.if-read_u32-eq0.false (c.read_u32.ensures.0 ∙ z)) _ _ c.locate-found.ensures.0 _ _ _ c.in-At.is c.if-count-eq0.true) (search rules)
+pub check_extension-returns-in_err-found : goal.check_extension-returns-in_err-found
+check_extension-returns-in_err-found t c = let a = c.args in let t = a.table.now in let I = inner_of a.frame.ignored t a.frame.levels in rw (exits _ _ c.from_residual.ensures.1) (refuses _ _ _ _ (extension-nowhere (schema t) I (within a.bytes.now a.frame) 12 (occupancy_of a.frame.area a.taken a.occupied.now) (λ z. c.if-read_u32-eq0.false (c.read_u32.ensures.0 ∙ z)) _ _ c.in_err-found.ensures.0))
 
-pub check_extension-overflow_add-place : goal.check_extension-overflow_add-place
-check_extension-overflow_add-place t c = omega (arith, c.locate-found.ensures.1.inside _ _ _ c.in-At.is)
+pub check_extension-returns-then-found-eq0 : goal.check_extension-returns-then-found-eq0
+check_extension-returns-then-found-eq0 t c = let a = c.args in let t = a.table.now in let I = inner_of a.frame.ignored t a.frame.levels in stays _ a.before _ _ (extension-empty (schema t) I (within a.bytes.now a.frame) 12 (occupancy_of a.frame.area a.taken a.occupied.now) (λ z. c.if-read_u32-eq0.false (c.read_u32.ensures.0 ∙ z)) _ _ c.in_ok-found.ensures.0 c.if-found-eq0.true) refl (search rules)
 
-pub check_extension-check_groups-requires : goal.check_extension-check_groups-requires
-check_extension-check_groups-requires t c = let a = c.args in let q = c.locate-found.ensures.1.inside _ _ _ c.in-At.is in
-    (search rules, (ready _ _ _ _ _ _ c.requires.0 (search rules), omega (arith, q)))
-
-pub check_extension-returns-else-count-eq0 : goal.check_extension-returns-else-count-eq0
-check_extension-returns-else-count-eq0 t c = let a = c.args in
-    c.check_groups.ensures ∙ sym (goes_on a.before 6 _ _ _ (extension-some (schema a.table.now) (inner_of (ignored_in a.frame.rules) a.table.now (levels_in a.frame.rules)) (within a.bytes.now a.frame) 12 (occupancy_of a.frame.area a.taken a.occupied.now) (λ z. c.if-read_u32-eq0.false (c.read_u32.ensures.0 ∙ z)) _ _ c.locate-found.ensures.0 _ _ _ c.in-At.is c.if-count-eq0.false (omega (arith, c.locate-found.ensures.1.inside _ _ _ c.in-At.is))) c.longer.ensures)
-
-pub check_extension-returns-in-Nowhere : goal.check_extension-returns-in-Nowhere
-check_extension-returns-in-Nowhere t c = let a = c.args in refuses _ _ _ _ _ (extension-nowhere (schema a.table.now) (inner_of (ignored_in a.frame.rules) a.table.now (levels_in a.frame.rules)) (within a.bytes.now a.frame) 12 (occupancy_of a.frame.area a.taken a.occupied.now) (λ z. c.if-read_u32-eq0.false (c.read_u32.ensures.0 ∙ z)) _ _ c.locate-found.ensures.0 _ _ c.in-Nowhere.is)
+pub check_extension-returns : goal.check_extension-returns
+check_extension-returns t c = let a = c.args in let t = a.table.now in let I = inner_of a.frame.ignored t a.frame.levels in 
+    c.check_groups.ensures ∙ sym (goes_on a.before 6 _ _ _ (extension-some (schema t) I (within a.bytes.now a.frame) 12 (occupancy_of a.frame.area a.taken a.occupied.now) (λ z. c.if-read_u32-eq0.false (c.read_u32.ensures.0 ∙ z)) _ _ c.in_ok-found.ensures.0 c.if-found-eq0.false (omega (arith, c.in_ok-found.ensures.1.inside))) refl)
 
 pub check_field-is_unset-requires : goal.check_field-is_unset-requires
 check_field-is_unset-requires t c = let a = c.args in let t = a.table.now in
@@ -115,137 +82,109 @@ check_field-check_absent-requires t c = let a = c.args in let t = a.table.now in
 
 pub check_field-returns-then-is_unset : goal.check_field-returns-then-is_unset
 check_field-returns-then-is_unset t c = let a = c.args in let t = a.table.now in let u = flag-unset c.is_optional-optional.result (byte a.at a.bytes.now) (sym c.is_unset.ensures ∙ c.if-is_unset.true) in
-    let f = field_at (enums t) (drop a.field t) in let I = inner_of (ignored_in a.frame.rules) t (levels_in a.frame.rules) in let S = static_of (ignored_in a.frame.rules) t (levels_in a.frame.rules) a.depth in let sw = width_of t a.depth in
+    let f = field_at (enums t) (drop a.field t) in let I = inner_of a.frame.ignored t a.frame.levels in let S = static_of a.frame.ignored t a.frame.levels a.depth in let sw = width_of t a.depth in
     let v = c.value_width-width.ensures.0 (enums t) ∙ wide_value t a.index.now c.requires.0.layout a.depth _ c.requires.3 in
     rw v at (c.check_absent.ensures (field_mark f) (value_r I sw S f) (λ s. occupancy_of a.frame.area s a.occupied.now)) ∙ ap (λ x. after a.before (count x)) (sym (field-optional I sw S f (within a.bytes.now a.frame) a.at (occupancy_of a.frame.area a.taken a.occupied.now) (sym (c.is_optional-optional.ensures (enums t)) ∙ u.0)))
-
-pub check_field-overflow_add-at : goal.check_field-overflow_add-at
-check_field-overflow_add-at t c = let a = c.args in let t = a.table.now in
-    let w = flag-wide (width_of t a.depth) (field_at (enums t) (drop a.field t)) _ (c.is_optional-optional.ensures (enums t)) in omega (arith, w, c.flag_width.ensures, c.requires.2, c.requires.0.small)
 
 pub check_field-check_value-requires : goal.check_field-check_value-requires
 check_field-check_value-requires t c = let a = c.args in let t = a.table.now in
     let w = flag-wide (width_of t a.depth) (field_at (enums t) (drop a.field t)) _ (c.is_optional-optional.ensures (enums t)) in
-    (search rules, (c.requires.0, c.requires.1, omega (arith, w, c.flag_width.ensures, c.requires.2), c.requires.3))
+    (search rules, (c.requires.0, c.requires.1, omega (arith, w, c.from.ensures, c.requires.2), c.requires.3))
 
 pub check_field-returns : goal.check_field-returns
 check_field-returns t c = let a = c.args in let t = a.table.now in
-    let f = field_at (enums t) (drop a.field t) in let I = inner_of (ignored_in a.frame.rules) t (levels_in a.frame.rules) in let S = static_of (ignored_in a.frame.rules) t (levels_in a.frame.rules) a.depth in let sw = width_of t a.depth in
-    c.check_value.ensures ∙ ap (λ x. after a.before (count x)) (sym (field-set I sw S f (within a.bytes.now a.frame) a.at (occupancy_of a.frame.area a.taken a.occupied.now) c.is_optional-optional.result (c.is_optional-optional.ensures (enums t)) (sym c.is_unset.ensures ∙ c.if-is_unset.false) _ c.flag_width.ensures))
-
-pub check_fields-field_count-total-requires : goal.check_fields-field_count-total-requires
-check_fields-field_count-total-requires t c = let p = placed-inside _ _ _ c.requires.0.layout.placed _ c.requires.2 in omega (arith, p, c.group_place-start.ensures.0)
-
-pub check_fields-overflow_sub-deeper : goal.check_fields-overflow_sub-deeper
-check_fields-overflow_sub-deeper t c = omega (arith, shallow-some (schema c.args.table.now) _ _ c.requires.3)
+    let f = field_at (enums t) (drop a.field t) in let I = inner_of a.frame.ignored t a.frame.levels in let S = static_of a.frame.ignored t a.frame.levels a.depth in let sw = width_of t a.depth in
+    c.check_value.ensures ∙ ap (λ x. after a.before (count x)) (sym (field-set I sw S f (within a.bytes.now a.frame) a.at (occupancy_of a.frame.area a.taken a.occupied.now) c.is_optional-optional.result (c.is_optional-optional.ensures (enums t)) (sym c.is_unset.ensures ∙ c.if-is_unset.false) _ c.from.ensures))
 
 pub check_fields-loop-i-init : goal.check_fields-loop-i-init
 check_fields-loop-i-init t c = let a = c.args in let r = c.requires in let P = r.0.layout in
     let d = shallow-some (schema a.table.now) a.depth a.group r.3 in
     let s = c.group_place-start.ensures.0 in let n = c.field_count-total.ensures.0 in
-    let w = start-width a.table.now a.index.now P a.group r.2 _ _ s n a.depth d in (
-      search rules,
-      search rules,
-      start-inside a.table.now a.index.now P a.group r.2 _ _ s n,
-      omega (arith, w, r.1),
-      start-shallow a.table.now a.index.now P a.group r.2 _ _ s n a.depth d r.3,
-      search rules,
-      ap (λ x. after a.before (count x)) (start-static a.table.now a.index.now P a.group r.2 _ _ s n a.depth d (inner_of (ignored_in a.frame.rules) a.table.now (levels_in a.frame.rules)) (within a.bytes.now a.frame) a.at (occupancy_of a.frame.area a.taken a.occupied.now)),
-    )
+    let w = start-width a.table.now a.index.now P a.group r.2 _ _ s n a.depth d in record {
+      records = start-inside a.table.now a.index.now P a.group r.2 _ _ s n;
+      inside = omega (arith, w, r.1);
+      shallow = start-shallow a.table.now a.index.now P a.group r.2 _ _ s n a.depth d r.3;
+      fits = search rules;
+      counts = ap (λ x. after a.before (count x)) (start-static a.table.now a.index.now P a.group r.2 _ _ s n a.depth d (inner_of a.frame.ignored a.table.now a.frame.levels) (within a.bytes.now a.frame) a.at (occupancy_of a.frame.area a.taken a.occupied.now));
+    }
 
 pub check_fields-loop-i-preserved-then-plain-ne0 : goal.check_fields-loop-i-preserved-then-plain-ne0
 check_fields-loop-i-preserved-then-plain-ne0 t c = let a = c.args in let i = c.loop-i.invariant in let t = a.table.now in
     let sw = width_of t (a.depth - 1) in
-    let f = fields-more (enums t) t c.loop-i.field c.field_count-total.result c.loop-i.i c.loop-i-test.true in
+    let q : c.group_place-start.result + 16 * (c.loop-i.i + 1 + 1) ≡ c.group_place-start.result + 16 * (c.loop-i.i + 1) + 16 = omega arith in
+    let f = fields-more (enums t) t (c.group_place-start.result + 16 * (c.loop-i.i + 1)) c.field_count-total.result c.loop-i.i c.loop-i-test.true in
     let e = plain-is (enums t) _ _ (c.plain_width-plain.ensures.0 (enums t)) c.if-plain-ne0.true in
-    let w = width-cons sw _ _ _ f in let p = plain-wide sw _ _ _ e in (
-      search rules,
-      search rules,
-      omega (arith, i.2, c.loop-i-test.true),
-      omega (arith, i.3, w, p),
-      (shallow-cons _ _ _ _ _ f i.4).1,
-      search rules,
-      i.6 ∙ fields-plain _ (inner_of (ignored_in a.frame.rules) t (levels_in a.frame.rules)) sw (static_of (ignored_in a.frame.rules) t (levels_in a.frame.rules) (a.depth - 1)) (enums t) t a.bytes.now a.frame.base a.frame.area c.field_count-total.result c.loop-i.i c.loop-i.field c.loop-i.place c.loop-i.length (occupancy_of a.frame.area c.loop-i.holds c.loop-i.occupied) _ _ _ c.loop-i-test.true e (omega (arith, i.3, w, p)) c.longer-length.ensures,
-    )
+    let w = width-cons sw _ _ _ f in let p = plain-wide sw _ _ _ e in record {
+      records = omega (arith, i.records, c.loop-i-test.true);
+      inside = rw q (omega (arith, i.inside, w, p));
+      shallow = rw q ((shallow-cons _ _ _ _ _ f i.shallow).1);
+      fits = search rules;
+      counts = rw q (i.counts ∙ fields-plain _ (inner_of a.frame.ignored t a.frame.levels) sw (static_of a.frame.ignored t a.frame.levels (a.depth - 1)) (enums t) t a.bytes.now a.frame.base a.frame.area c.field_count-total.result c.loop-i.i _ c.loop-i.place c.loop-i.step.length (occupancy_of a.frame.area c.loop-i.step.taken c.loop-i.occupied) _ _ _ c.loop-i-test.true e (omega (arith, i.inside, w, p)) refl);
+    }
 
-pub check_fields-check_field-answer-requires : goal.check_fields-check_field-answer-requires
-check_fields-check_field-answer-requires t c = let a = c.args in let i = c.loop-i.invariant in let t = a.table.now in
-    let f = fields-more (enums t) t c.loop-i.field c.field_count-total.result c.loop-i.i c.loop-i-test.true in
+pub check_fields-overflow_sub-depth : goal.check_fields-overflow_sub-depth
+check_fields-overflow_sub-depth t c = omega (arith, shallow-some (schema c.args.table.now) _ _ c.requires.3)
+
+pub check_fields-check_field-requires : goal.check_fields-check_field-requires
+check_fields-check_field-requires t c = let a = c.args in let i = c.loop-i.invariant in let t = a.table.now in
+    let f = fields-more (enums t) t (c.group_place-start.result + 16 * (c.loop-i.i + 1)) c.field_count-total.result c.loop-i.i c.loop-i-test.true in
     let w = width-cons (width_of t (a.depth - 1)) _ _ _ f in
-    (omega (arith, shallow-some (schema t) _ _ c.requires.3), (ready _ _ _ _ _ _ c.requires.0 (i.1 ∙ c.requires.0.same), omega (arith, i.2, c.loop-i-test.true), omega (arith, i.3, w), (shallow-cons _ _ _ _ _ f i.4).0))
+    (omega (arith, shallow-some (schema t) _ _ c.requires.3), (ready _ _ _ _ _ _ c.requires.0 (search rules), omega (arith, i.records, c.loop-i-test.true), omega (arith, i.inside, w), (shallow-cons _ _ _ _ _ f i.shallow).0))
 
-pub check_fields-returns-in-Refused : goal.check_fields-returns-in-Refused
-check_fields-returns-in-Refused t c = let a = c.args in let t = a.table.now in
-    fields-stopped (inner_of (ignored_in a.frame.rules) t (levels_in a.frame.rules)) (width_of t (a.depth - 1)) (static_of (ignored_in a.frame.rules) t (levels_in a.frame.rules) (a.depth - 1)) (enums t) t (within a.bytes.now a.frame) c.field_count-total.result c.loop-i.i c.loop-i.field c.loop-i.place c.loop-i.length (occupancy_of a.frame.area c.loop-i.holds c.loop-i.occupied) _ _ c.check_field-answer.ensures c.loop-i-test.true _ _ _ c.in-Refused.is ∙ sym c.loop-i.invariant.6
-
-pub check_fields-overflow_add-place-in-loop-i : goal.check_fields-overflow_add-place-in-loop-i
-check_fields-overflow_add-place-in-loop-i t c = let a = c.args in let t = a.table.now in omega (arith, c.loop-i.invariant.3, c.field_width-width.ensures.1, c.requires.0.small)
+pub check_fields-returns-in_err-step : goal.check_fields-returns-in_err-step
+check_fields-returns-in_err-step t c = let a = c.args in let t = a.table.now in let l = c.loop-i in
+    rw (exits _ _ c.from_residual.ensures.1) (fields-stopped (inner_of a.frame.ignored t a.frame.levels) (width_of t (a.depth - 1)) (static_of a.frame.ignored t a.frame.levels (a.depth - 1)) (enums t) t (within a.bytes.now a.frame) c.field_count-total.result l.i _ l.place l.step.length (occupancy_of a.frame.area l.step.taken l.occupied) _ c.loop-i-test.true _ _ c.in_err-step.ensures ∙ sym l.invariant.counts)
 
 pub check_fields-loop-i-preserved : goal.check_fields-loop-i-preserved
 check_fields-loop-i-preserved t c = let a = c.args in let i = c.loop-i.invariant in let t = a.table.now in let l = c.loop-i-test.true in
     let sw = width_of t (a.depth - 1) in
-    let f = fields-more (enums t) t c.loop-i.field c.field_count-total.result c.loop-i.i l in
+    let q : c.group_place-start.result + 16 * (c.loop-i.i + 1 + 1) ≡ c.group_place-start.result + 16 * (c.loop-i.i + 1) + 16 = omega arith in
+    let f = fields-more (enums t) t (c.group_place-start.result + 16 * (c.loop-i.i + 1)) c.field_count-total.result c.loop-i.i l in
     let w = width-cons sw _ _ _ f in
-    let q = shallow-cons _ _ _ _ _ f i.4 in
-    let v = c.field_width-width.ensures.0 (enums t) ∙ wide-field t a.index.now c.requires.0.layout (a.depth - 1) _ q.0 in (
-      search rules,
-      search rules,
-      omega (arith, i.2, l),
-      omega (arith, i.3, w, v),
-      q.1,
-      bounded _ _ _ _ c.check_field-answer.ensures _ _ c.in-Counted.is,
-      i.6 ∙ fields-passed (inner_of (ignored_in a.frame.rules) t (levels_in a.frame.rules)) sw (static_of (ignored_in a.frame.rules) t (levels_in a.frame.rules) (a.depth - 1)) (enums t) t (within a.bytes.now a.frame) c.field_count-total.result c.loop-i.i c.loop-i.field c.loop-i.place c.loop-i.length (occupancy_of a.frame.area c.loop-i.holds c.loop-i.occupied) _ _ c.check_field-answer.ensures l _ _ _ c.in-Counted.is v,
-    )
+    let s = shallow-cons _ _ _ _ _ f i.shallow in
+    let v = c.field_width-place.ensures.0 (enums t) ∙ wide-field t a.index.now c.requires.0.layout (a.depth - 1) _ s.0 in record {
+      records = omega (arith, i.records, l);
+      inside = rw q (omega (arith, i.inside, w, v));
+      shallow = rw q s.1;
+      fits = bounded _ _ _ _ c.in_ok-step.ensures;
+      counts = rw q (i.counts ∙ fields-passed (inner_of a.frame.ignored t a.frame.levels) sw (static_of a.frame.ignored t a.frame.levels (a.depth - 1)) (enums t) t (within a.bytes.now a.frame) c.field_count-total.result c.loop-i.i _ c.loop-i.place c.loop-i.step.length (occupancy_of a.frame.area c.loop-i.step.taken c.loop-i.occupied) _ l _ _ c.in_ok-step.ensures v);
+    }
 
 pub check_fields-returns : goal.check_fields-returns
-check_fields-returns t c = let a = c.args in let t = a.table.now in
-    fields-end (inner_of (ignored_in a.frame.rules) t (levels_in a.frame.rules)) (width_of t (a.depth - 1)) (static_of (ignored_in a.frame.rules) t (levels_in a.frame.rules) (a.depth - 1)) (enums t) t (within a.bytes.now a.frame) c.field_count-total.result c.loop-i.i c.loop-i.field c.loop-i.place c.loop-i.length (occupancy_of a.frame.area c.loop-i.holds c.loop-i.occupied) _ _ refl c.loop-i-test.false c.loop-i.invariant.5 ∙ sym c.loop-i.invariant.6
+check_fields-returns t c = let a = c.args in let t = a.table.now in let l = c.loop-i in
+    fields-end (inner_of a.frame.ignored t a.frame.levels) (width_of t (a.depth - 1)) (static_of a.frame.ignored t a.frame.levels (a.depth - 1)) (enums t) t (within a.bytes.now a.frame) c.field_count-total.result l.i _ l.place l.step.length (occupancy_of a.frame.area l.step.taken l.occupied) _ _ refl refl c.loop-i-test.false l.invariant.fits ∙ sym l.invariant.counts
 
-pub check_group-open_group-opening-requires : goal.check_group-open_group-opening-requires
-check_group-open_group-opening-requires t c = let R = c.requires.0 in (R.layout, R.small)
+pub check_group-returns-in_err-begun : goal.check_group-returns-in_err-begun
+check_group-returns-in_err-begun t c = let a = c.args in rw (exits _ _ c.from_residual.ensures.1) (refuses _ _ _ _ (opens-refused _ _ _ _ a.outer a.depth a.at _ a.scope _ _ (c.in_err-begun.ensures a.occupied.now a.depth a.at c.requires.0 c.requires.1)))
 
-pub check_group-check_fields-fields-requires : goal.check_group-check_fields-fields-requires
-check_group-check_fields-fields-requires t c = let a = c.args in let F = c.requires.1 in let B = opens-begun _ _ _ _ a.outer a.depth a.at _ a.scope _ _ (c.open_group-opening.ensures a.occupied.now a.depth a.at c.requires.0 F) _ _ _ _ c.in-Begun.is in
-    (omega (arith, inside-falls a.outer _ _ _ a.scope a.depth a.at F B.inside, c.requires.0), (B.ready, B.fits.0, B.fits.1, B.fits.2))
+pub check_group-check_fields-requires : goal.check_group-check_fields-requires
+check_group-check_fields-requires t c = let a = c.args in let B = opens-begun _ _ _ _ a.outer a.depth a.at _ a.scope _ _ (c.in_ok-begun.ensures a.occupied.now a.depth a.at c.requires.0 c.requires.1) in
+    (omega (arith, inside-falls a.outer _ _ _ a.scope a.depth a.at c.requires.1 B.inside, c.requires.0), (B.ready, B.fits.0, B.fits.1, B.fits.2))
+
+pub check_group-returns-in_err-fields : goal.check_group-returns-in_err-fields
+check_group-returns-in_err-fields t c = let a = c.args in let B = opens-begun _ _ _ _ a.outer a.depth a.at _ a.scope _ _ (c.in_ok-begun.ensures a.occupied.now a.depth a.at c.requires.0 c.requires.1) in
+    rw (exits _ _ c.from_residual-in_err-fields.ensures.1) (stopped _ _ _ _ _ _ c.in_err-fields.ensures ∙ sym B.counts)
 
 pub check_group-close_group-requires : goal.check_group-close_group-requires
-check_group-close_group-requires t c = let a = c.args in let F = c.requires.1 in let B = opens-begun _ _ _ _ a.outer a.depth a.at _ a.scope _ _ (c.open_group-opening.ensures a.occupied.now a.depth a.at c.requires.0 F) _ _ _ _ c.in-Begun.is in
-    (omega (arith, inside-falls a.outer _ _ _ a.scope a.depth a.at F B.inside, c.requires.0), (ready _ _ _ _ _ _ B.ready (omega (arith, c.check_fields-fields.auto, c.requires.0.same)), inside-long a.outer _ a.scope B.inside _ B.ready.room))
+check_group-close_group-requires t c = let a = c.args in let B = opens-begun _ _ _ _ a.outer a.depth a.at _ a.scope _ _ (c.in_ok-begun.ensures a.occupied.now a.depth a.at c.requires.0 c.requires.1) in
+    (omega (arith, inside-falls a.outer _ _ _ a.scope a.depth a.at c.requires.1 B.inside, c.requires.0), (ready _ _ _ _ _ _ B.ready (omega (arith, c.check_fields.auto, c.requires.0.same)), inside-long a.outer _ a.scope B.inside _ B.ready.room))
 
-pub check_group-returns-in-Counted : goal.check_group-returns-in-Counted
-check_group-returns-in-Counted t c = let a = c.args in let B = opens-begun _ _ _ _ a.outer a.depth a.at _ a.scope _ _ (c.open_group-opening.ensures a.occupied.now a.depth a.at c.requires.0 c.requires.1) _ _ _ _ c.in-Begun.is in
-    inside-left a.outer _ a.scope B.inside _ _ ∙ c.close_group.ensures ∙ sym (B.counts ∙ passed _ _ _ _ c.check_fields-fields.ensures _ _ _ c.in-Counted.is)
+pub check_group-returns : goal.check_group-returns
+check_group-returns t c = let a = c.args in let B = opens-begun _ _ _ _ a.outer a.depth a.at _ a.scope _ _ (c.in_ok-begun.ensures a.occupied.now a.depth a.at c.requires.0 c.requires.1) in
+    inside-left a.outer _ a.scope B.inside _ _ ∙ c.close_group.ensures ∙ sym (B.counts ∙ passed _ _ _ _ _ c.in_ok-fields.ensures)
 
-pub check_group-returns-in-Refused-fields : goal.check_group-returns-in-Refused-fields
-check_group-returns-in-Refused-fields t c = let a = c.args in let B = opens-begun _ _ _ _ a.outer a.depth a.at _ a.scope _ _ (c.open_group-opening.ensures a.occupied.now a.depth a.at c.requires.0 c.requires.1) _ _ _ _ c.in-Begun.is in
-    stopped _ _ _ _ c.check_fields-fields.ensures _ _ _ _ c.in-Refused-fields.is ∙ sym B.counts
-
-pub check_group-returns-in-Refused : goal.check_group-returns-in-Refused
-check_group-returns-in-Refused t c = let a = c.args in refuses _ _ _ _ _ (opens-refused _ _ _ _ a.outer a.depth a.at _ a.scope _ _ (c.open_group-opening.ensures a.occupied.now a.depth a.at c.requires.0 c.requires.1) _ _ c.in-Refused.is)
-
-pub check_groups-loop-i-init : goal.check_groups-loop-i-init
-check_groups-loop-i-init t c = let a = c.args in (search rules, search rules, rw sub-zero c.requires.1, search rules, rw sub-zero refl)
-
-pub check_groups-check_extending-group-requires : goal.check_groups-check_extending-group-requires
-check_groups-check_extending-group-requires t c = let a = c.args in let i = c.loop-i.invariant in let w = items_left a.total c.loop-i.i 4 c.loop-i-test.true in
-    (search rules, (ready _ _ _ _ _ _ c.requires.0 (i.1 ∙ c.requires.0.same), omega (arith, i.2, w)))
-
-pub check_groups-returns-in-Refused : goal.check_groups-returns-in-Refused
-check_groups-returns-in-Refused t c = let a = c.args in
-    items-stopped 4 _ (within a.bytes.now a.frame) a.total c.loop-i.i c.loop-i.place c.loop-i.length (occupancy_of a.frame.area c.loop-i.holds c.loop-i.occupied) _ _ c.check_extending-group.ensures c.loop-i-test.true _ _ _ c.in-Refused.is ∙ sym c.loop-i.invariant.4
+pub check_groups-returns-in_err-step : goal.check_groups-returns-in_err-step
+check_groups-returns-in_err-step t c = let a = c.args in let l = c.loop-i in rw (exits _ _ c.from_residual.ensures.1) 
+    (items-stopped 4 _ (within a.bytes.now a.frame) a.total l.i a.at l.step.length (occupancy_of a.frame.area l.step.taken l.occupied) _ c.loop-i-test.true _ _ c.in_err-step.ensures ∙ sym l.invariant.counts)
 
 pub check_groups-loop-i-preserved : goal.check_groups-loop-i-preserved
-check_groups-loop-i-preserved t c = let a = c.args in let i = c.loop-i.invariant in let w = items_left a.total c.loop-i.i 4 c.loop-i-test.true in (
-  search rules,
-  search rules,
-  omega (arith, i.2, w),
-  bounded _ _ _ _ c.check_extending-group.ensures _ _ c.in-Counted.is,
-  i.4 ∙ items-passed 4 _ (within a.bytes.now a.frame) a.total c.loop-i.i c.loop-i.place c.loop-i.length (occupancy_of a.frame.area c.loop-i.holds c.loop-i.occupied) _ _ c.check_extending-group.ensures c.loop-i-test.true _ _ c.in-Counted.is,
-)
+check_groups-loop-i-preserved t c = let a = c.args in let l = c.loop-i in record {
+  fits = bounded _ _ _ _ c.in_ok-step.ensures;
+  counts = l.invariant.counts ∙ items-passed 4 _ (within a.bytes.now a.frame) a.total l.i a.at l.step.length (occupancy_of a.frame.area l.step.taken l.occupied) _ c.loop-i-test.true _ c.in_ok-step.ensures;
+}
 
 pub check_groups-returns : goal.check_groups-returns
-check_groups-returns t c = let a = c.args in
-    items-end 4 _ (within a.bytes.now a.frame) a.total c.loop-i.i c.loop-i.place c.loop-i.length (occupancy_of a.frame.area c.loop-i.holds c.loop-i.occupied) _ _ refl c.loop-i-test.false c.loop-i.invariant.3 ∙ sym c.loop-i.invariant.4
+check_groups-returns t c = let a = c.args in let l = c.loop-i in items-end 4 _ (within a.bytes.now a.frame) a.total l.i a.at l.step.length (occupancy_of a.frame.area l.step.taken l.occupied) _ _ refl refl c.loop-i-test.false l.invariant.fits ∙ sym l.invariant.counts
 
 pub check_item-check_number-requires : goal.check_item-check_number-requires
 check_item-check_number-requires t c = let a = c.args in let t = a.table.now in let P = c.requires.0.layout in
@@ -272,42 +211,32 @@ check_item-check_dynamic-requires t c = let a = c.args in let t = a.table.now in
     let w = wide-dynamic (width_of t a.depth) (enums t) a.kind _ c.in-Dynamic.is in (search rules, (c.requires.0, omega (arith, w, c.requires.1)))
 
 pub check_item-returns-in-Plain : goal.check_item-returns-in-Plain
-check_item-returns-in-Plain t c = let a = c.args in let t = a.table.now in let I = inner_of (ignored_in a.frame.rules) t (levels_in a.frame.rules) in let S = static_of (ignored_in a.frame.rules) t (levels_in a.frame.rules) a.depth in
-    counts _ _ _ _ _ _ (item-plain _ I S a.bytes.now a.frame.base a.frame.area (occupancy_of a.frame.area a.taken a.occupied.now) (enums t) a.kind a.at (width_of t a.depth) _ c.in-Plain.is c.requires.1) (c.longer.ensures ∙ rw c.wide.ensures.0)
+check_item-returns-in-Plain t c = let a = c.args in let t = a.table.now in let I = inner_of a.frame.ignored t a.frame.levels in let S = static_of a.frame.ignored t a.frame.levels a.depth in
+    counts _ _ _ _ _ (item-plain _ I S a.bytes.now a.frame.base a.frame.area (occupancy_of a.frame.area a.taken a.occupied.now) (enums t) a.kind a.at (width_of t a.depth) _ c.in-Plain.is c.requires.1) (rw c.from.ensures)
 
 pub check_item-returns-in-Number : goal.check_item-returns-in-Number
-check_item-returns-in-Number t c = let a = c.args in let t = a.table.now in let I = inner_of (ignored_in a.frame.rules) t (levels_in a.frame.rules) in let S = static_of (ignored_in a.frame.rules) t (levels_in a.frame.rules) a.depth in
-    c.check_number.ensures (ignored_in a.frame.rules) I S a.frame.area (λ s. occupancy_of a.frame.area s a.occupied.now) ∙ ap (λ x. after a.before (count x)) (sym (item-number _ I S a.bytes.now a.frame.base a.frame.area (occupancy_of a.frame.area a.taken a.occupied.now) (enums t) a.kind a.at _ c.in-Number.is))
+check_item-returns-in-Number t c = let a = c.args in let t = a.table.now in let I = inner_of a.frame.ignored t a.frame.levels in let S = static_of a.frame.ignored t a.frame.levels a.depth in
+    c.check_number.ensures a.frame.ignored I S a.frame.area (λ s. occupancy_of a.frame.area s a.occupied.now) ∙ ap (λ x. after a.before (count x)) (sym (item-number _ I S a.bytes.now a.frame.base a.frame.area (occupancy_of a.frame.area a.taken a.occupied.now) (enums t) a.kind a.at _ c.in-Number.is))
 
 pub check_item-returns-in-Inline : goal.check_item-returns-in-Inline
-check_item-returns-in-Inline t c = let a = c.args in let t = a.table.now in let I = inner_of (ignored_in a.frame.rules) t (levels_in a.frame.rules) in let S = static_of (ignored_in a.frame.rules) t (levels_in a.frame.rules) a.depth in
+check_item-returns-in-Inline t c = let a = c.args in let t = a.table.now in let I = inner_of a.frame.ignored t a.frame.levels in let S = static_of a.frame.ignored t a.frame.levels a.depth in
     c.check_inline.ensures I S (λ s. occupancy_of a.frame.area s a.occupied.now) ∙ ap (λ x. after a.before (count x)) (sym (item-inline _ I S a.bytes.now a.frame.base a.frame.area (occupancy_of a.frame.area a.taken a.occupied.now) (enums t) a.kind a.at _ _ c.in-Inline.is))
 
 pub check_item-returns-in-Indirect : goal.check_item-returns-in-Indirect
-check_item-returns-in-Indirect t c = let a = c.args in let t = a.table.now in let I = inner_of (ignored_in a.frame.rules) t (levels_in a.frame.rules) in let S = static_of (ignored_in a.frame.rules) t (levels_in a.frame.rules) a.depth in
+check_item-returns-in-Indirect t c = let a = c.args in let t = a.table.now in let I = inner_of a.frame.ignored t a.frame.levels in let S = static_of a.frame.ignored t a.frame.levels a.depth in
     c.check_text.ensures ∙ ap (λ x. after a.before (count x)) (sym (item-indirect _ I S a.bytes.now a.frame.base a.frame.area (occupancy_of a.frame.area a.taken a.occupied.now) (enums t) a.kind a.at _ c.in-Indirect.is))
 
 pub check_item-returns-in-Static : goal.check_item-returns-in-Static
-check_item-returns-in-Static t c = let a = c.args in let t = a.table.now in let I = inner_of (ignored_in a.frame.rules) t (levels_in a.frame.rules) in let S = static_of (ignored_in a.frame.rules) t (levels_in a.frame.rules) a.depth in
-    c.check_group.ensures ∙ sym (goes_on a.before 2 _ _ _ (item-static _ I S a.bytes.now a.frame.base a.frame.area (occupancy_of a.frame.area a.taken a.occupied.now) (enums t) a.kind a.at _ c.in-Static.is) c.longer-in-Static.ensures)
+check_item-returns-in-Static t c = let a = c.args in let t = a.table.now in let I = inner_of a.frame.ignored t a.frame.levels in let S = static_of a.frame.ignored t a.frame.levels a.depth in
+    c.check_group.ensures ∙ sym (goes_on a.before 2 _ _ _ (item-static _ I S a.bytes.now a.frame.base a.frame.area (occupancy_of a.frame.area a.taken a.occupied.now) (enums t) a.kind a.at _ c.in-Static.is) refl)
 
 pub check_item-returns-in-Dynamic : goal.check_item-returns-in-Dynamic
-check_item-returns-in-Dynamic t c = let a = c.args in let t = a.table.now in let I = inner_of (ignored_in a.frame.rules) t (levels_in a.frame.rules) in let S = static_of (ignored_in a.frame.rules) t (levels_in a.frame.rules) a.depth in
-    c.check_dynamic.ensures ∙ sym (goes_on a.before 2 _ _ _ (item-dynamic _ I S a.bytes.now a.frame.base a.frame.area (occupancy_of a.frame.area a.taken a.occupied.now) (enums t) a.kind a.at _ c.in-Dynamic.is) c.longer-in-Dynamic.ensures)
-
-pub check_items-overflow_mul-total : goal.check_items-overflow_mul-total
-check_items-overflow_mul-total t c = omega (arith, mul-le-mul_right {m = c.args.total} {n = 4294967296} (2 + c.wide.result) (omega (arith, c.requires.2)), c.wide.ensures.1)
-
-pub check_items-returns-in-Plain : goal.check_items-returns-in-Plain
-check_items-returns-in-Plain t c = let a = c.args in let t = a.table.now in counts _ _ _ _ _ _ (items-plain _ (inner_of (ignored_in a.frame.rules) t (levels_in a.frame.rules)) (static_of (ignored_in a.frame.rules) t (levels_in a.frame.rules) a.depth) a.bytes.now a.frame.base a.frame.area (occupancy_of a.frame.area a.taken a.occupied.now) (enums t) a.kind (width_of t a.depth) _ a.width a.total a.at c.in-Plain.is c.requires.4 c.requires.1) (c.longer.ensures ∙ rw c.wide.ensures.0)
+check_item-returns-in-Dynamic t c = let a = c.args in let t = a.table.now in let I = inner_of a.frame.ignored t a.frame.levels in let S = static_of a.frame.ignored t a.frame.levels a.depth in
+    c.check_dynamic.ensures ∙ sym (goes_on a.before 2 _ _ _ (item-dynamic _ I S a.bytes.now a.frame.base a.frame.area (occupancy_of a.frame.area a.taken a.occupied.now) (enums t) a.kind a.at _ c.in-Dynamic.is) refl)
 
 pub check_items-check_texts-requires : goal.check_items-check_texts-requires
 check_items-check_texts-requires t c = let a = c.args in let t = a.table.now in let q : a.width ≡ 4 = c.requires.4 ∙ wide-indirect (width_of t a.depth) (enums t) a.kind _ c.in-Indirect.is in
     (c.requires.0.same, c.requires.0.small, c.requires.0.room, rw q at c.requires.1)
-
-pub check_items-returns-in-Indirect : goal.check_items-returns-in-Indirect
-check_items-returns-in-Indirect t c = let a = c.args in let t = a.table.now in
-    c.check_texts.ensures ∙ ap (λ x. after a.before (count x)) (sym (items-indirect _ (inner_of (ignored_in a.frame.rules) t (levels_in a.frame.rules)) (static_of (ignored_in a.frame.rules) t (levels_in a.frame.rules) a.depth) a.bytes.now a.frame.base a.frame.area (occupancy_of a.frame.area a.taken a.occupied.now) (enums t) a.kind (width_of t a.depth) a.width a.total a.at c.requires.4 _ c.in-Indirect.is))
 
 pub check_items-check_numbers-requires : goal.check_items-check_numbers-requires
 check_items-check_numbers-requires t c = let a = c.args in let p = c.requires in let t = a.table.now in
@@ -315,71 +244,57 @@ check_items-check_numbers-requires t c = let a = c.args in let p = c.requires in
     let v = wide-kind t a.index.now p.0.layout a.depth (kind_from (enums t) a.kind) p.5 in
     (p.0.layout, rw (p.4 ∙ sym v ∙ w) at p.1, p.0.small)
 
+pub check_items-returns-in-Plain : goal.check_items-returns-in-Plain
+check_items-returns-in-Plain t c = let a = c.args in let t = a.table.now in counts _ _ _ _ _ (items-plain _ (inner_of a.frame.ignored t a.frame.levels) (static_of a.frame.ignored t a.frame.levels a.depth) a.bytes.now a.frame.base a.frame.area (occupancy_of a.frame.area a.taken a.occupied.now) (enums t) a.kind (width_of t a.depth) _ a.width a.total a.at c.in-Plain.is c.requires.4 c.requires.1) (rw c.from.ensures)
+
+pub check_items-returns-in-Indirect : goal.check_items-returns-in-Indirect
+check_items-returns-in-Indirect t c = let a = c.args in let t = a.table.now in
+    c.check_texts.ensures ∙ ap (λ x. after a.before (count x)) (sym (items-indirect _ (inner_of a.frame.ignored t a.frame.levels) (static_of a.frame.ignored t a.frame.levels a.depth) a.bytes.now a.frame.base a.frame.area (occupancy_of a.frame.area a.taken a.occupied.now) (enums t) a.kind (width_of t a.depth) a.width a.total a.at c.requires.4 _ c.in-Indirect.is))
+
 pub check_items-returns-in-Number : goal.check_items-returns-in-Number
 check_items-returns-in-Number t c = let a = c.args in let p = c.requires in let t = a.table.now in
     let w = wide-number (width_in a.index.now) (enums t) a.kind _ c.in-Number.is in
     let v = wide-kind t a.index.now p.0.layout a.depth (kind_from (enums t) a.kind) p.5 in
-    let x = ignored_in a.frame.rules in let I = inner_of x t (levels_in a.frame.rules) in let S = static_of x t (levels_in a.frame.rules) a.depth in
+    let x = a.frame.ignored in let I = inner_of x t a.frame.levels in let S = static_of x t a.frame.levels a.depth in
     c.check_numbers.ensures x I S a.frame.area (λ s. occupancy_of a.frame.area s a.occupied.now) ∙ ap (λ x. after a.before (count x)) (sym (items-number _ I S a.bytes.now a.frame.base a.frame.area (occupancy_of a.frame.area a.taken a.occupied.now) (enums t) a.kind a.width _ a.total a.at (p.4 ∙ sym v ∙ w) _ c.in-Number.is))
 
-pub check_items-loop-i-init : goal.check_items-loop-i-init
-check_items-loop-i-init t c = let a = c.args in (search rules, search rules, rw sub-zero c.requires.1, search rules, rw sub-zero refl)
-
-pub check_items-check_item-item-requires : goal.check_items-check_item-item-requires
-check_items-check_item-item-requires t c = let a = c.args in let i = c.loop-i.invariant in let w = items_left a.total c.loop-i.i a.width c.loop-i-test.true in
-    (search rules, (ready _ _ _ _ _ _ c.requires.0 (i.1 ∙ c.requires.0.same), omega (arith, i.2, w, c.requires.4), c.requires.5))
-
-pub check_items-returns-in-Refused : goal.check_items-returns-in-Refused
-check_items-returns-in-Refused t c = let a = c.args in
-    items-stopped a.width _ (within a.bytes.now a.frame) a.total c.loop-i.i c.loop-i.place c.loop-i.length (occupancy_of a.frame.area c.loop-i.holds c.loop-i.occupied) _ _ c.check_item-item.ensures c.loop-i-test.true _ _ _ c.in-Refused.is ∙ sym c.loop-i.invariant.4
+pub check_items-returns-in_err-step-in_default : goal.check_items-returns-in_err-step-in_default
+check_items-returns-in_err-step-in_default t c = let a = c.args in let l = c.loop-i in rw (exits _ _ c.from_residual.ensures.1) 
+    (items-stopped a.width _ (within a.bytes.now a.frame) a.total l.i a.at l.step.length (occupancy_of a.frame.area l.step.taken l.occupied) _ c.loop-i-test.true _ _ c.in_err-step-in_default.ensures ∙ sym l.invariant.counts)
 
 pub check_items-loop-i-preserved : goal.check_items-loop-i-preserved
-check_items-loop-i-preserved t c = let a = c.args in let i = c.loop-i.invariant in let w = items_left a.total c.loop-i.i a.width c.loop-i-test.true in (
-  search rules,
-  search rules,
-  omega (arith, i.2, w),
-  bounded _ _ _ _ c.check_item-item.ensures _ _ c.in-Counted.is,
-  i.4 ∙ items-passed a.width _ (within a.bytes.now a.frame) a.total c.loop-i.i c.loop-i.place c.loop-i.length (occupancy_of a.frame.area c.loop-i.holds c.loop-i.occupied) _ _ c.check_item-item.ensures c.loop-i-test.true _ _ c.in-Counted.is,
-)
+check_items-loop-i-preserved t c = let a = c.args in let l = c.loop-i in record {
+  fits = bounded _ _ _ _ c.in_ok-step-in_default.ensures;
+  counts = l.invariant.counts ∙ items-passed a.width _ (within a.bytes.now a.frame) a.total l.i a.at l.step.length (occupancy_of a.frame.area l.step.taken l.occupied) _ c.loop-i-test.true _ c.in_ok-step-in_default.ensures;
+}
 
-pub check_items-returns : goal.check_items-returns
-check_items-returns t c = let a = c.args in
-    items-end a.width _ (within a.bytes.now a.frame) a.total c.loop-i.i c.loop-i.place c.loop-i.length (occupancy_of a.frame.area c.loop-i.holds c.loop-i.occupied) _ _ refl c.loop-i-test.false c.loop-i.invariant.3 ∙ sym c.loop-i.invariant.4
+pub check_items-returns-after-loop-i : goal.check_items-returns-after-loop-i
+check_items-returns-after-loop-i t c = let a = c.args in let l = c.loop-i in items-end a.width _ (within a.bytes.now a.frame) a.total l.i a.at l.step.length (occupancy_of a.frame.area l.step.taken l.occupied) _ _ refl refl c.loop-i-test.false l.invariant.fits ∙ sym l.invariant.counts
 
-pub check_nested-check_group-group-requires : goal.check_nested-check_group-group-requires
-check_nested-check_group-group-requires t c = let a = c.args in (search rules, (record { layout = c.requires.0.layout; same = search rules; small = search rules; room = search rules }, (refl, refl)))
+pub check_nested-returns-in_err-group : goal.check_nested-returns-in_err-group
+check_nested-returns-in_err-group t c = let a = c.args in rw (exits _ _ c.from_residual.ensures.1) 
+    (stopped (λ _. []) a.before _ _ _ (λ _. counted 0 (occupancy_of a.frame.area a.taken a.occupied.now)) (rw add-sub_cancel_left at c.in_err-group.ensures))
 
-pub check_nested-returns-in-Counted : goal.check_nested-returns-in-Counted
-check_nested-returns-in-Counted t c = let a = c.args in nested-passed _ a.before _ _ _ _ a.taken (occupancy_of a.frame.area a.taken a.occupied.now) (rw add-sub_cancel_left at c.check_group-group.ensures) c.in-Counted.is (retaken a.frame.area a.taken a.occupied.now _ _ c.check_group-group.new.occupied a.start a.size (omega (arith, c.requires.0.room, c.requires.0.same)) (search rules) (search rules) refl (rw add-sub_cancel_left at c.retake.ensures) c.requires.2)
+pub check_nested-returns : goal.check_nested-returns
+check_nested-returns t c = let a = c.args in
+    nested-passed _ a.before _ _ a.taken (occupancy_of a.frame.area a.taken a.occupied.now) (rw add-sub_cancel_left at c.in_ok-group.ensures) (retaken a.frame.area a.taken a.occupied.now _ _ c.check_group.new.occupied a.start a.size (omega (arith, c.requires.0.room, c.requires.0.same)) (search rules) (search rules) refl (rw add-sub_cancel_left at c.retake.ensures) c.requires.2)
 
-pub check_nested-returns-in-Refused : goal.check_nested-returns-in-Refused
-check_nested-returns-in-Refused t c = let a = c.args in stopped (λ _. []) a.before _ _ (rw add-sub_cancel_left at c.check_group-group.ensures) _ _ _ (λ _. counted 0 (occupancy_of a.frame.area a.taken a.occupied.now)) c.in-Refused.is
+pub check_rest-returns-in_err-extension : goal.check_rest-returns-in_err-extension
+check_rest-returns-in_err-extension t c = let a = c.args in rw (exits _ _ c.from_residual.ensures.1) (stopped _ a.before _ _ _ (closing (within a.bytes.now a.frame)) c.in_err-extension.ensures)
 
-pub check_rest-check_extension-extension-requires : goal.check_rest-check_extension-extension-requires
-check_rest-check_extension-extension-requires t c = (search rules, (c.requires.0, c.requires.1))
+pub check_rest-returns : goal.check_rest-returns
+check_rest-returns t c = let a = c.args in c.check_pads.ensures ∙ sym (passed _ a.before _ _ (closing (within a.bytes.now a.frame)) c.in_ok-extension.ensures)
 
-pub check_rest-check_pads-requires : goal.check_rest-check_pads-requires
-check_rest-check_pads-requires t c = (omega (arith, c.check_extension-extension.auto, c.requires.0.same), c.requires.0.small, c.requires.0.room)
-
-pub check_rest-returns-in-Counted : goal.check_rest-returns-in-Counted
-check_rest-returns-in-Counted t c = let a = c.args in c.check_pads.ensures ∙ sym (passed _ a.before _ _ c.check_extension-extension.ensures _ _ (closing (within a.bytes.now a.frame)) c.in-Counted.is)
-
-pub check_rest-returns-in-Refused : goal.check_rest-returns-in-Refused
-check_rest-returns-in-Refused t c = let a = c.args in stopped _ a.before _ _ c.check_extension-extension.ensures _ _ _ (closing (within a.bytes.now a.frame)) c.in-Refused.is
-
-pub check_value-locate-found-requires : goal.check_value-locate-found-requires
-check_value-locate-found-requires t c = let s = c in let a = s.args in let t = a.table.now in
+pub check_value-locate-requires : goal.check_value-locate-requires
+check_value-locate-requires t c = let s = c in let a = s.args in let t = a.table.now in
     let w = width-sequence (width_of t a.depth) (field_at (enums t) (drop a.field t)) (sym (c.is_sequence.ensures (enums t)) ∙ c.if-is_sequence.true) in
     (s.requires.0.same, s.requires.0.small, s.requires.0.room, omega (arith, w, s.requires.2), c.kind_width-width.ensures.1)
 
-pub check_value-overflow_add-start : goal.check_value-overflow_add-start
-check_value-overflow_add-start t c = omega (arith, c.locate-found.ensures.1.inside _ _ _ c.in-At.is)
-
-pub check_value-returns-in-Nowhere : goal.check_value-returns-in-Nowhere
-check_value-returns-in-Nowhere t c = let s = c in let a = s.args in let t = a.table.now in
+pub check_value-returns-in_err-found : goal.check_value-returns-in_err-found
+check_value-returns-in_err-found t c = let s = c in let a = s.args in let t = a.table.now in
     let k = c.kind_at-kind.ensures (enums t) in
     let w = c.kind_width-width in
-    refuses _ _ _ _ _ (sequence-nowhere _ _ _ _ _ _ _ _ k _ (w.ensures.0 (enums t) ∙ wide-kind t a.index.now s.requires.0.layout a.depth _ (rw (sym k) at s.requires.3)) (sym (c.is_sequence.ensures (enums t)) ∙ c.if-is_sequence.true) _ _ c.locate-found.ensures.0 _ _ c.in-Nowhere.is)
+    rw (exits _ _ c.from_residual.ensures.1) (refuses _ _ _ _ (sequence-nowhere _ _ _ _ _ _ _ _ k _ (w.ensures.0 (enums t) ∙ wide-kind t a.index.now s.requires.0.layout a.depth _ (rw (sym k) at s.requires.3)) (sym (c.is_sequence.ensures (enums t)) ∙ c.if-is_sequence.true) _ _ c.in_err-found.ensures.0))
 
 pub check_value-check_items-requires : goal.check_value-check_items-requires
 check_value-check_items-requires t c =
@@ -391,25 +306,13 @@ check_value-check_items-requires t c =
 pub check_value-returns : goal.check_value-returns
 check_value-returns t c = c.check_items.ensures ∙ (check-value-joined t (goal.at.check_value-returns t c).Joined-is_sequence).counts
 
-pub close_group-read_u32-requires : goal.close_group-read_u32-requires
-close_group-read_u32-requires t c = let l = c.requires.1 _ c.in-Whole.is in omega (arith, l)
-
 pub close_group-returns-then-taken-bytes : goal.close_group-returns-then-taken-bytes
 close_group-returns-then-taken-bytes t c = let a = c.args in let t = a.table.now in let R = c.requires.0 in
-    closes-dynamic t (levels_in a.frame.rules) (within a.bytes.now a.frame) _ a.frame.area _ a.before a.scope _ c.in-Whole.is _ (counts _ _ _ _ _ _ (rest_plain _ (schema t) (inner_of (ignored_in a.frame.rules) t (levels_in a.frame.rules)) a.bytes.now a.frame.base a.frame.area _ (sym c.read_u32.ensures.0 ∙ c.if-read_u32-eq0.true) ∙ closing-filled _ a.bytes.now a.frame.base a.frame.area _ (pads-none a.frame.area _ a.occupied.now a.bytes.now R.same R.room c.if-taken-bytes.true (omega (arith, c.if-taken-bytes.true, R.small)))) c.longer.ensures)
+    closes-dynamic t a.frame.levels (within a.bytes.now a.frame) _ a.frame.area _ a.before a.scope _ c.in-Whole.is _ (counts _ _ _ _ _ (rest_plain _ (schema t) (inner_of a.frame.ignored t a.frame.levels) a.bytes.now a.frame.base a.frame.area _ (sym c.read_u32.ensures.0 ∙ c.if-read_u32-ne0.false) ∙ closing-filled _ a.bytes.now a.frame.base a.frame.area _ (pads-none a.frame.area _ a.occupied.now a.bytes.now R.same R.room c.if-taken-bytes.true (omega (arith, c.if-taken-bytes.true, R.small)))) refl)
 
-pub close_group-check_pads-requires : goal.close_group-check_pads-requires
-close_group-check_pads-requires t c = let R = c.requires.0 in (R.same, R.small, R.room)
-
-pub close_group-returns-then-read_u32-eq0 : goal.close_group-returns-then-read_u32-eq0
-close_group-returns-then-read_u32-eq0 t c = let a = c.args in let t = a.table.now in
-    closes-dynamic t (levels_in a.frame.rules) (within a.bytes.now a.frame) _ a.frame.area _ a.before a.scope _ c.in-Whole.is _ (c.check_pads.ensures ∙ ap (after a.before) (sym (rest_plain _ (schema t) (inner_of (ignored_in a.frame.rules) t (levels_in a.frame.rules)) a.bytes.now a.frame.base a.frame.area _ (sym c.read_u32.ensures.0 ∙ c.if-read_u32-eq0.true))))
-
-pub close_group-check_rest-requires : goal.close_group-check_rest-requires
-close_group-check_rest-requires t c = (search rules, (c.requires.0, c.requires.1 _ c.in-Whole.is))
-
-pub close_group-returns-else-read_u32-eq0 : goal.close_group-returns-else-read_u32-eq0
-close_group-returns-else-read_u32-eq0 t c = let a = c.args in closes-dynamic a.table.now (levels_in a.frame.rules) (within a.bytes.now a.frame) _ a.frame.area _ a.before a.scope _ c.in-Whole.is _ c.check_rest.ensures
+pub close_group-returns-else-taken-bytes : goal.close_group-returns-else-taken-bytes
+close_group-returns-else-taken-bytes t c = let a = c.args in let t = a.table.now in
+    closes-dynamic t a.frame.levels (within a.bytes.now a.frame) _ a.frame.area _ a.before a.scope _ c.in-Whole.is _ (c.check_pads.ensures ∙ ap (after a.before) (sym (rest_plain _ (schema t) (inner_of a.frame.ignored t a.frame.levels) a.bytes.now a.frame.base a.frame.area _ (sym c.read_u32.ensures.0 ∙ c.if-read_u32-ne0.false))))
 
 pub close_group-returns-in-Fields : goal.close_group-returns-in-Fields
-close_group-returns-in-Fields t c = let a = c.args in closes-static a.table.now (levels_in a.frame.rules) (within a.bytes.now a.frame) _ a.frame.area _ a.before a.scope _ c.in-Fields.is _ refl (search rules)
+close_group-returns-in-Fields t c = let a = c.args in closes-static a.table.now a.frame.levels (within a.bytes.now a.frame) _ a.frame.area _ a.before a.scope _ c.in-Fields.is _ refl (search rules)

@@ -1,13 +1,19 @@
-use Rattle.std.proofs.Common.{ℕ, ◌+◌, sym, ap, ◌∙◌}
+use Rattle.std.proofs.Common.{ℕ, ◌+◌, ◌%◌, ◌^◌, sym, ap, ◌∙◌}
+use Rattle.std.proofs.lemmas.Result.{err_from_is_err_and}
 use Rattle.schema.specs.Table.{enums}
 use Rattle.schema.specs.Layout.{width_in}
 use Rattle.message.specs.Count.{failed}
 use Rattle.message.proofs.CheckAnswers.{refuses, counts}
-use Rattle.message.proofs.CheckValues.{tested-passes, tested-fails}
+use Rattle.message.proofs.CheckValues.{judged-passes, judged-fails, tested-passes, tested-fails}
 use Rattle.message.proofs.check_number.Goals as goal
 
-pub returns-then-fault-ne0 : goal.returns-then-fault-ne0
-returns-then-fault-ne0 c = λ y I S area F. let a = c.args in refuses F _ _ _ _ (tested-fails _ I S a.bytes.now a.base area a.at (F a.taken) (width_in a.index.now) (enums a.table.now) a.tested (λ z. c.if-fault-ne0.true (c.test_fault-fault.ensures ∙ z)) ∙ ap (λ (n : ℕ). failed n (a.base + a.at)) (sym c.test_fault-fault.ensures))
+pub returns-in_err-check_tested : goal.returns-in_err-check_tested
+returns-in_err-check_tested c = λ y I S area F. let a = c.args in
+    let p = err_from_is_err_and c.from_residual.result c.from_residual.ensures.1 in
+    let q = judged-fails _ _ _ c.in_err-check_tested.ensures in
+    rw (p.1, p.2) (refuses F _ _ _ (tested-fails _ I S a.bytes.now a.base area a.at (F a.taken) (width_in a.index.now) (enums a.table.now) a.tested q.0 ∙ ap (λ f. failed f.number f.place) (sym q.1)))
 
 pub returns : goal.returns
-returns c = λ y I S area F. let a = c.args in counts F _ _ _ _ _ (tested-passes _ I S a.bytes.now a.base area a.at (F a.taken) (width_in a.index.now) (enums a.table.now) a.tested (sym c.test_fault-fault.ensures ∙ c.if-fault-ne0.false) c.requires.1) (c.longer.ensures ∙ rw (c.wide.ensures.0, c.tested_width.ensures (enums a.table.now) (width_in a.index.now)))
+returns c = λ y I S area F. let a = c.args in
+    counts F _ _ _ _ (tested-passes _ I S a.bytes.now a.base area a.at (F a.taken) (width_in a.index.now) (enums a.table.now) a.tested (judged-passes _ _ c.in_ok-check_tested.ensures) c.requires.1)
+    (ap (λ (n : ℕ). (a.before + (2 + n)) % 2 ^ 64) (c.from-width.ensures ∙ c.tested_width.ensures (enums a.table.now) (width_in a.index.now)))

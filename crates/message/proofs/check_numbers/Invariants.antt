@@ -1,4 +1,4 @@
-use Rattle.std.proofs.Common.{◌≡◌, ℕ, ◌+◌, ◌-◌, ◌*◌, ◌^◌, ◌<◌, ◌≤◌, List, length}
+use Rattle.std.proofs.Common.{◌≡◌, ℕ, ◌+◌, ◌-◌, ◌*◌, ◌^◌, ◌<◌, List}
 use Rattle.schema.specs.Table.{enums}
 use Rattle.schema.specs.FieldKinds.{tested_kind}
 use Rattle.settings.specs.declared.Ignored.{Ignored}
@@ -8,9 +8,9 @@ use Rattle.message.specs.Check.{after, item_r}
 use Rattle.message.proofs.check_numbers.Given as goal
 
 abbrev pub invariant-loop-i : goal.invariant-loop-i
-invariant-loop-i l =
-    (l.i ≤ l.total) × (l.place + (l.total - l.i) * l.width ≤ length l.bytes) × (l.length < 2 ^ 64)
-    × ((y : Ignored) (I : Inner) (S : ℕ → Reader) (area : ℕ) (F : ℕ → List ℕ) → after l.before (count (items_r l.width (item_r I S (tested_kind (enums l.table) l.tested)) l.total (here y l.bytes l.base area) l.at (F l.taken))) ≡ after l.length (count (items_r l.width (item_r I S (tested_kind (enums l.table) l.tested)) (l.total - l.i) (here y l.bytes l.base area) l.place (F l.holds))))
-
-abbrev pub decreases-loop-i : goal.decreases-loop-i
-decreases-loop-i l = l.total - l.i
+invariant-loop-i l = record {
+  fits : l.step.length < 2 ^ 64;
+  counts : (y : Ignored) (I : Inner) (S : ℕ → Reader) (area : ℕ) (F : ℕ → List ℕ)
+      → after l.before (count (items_r l.width (item_r I S (tested_kind (enums l.table) l.tested)) l.total (here y l.bytes l.base area) l.at (F l.taken)))
+      ≡ after l.step.length (count (items_r l.width (item_r I S (tested_kind (enums l.table) l.tested)) (l.total - l.i) (here y l.bytes l.base area) (l.at + l.i * l.width) (F l.step.taken)));
+}

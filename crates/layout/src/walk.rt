@@ -199,10 +199,7 @@ impl Group<'_> {
         marks::put(labels, 4, 8, id);
         let total = schema::group_total(self.index);
         let number = schema::find(self.table, self.index, total, wire::read_u64(self.bytes, 4));
-        if total <= number {
-            return Err(id);
-        }
-        if !schema::allows(self.table, self.index, allowed, number) {
+        if total <= number || !schema::allows(self.table, self.index, allowed, number) {
             return Err(id);
         }
         self.lay_area(labels, outer, inner, number)

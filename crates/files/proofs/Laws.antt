@@ -30,11 +30,16 @@ last-slash s i (suc n) l h e f =
 -- A NAME AND ZEROS
 
 module _ (k m n : ℕ) (name text : List ℕ) (e : n ≡ min (length name) k) (t : text ≡ take n name) where
+  held : length (take k name) ≡ n
+  held = omega (arith, length-take k name)
+
+  cut : take n name ≡ take k name
+  cut = let j : n ≡ min k (length name) = omega arith in rw (j, take_min)
+
   filled : text ++ drop n (replicate m 0) ≡ take k name ++ replicate (m - length (take k name)) 0
   filled =
-      let l : n ≡ length (take k name) = omega (arith, length-take k name) in
-      let w : text ≡ take k name = t ∙ ap (λ (j : ℕ). take j name) (omega arith) ∙ take_min k name in
-      let z : drop {A = ℕ} n (replicate m 0) ≡ replicate (m - length (take k name)) 0 = drop-replicate n m 0 ∙ ap (λ (j : ℕ). replicate (m - j) 0) l in
+      let w : text ≡ take k name = t ∙ cut in
+      let z : drop {A = ℕ} n (replicate m 0) ≡ replicate (m - length (take k name)) 0 = rw (drop-replicate, held) in
       rw (w, z)
 
   filled-last : k < m → get_or (text ++ drop n (replicate m 0)) k 1 ≡ 0

@@ -1,3 +1,2 @@
 pub mod Identities
 pub mod Paths
-pub mod Loads

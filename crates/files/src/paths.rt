@@ -1,9 +1,9 @@
-// Names of files, as bytes. A name that is made stands at the start of a room; where it does not fit, the whole room is taken for it, and
-// a room of 4096 bytes is then refused as too long a name.
-ghost use Rattle.std.specs.Prelude.{◌≡◌, ◌++◌, ◌≤◌, length, take};
-ghost use Rattle.io.specs.Counts.{IsPrefixLen};
-ghost use Rattle.files.specs.Paths.{Ended, is_dash, has_zero, is_path, ended_of, directory_in, is_rooted, start_of, joined, fitting, short_name};
+// Names of files, as bytes.
+ghost use Rattle.std.specs.Prelude.{◌≡◌, ◌≢◌, ℕ, ◌<◌, ◌≤◌, EachIndex, IfOk, IfSome, IsNone, length, slice_index};
+ghost use Rattle.std.specs.Fmt.{decimal};
+ghost use Rattle.files.specs.Paths.{Ended, is_dash, is_path, ended_of, directory_in, is_rooted, start_of, joined, short_name};
 
+use std::alloc::{AllocError, Global};
 use std::io::Error;
 
 const PATH_MAX: usize = 4096;
@@ -16,38 +16,14 @@ const SLASH: u8 = b'/';
 pub fn is_dash(name: &[u8]) -> bool
     ensures { result ≡ is_dash name.now }
 {
-    if name.len() != 1 {
-        return false;
-    }
-    name[0] == b'-'
-}
-
-fn has_zero(name: &[u8]) -> bool
-    ensures { result ≡ has_zero name.now }
-{
-    let mut i = 0;
-    while i < name.len() {
-        if name[i] == 0 {
-            return true;
-        }
-        i += 1;
-    }
-    false
+    name.len() == 1 && name[0] == b'-'
 }
 
 // Whether C can be handed all of a name.
 pub fn is_path(name: &[u8]) -> bool
     ensures { result ≡ is_path name.now }
 {
-    if PATH_MAX <= name.len() {
-        return false;
-    }
-    !has_zero(name)
-}
-
-// The same.
-pub fn is_taken(name: &[u8]) -> bool {
-    is_path(name)
+    name.len() < PATH_MAX && !name.contains(&0)
 }
 
 // What the system says of too long a name, and of bytes that are no text.
@@ -61,58 +37,49 @@ pub fn text(name: &[u8]) -> Result<&str, Error> {
     if PATH_MAX <= name.len() {
         return Err(Error::from_raw_os_error(TOO_LONG));
     }
-    match std::str::from_utf8(name) {
-        Ok(text) => Ok(text),
-        Err(_) => Err(no_text()),
-    }
+    std::str::from_utf8(name).map_err(|_| no_text())
 }
 
 pub fn no_text() -> Error {
     Error::from_raw_os_error(NO_TEXT)
 }
 
-// As much of a name as leaves room for a 0.
-fn cut(name: &[u8]) -> &[u8]
-    ensures { (result.now ≡ take 4095 name.now) × (length result.now ≤ 4095) }
-{
-    if LAST < name.len() {
-        return &name[0..LAST];
-    }
-    name
-}
-
-// The same, and then zeros.
+// As much of a name as leaves room for a 0, and then zeros.
 pub fn ended(name: &[u8]) -> [u8; PATH_MAX]
     ensures value { result ≡ ended_of name.now }
     ensures ended { Ended result }
 {
-    let text = cut(name);
+    let n = name.len().min(LAST);
     let mut path = [0u8; PATH_MAX];
-    wire::copy(&mut path, 0, text, 0, text.len());
+    path[..n].copy_from_slice(&name[..n]);
     path
 }
 
-// How many bytes of a name are its directory, with the slash at its end.
+// Where the last slash of a name is.
+fn last_slash(name: &[u8]) -> Option<usize>
+    ensures none { IsNone result → EachIndex name.now (λ k. slice_index name.now k ≢ 47) }
+    ensures slash { IfSome result (λ i. slice_index name.now i ≡ 47) }
+    ensures last { IfSome result (λ i. (k : ℕ) → i < k → k < length name.now → slice_index name.now k ≢ 47) }
+    ensures within { IfSome result (λ i. i < length name.now) }
+{
+    name.iter().rposition(|b| *b == SLASH)
+}
+
+// How many bytes of a name are its directory, with the slash at its end. `Path::parent` would leave out a slash that the name has twice
+// or at its end.
 pub fn directory(name: &[u8]) -> usize
     ensures { (result ≡ directory_in name.now (length name.now)) × (result ≤ length name.now) }
 {
-    let mut i = name.len();
-    while 0 < i {
-        if name[i - 1] == SLASH {
-            return i;
-        }
-        i -= 1;
+    match last_slash(name) {
+        Some(i) => i + 1,
+        None => 0,
     }
-    0
 }
 
 fn is_rooted(name: &[u8]) -> bool
     ensures { result ≡ is_rooted name.now }
 {
-    if name.len() == 0 {
-        return false;
-    }
-    name[0] == SLASH
+    matches!(name, [SLASH, ..])
 }
 
 // Where a target goes in the name that it is seen from: to the start where it counts from the root, else behind the directory.
@@ -125,35 +92,22 @@ fn start(name: &[u8], target: &[u8]) -> usize
     directory(name)
 }
 
-// The room's first n bytes and the text behind them.
-pub fn append(room: &mut [u8], n: usize, text: &[u8]) -> usize
-    requires { n ≤ length room.old }
-    ensures { (take result room.new ≡ fitting (take n room.old ++ text.now) room.old) × (IsPrefixLen result room.new) }
+// The name of a target that is seen from this one, as the text of a link is, or the name of a file beside it.
+pub fn join(alloc: Global, name: &[u8], target: &[u8]) -> Result<Vec<u8>, AllocError>
+    ensures { IfOk result (λ path. path.items ≡ joined name.now target.now) }
 {
-    if room.len() - n < text.len() {
-        return room.len();
-    }
-    wire::copy(room, n, text, 0, text.len());
-    n + text.len()
+    let at = start(name, target);
+    let mut path = name[..at].to_vec(alloc)?;
+    path.extend_from_slice(target)?;
+    Ok(path)
 }
 
-// The name of n bytes becomes that of a target which is seen from it, as the text of a link is, or the name of a file beside it.
-pub fn join(room: &mut [u8], n: usize, target: &[u8]) -> usize
-    requires { n ≤ length room.old }
-    ensures { (take result room.new ≡ fitting (joined (take n room.old) target.now) room.old) × (IsPrefixLen result room.new) }
+// The name of a new file, of the process's number and a letter.
+pub fn short_name(alloc: Global, process: u32, letter: u8) -> Result<Vec<u8>, AllocError>
+    ensures { IfOk result (λ name. name.items ≡ short_name (decimal process) letter) }
 {
-    let at = start(&room[0..n], target);
-    append(room, at, target)
-}
-
-// The name of a new file, of the process's number and a letter. A number has at most 20 digits.
-pub fn short_name(room: &mut [u8; 64], number: &[u8], letter: u8) -> usize
-    ensures { (take result room.new ≡ short_name number.now letter) × (IsPrefixLen result room.new) }
-{
-    if 20 < number.len() {
-        return 0;
-    }
-    let behind = append(room, 0, b".blink-");
-    let behind = append(room, behind, number);
-    append(room, behind, &[letter, b'.', b'n', b'e', b'w'])
+    let mut name = format!(in alloc; ".blink-{process}")?.into_bytes();
+    name.push(letter)?;
+    name.extend_from_slice(b".new")?;
+    Ok(name)
 }

@@ -1,2 +1,1 @@
 pub mod Label
-pub mod Walk

@@ -4,9 +4,11 @@
 // item's number (65536), and the path (2^31). The path has the numbers of the fields that lead to the field through static groups, each
 // plus one, in base 65; the group's own field comes first, and 0 ends it.
 ghost use Rattle.std.specs.Prelude.{◌≡◌, ◌+◌, ◌*◌, ◌%◌, ◌<◌, ◌≤◌};
-ghost use Rattle.layout.specs.Label.{kind_of, begins_of, type_of, level_of, owner_of, item_of, unit, number_of, above, packed};
+ghost use Rattle.layout.specs.Label.{kind_of, begins_of, type_of, level_of, owner_of, item_of, unit, number_of, above};
 
 // THE KINDS
+
+// Numbers: a kind is a digit of a label and is read back as one, for which an enum would need a table of the sixteen.
 
 // A group's size word, its type id, and the offset of its extension. The size word of a group in another has the path to the field that
 // holds it, and the level of that field.
@@ -101,14 +103,7 @@ pub fn item_of(label: u64) -> usize
 fn unit(k: usize) -> usize
     ensures { (result ≡ unit k) × (0 < result) × (result ≤ 1160290625) }
 {
-    match k {
-        0 => 1,
-        1 => 65,
-        2 => 4225,
-        3 => 274625,
-        4 => 17850625,
-        _ => 1160290625,
-    }
+    65usize.pow(k.min(5) as u32)
 }
 
 // The number of the field with place k on the path, from 0 on, plus one. 0 where the path is not so long.
@@ -131,17 +126,30 @@ pub struct Spot {
     pub path: usize,
 }
 
-// That of a group with no field yet.
-pub fn in_group(area: usize, levels: usize) -> Spot
-    ensures { result.levels ≡ levels }
-{
-    Spot {
-        area,
-        levels,
-        number: 0,
-        owner: 0,
-        item: 0,
-        path: 0,
+impl Spot {
+    ghost use Rattle.layout.specs.Label.{packed};
+
+    // That of a group with no field yet.
+    pub fn in_group(area: usize, levels: usize) -> Spot
+        ensures { result.levels ≡ levels }
+    {
+        Spot {
+            area,
+            levels,
+            number: 0,
+            owner: 0,
+            item: 0,
+            path: 0,
+        }
+    }
+
+    // The label of a byte that begins no run.
+    pub fn label(self, kind: usize) -> u64
+        ensures { result ≡ packed kind self }
+    {
+        let about = kind % 32 + 64 * (self.number % 32) + 2048 * levels_above(self.levels);
+        let item = 16384 * (self.owner % 8) + 131072 * (self.item % 65536);
+        (about + item + 8589934592 * (self.path % 2147483648)) as u64
     }
 }
 
@@ -149,19 +157,7 @@ pub fn in_group(area: usize, levels: usize) -> Spot
 fn levels_above(levels: usize) -> usize
     ensures { (result ≡ above levels) × (result < 8) }
 {
-    if levels < 8 {
-        return 7 - levels;
-    }
-    0
-}
-
-// The label of a byte that begins no run.
-pub fn label(kind: usize, spot: Spot) -> u64
-    ensures { result ≡ packed kind spot }
-{
-    let about = kind % 32 + 64 * (spot.number % 32) + 2048 * levels_above(spot.levels);
-    let item = 16384 * (spot.owner % 8) + 131072 * (spot.item % 65536);
-    (about + item + 8589934592 * (spot.path % 2147483648)) as u64
+    7usize.saturating_sub(levels)
 }
 
 // A path that is `steps` long with one more number.

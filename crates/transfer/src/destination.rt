@@ -46,11 +46,8 @@ fn identify(rt: &HostRuntime, i: usize) -> Result<Identity, Error> {
 }
 
 // The same, where it does not matter why it cannot be told.
-fn find(rt: &HostRuntime, i: usize) -> Identity {
-    match identify(rt, i) {
-        Ok(of) => of,
-        Err(_) => identity::unknown(),
-    }
+fn find(rt: &HostRuntime, i: usize) -> Option<Identity> {
+    identify(rt, i).ok()
 }
 
 // `-` is standard output, and so is every name that leads to it: written beside an answer, the two would be mixed up.
@@ -84,7 +81,7 @@ pub fn read_old(rt: &HostRuntime, room: &mut [u8]) -> Input {
 }
 
 // Whether OUT is this file. Standard error then says so.
-fn is_spared(rt: &HostRuntime, out: Identity, of: Identity, reason: &[u8]) -> bool {
+fn is_spared(rt: &HostRuntime, out: Option<Identity>, of: Option<Identity>, reason: &[u8]) -> bool {
     if identity::is_same(out, of) {
         named::complain_of(rt, arguments::plain(rt, command::OUT), reason);
         return true;
@@ -92,12 +89,12 @@ fn is_spared(rt: &HostRuntime, out: Identity, of: Identity, reason: &[u8]) -> bo
     false
 }
 
-fn is_table_or_store(rt: &HostRuntime, out: Identity, table: Identity, store: Identity) -> bool {
+fn is_table_or_store(rt: &HostRuntime, out: Option<Identity>, table: Option<Identity>, store: Option<Identity>) -> bool {
     is_spared(rt, out, table, b"is the table, which stays")
         || is_spared(rt, out, store, b"is the settings store, which stays")
 }
 
-fn is_read(rt: &HostRuntime, out: Identity, read: Identity) -> bool {
+fn is_read(rt: &HostRuntime, out: Option<Identity>, read: Option<Identity>) -> bool {
     is_spared(rt, out, read, b"is the file that is read, which stays")
 }
 
@@ -105,9 +102,9 @@ fn is_read(rt: &HostRuntime, out: Identity, read: Identity) -> bool {
 pub fn is_taken(
     rt: &HostRuntime,
     question: Question,
-    table: Identity,
-    store: Identity,
-    read: Identity,
+    table: Option<Identity>,
+    store: Option<Identity>,
+    read: Option<Identity>,
 ) -> bool {
     if !writes(question) {
         return false;
@@ -123,7 +120,7 @@ pub fn is_taken(
 }
 
 // The same of a ledger, which is none of them.
-pub fn is_input(rt: &HostRuntime, table: Identity, store: Identity, tape: Identity) -> bool {
+pub fn is_input(rt: &HostRuntime, table: Option<Identity>, store: Option<Identity>, tape: Option<Identity>) -> bool {
     let out = find(rt, arguments::plain(rt, command::OUT));
     is_table_or_store(rt, out, table, store) || is_read(rt, out, tape)
 }

@@ -1,7 +1,7 @@
 // Files that an argument names, read into their rooms.
 use crate::named;
 use files::identity::Identity;
-use files::loading::{Loaded, Source};
+use files::loading::Source;
 use files::{identity, loading, report};
 
 // A file at the start of its room. Where it could not be read, standard error has said why.
@@ -9,10 +9,10 @@ use files::{identity, loading, report};
 pub struct Input {
     pub is_read: bool,
     pub length: usize,
-    pub of: Identity,
+    pub of: Option<Identity>,
 }
 
-fn unread(of: Identity) -> Input {
+fn unread(of: Option<Identity>) -> Input {
     Input {
         is_read: false,
         length: 0,
@@ -25,19 +25,19 @@ pub fn none() -> Input {
     Input {
         is_read: true,
         length: 0,
-        of: identity::unknown(),
+        of: None,
     }
 }
 
 fn read_open(rt: &HostRuntime, mut source: Source, name: &[u8], room: &mut [u8]) -> Input {
     let of = identity::of_open(rt, &source);
     match loading::load(rt, &mut source, room) {
-        Loaded::Bytes(length) => Input {
+        Ok(length) => Input {
             is_read: true,
             length,
             of,
         },
-        Loaded::Failed(error) => {
+        Err(error) => {
             report::fail(rt, name, error);
             unread(of)
         }
@@ -49,7 +49,7 @@ fn read_named(rt: &HostRuntime, name: &[u8], room: &mut [u8]) -> Input {
         Ok(source) => read_open(rt, source, name, room),
         Err(error) => {
             report::fail(rt, name, error);
-            unread(identity::unknown())
+            unread(None)
         }
     }
 }
@@ -62,7 +62,7 @@ pub fn read(rt: &HostRuntime, i: usize, room: &mut [u8]) -> Input {
         Ok(n) => read_named(rt, &name[..n], room),
         Err(error) => {
             report::fail(rt, b"argument", error);
-            unread(identity::unknown())
+            unread(None)
         }
     }
 }

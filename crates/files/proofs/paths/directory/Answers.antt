@@ -1,14 +1,12 @@
-use mathlib.Core.Path.{sym, ◌∙◌}
+use mathlib.Core.Path.{refl, sym}
 use native.Mathlib.Omega.{arith}
-use borrow.Author.Rules.{rules}
-use Rattle.files.proofs.Laws.{slash-here, slash-before, slash-none}
+use Rattle.files.proofs.Laws.{no-slash, last-slash}
 use Rattle.files.proofs.paths.directory.Goals as goal
 
-pub returns-then-name-i-eq-SLASH : goal.returns-then-name-i-eq-SLASH
-returns-then-name-i-eq-SLASH c = (sym (c.loop-i.invariant.1 ∙ slash-here c.args.name.now _ c.loop-i-test.true c.if-name-i-eq-SLASH.true), c.loop-i.invariant.0)
+pub returns-in-Some : goal.returns-in-Some
+returns-in-Some c =
+    let e = c.in-Some.ensures in
+    (sym (last-slash _ _ _ e.within (omega arith) e.slash e.last), omega (arith, e.within))
 
-pub loop-i-preserved : goal.loop-i-preserved
-loop-i-preserved c = (search rules, c.loop-i.invariant.1 ∙ slash-before c.args.name.now _ c.loop-i-test.true c.if-name-i-eq-SLASH.false)
-
-pub returns : goal.returns
-returns c = (sym (c.loop-i.invariant.1 ∙ slash-none c.args.name.now _ (omega arith)), search rules)
+pub returns-in-None : goal.returns-in-None
+returns-in-None c = (sym (no-slash _ _ (omega arith) (c.in-None.ensures.none refl)), omega arith)

@@ -1,12 +1,13 @@
-use borrow.Author.Tests.{lt-ltb, le-ltb}
+use Prim.Native.Nat.{ℕ, ◌-◌}
+use mathlib.Core.Path.{◌≡◌}
+use native.Mathlib.Omega.{arith}
+use Rattle.std.proofs.lemmas.Bool.Decides.{nat_tests}
 use Rattle.layout.specs.Label.{above}
-use borrow.Author.Rules.{rules}
 use Rattle.layout.proofs.label.levels_above.Goals as goal
 
-pub returns-then-levels-lt8 : goal.returns-then-levels-lt8
+above-sub : (n : ℕ) → above n ≡ 7 - n
 unfolding above
-returns-then-levels-lt8 c = (simp (lt-ltb _ _ c.if-levels-lt8.true, above), search rules)
+above-sub n = grind (arith, nat_tests)
 
 pub returns : goal.returns
-unfolding above
-returns c = (simp (le-ltb _ _ c.if-levels-lt8.false, above), search rules)
+returns c = grind (arith, above-sub)

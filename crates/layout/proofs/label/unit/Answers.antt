@@ -1,31 +1,18 @@
-use native.Mathlib.Nat.{min-eq_right}
+use Prim.Native.Nat.{ℕ, ◌≤◌, ◌^◌}
+use mathlib.Core.Path.{ap, ◌∙◌}
 use native.Mathlib.Omega.{arith}
-use Prim.Native.Nat.{ℕ, min, ◌≤◌, ◌^◌}
-use mathlib.Core.Path.{◌≡◌, ap, sym}
+use native.Mathlib.Nat.{pow-le-pow_right, one-le-pow}
 use Rattle.layout.specs.Label.{unit}
-use borrow.Author.Rules.{rules}
 use Rattle.layout.proofs.label.unit.Goals as goal
 
-pub returns-in-0 : goal.returns-in-0
-unfolding unit
-returns-in-0 c = (rw c.in-0.is, search rules, search rules)
+at-most : (n : ℕ) → n ≤ 5 → 65 ^ n ≤ 1160290625
+at-most n h = pow-le-pow_right {n = 65} (omega arith) {i = n} {j = 5} h
 
-pub returns-in-1 : goal.returns-in-1
-unfolding unit
-returns-in-1 c = (rw c.in-1.is, search rules, search rules)
+pub pow-requires : goal.pow-requires
+pow-requires c = omega (arith, at-most c.min.result (omega arith))
 
-pub returns-in-2 : goal.returns-in-2
+pub returns : goal.returns
 unfolding unit
-returns-in-2 c = (rw c.in-2.is, search rules, search rules)
-
-pub returns-in-3 : goal.returns-in-3
-unfolding unit
-returns-in-3 c = (rw c.in-3.is, search rules, search rules)
-
-pub returns-in-4 : goal.returns-in-4
-unfolding unit
-returns-in-4 c = (rw c.in-4.is, search rules, search rules)
-
-pub returns-in_default : goal.returns-in_default
-unfolding unit
-returns-in_default c = let h : 5 ≤ c.args.k = omega arith in (sym (ap (λ (n : ℕ). 65 ^ n) (min-eq_right h)), search rules, search rules)
+returns c =
+    let e = c.pow.ensures in
+    (e ∙ ap (λ (n : ℕ). 65 ^ n) (omega arith), omega (arith, e, one-le-pow c.min.result 65 (omega arith)), omega (arith, e, at-most c.min.result (omega arith)))

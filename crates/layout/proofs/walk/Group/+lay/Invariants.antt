@@ -1,13 +1,7 @@
-use Rattle.layout.proofs.Laws.{still}
-use Prim.Native.Nat.{◌+◌, ◌-◌, ◌*◌, ◌≤◌}
+use Prim.Native.Nat.{◌+◌, ◌*◌, ◌≤◌}
 use mathlib.Core.Path.{◌≡◌}
-use native.Mathlib.Omega.{arith}
 use lib.ListN.{length}
-use Prim.Native.Nat.{ℕ, ◌<◌}
-use Rattle.layout.proofs.walk.+lay.Given as goal
-
-abbrev pub decreases-lay_body : goal.decreases-lay_body
-decreases-lay_body l = 100 * l.spot.levels + 90
+use Rattle.layout.proofs.walk.Group.+lay.Given as goal
 
 abbrev pub decreases-lay_dynamic : goal.decreases-lay_dynamic
 decreases-lay_dynamic l = 100 * l.spot.levels + 1
@@ -36,11 +30,5 @@ decreases-lay_value l = 100 * l.spot.levels + 10 * l.depth + 18
 abbrev pub invariant-lay_fields-loop-i : goal.invariant-lay_fields-loop-i
 invariant-lay_fields-loop-i l = (length l.labels ≡ length l.initial.labels) × (l.place ≤ 65540)
 
-abbrev pub decreases-lay_fields-loop-i : goal.decreases-lay_fields-loop-i
-decreases-lay_fields-loop-i l = l.total - l.i
-
 abbrev pub invariant-lay_items-loop-i : goal.invariant-lay_items-loop-i
 invariant-lay_items-loop-i l = (length l.labels ≡ length l.initial.labels) × (l.place ≤ 65540)
-
-abbrev pub decreases-lay_items-loop-i : goal.decreases-lay_items-loop-i
-decreases-lay_items-loop-i l = l.total - l.i

@@ -1,6 +1,6 @@
 use native.Mathlib.Omega.{arith}
 use Rattle.layout.specs.Label.{packed}
-use Rattle.layout.proofs.label.label.Goals as goal
+use Rattle.layout.proofs.label.Spot.label.Goals as goal
 
 pub returns : goal.returns
 unfolding packed

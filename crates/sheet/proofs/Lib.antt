@@ -10,4 +10,5 @@ pub mod Packed
 pub mod RoundTrip
 pub mod ShowLaws
 pub mod ShowReaders
+pub mod Loops
 pub mod Numbered

@@ -5,13 +5,13 @@ use mathlib.Core.Bool.{Bool, true, false}
 use mathlib.Core.List.{List, [], ◌∷◌, ◌++◌, append-nil, append_assoc}
 use native.Mathlib.Omega.{arith}
 use native.Mathlib.Nat.{mul-one, sub-zero}
-use lib.ListN.{length, drop, replicate, length-append}
+use lib.ListN.{length, replicate, length-append}
 use borrow.Author.Tests.{leb-true, ltb-true, eq-eqb, ne_eqb}
 use Rattle.wire.specs.Bytes.{part, splice, bytes_of, le}
 use Rattle.wire.proofs.Laws.{length-bytes, length_part}
 use Rattle.schema.specs.Faults.{need}
-use Rattle.schema.specs.Schema.{Test, Kind, any, Field, Group, kind_width, field_width, width, shallow, find, known}
-use Rattle.schema.specs.Table.{field_at, fields_at, schema}
+use Rattle.schema.specs.Schema.{Test, Kind, any, Field, Group, kind_width, width, shallow, find, known}
+use Rattle.schema.specs.Table.{schema}
 use Rattle.schema.specs.Layout.{Layout}
 use Rattle.schema.specs.FieldKinds.{kind_from, tested_kind, plain_field}
 use Rattle.schema.specs.declared.FieldKind.{FieldKind}
@@ -19,18 +19,17 @@ use Rattle.schema.specs.declared.FieldKind.TheVariants.{Plain, Number, Inline, I
 use Rattle.schema.specs.declared.Tested.{Tested}
 use Rattle.schema.specs.declared.Scope.{Scope}
 use Rattle.schema.specs.declared.Scope.TheVariants.{Whole, Fields}
-use Rattle.schema.proofs.Records.{fields-more, fields-none}
 use Rattle.message.specs.Occupancy.{occupy}
 use Rattle.message.specs.Sheet.{Mark, VA, ST, SG, SQ, GB, XT, XU, mark_bytes, NO, GE, kind_mark, field_mark}
 use Rattle.settings.specs.Store.{lax}
-use Rattle.message.specs.Walk.{Reading, refused, done, prefixed, next, Here, here, Reader, Inner, byte, word, Place, lost, locate, onward, none_r, then_r, marked_r, optional_r, plain_r, inline_r, indirect_r, text_r, inner_r, items_r, list_r, kind_r, value_r, field_r, fields_r, extending_r, groups_r, extension_r, extension_in, behind_r, padded, body_r, head_r, group_r, walk}
+use Rattle.message.specs.Walk.{Reading, refused, done, prefixed, next, Here, here, Reader, Inner, byte, word, Place, lost, locate, onward, marked_r, optional_r, plain_r, inline_r, indirect_r, text_r, inner_r, items_r, list_r, kind_r, value_r, field_r, extending_r, groups_r, extension_r, extension_in, behind_r, padded, body_r, head_r, group_r, walk}
 use Rattle.message.specs.Check.{item_r, marked_value_r, inner_of, width_of, static_of}
-use Rattle.message.proofs.Count.{length-mark, items-one}
+use Rattle.message.proofs.Count.{length-mark}
 use Rattle.message.proofs.CheckFields.{field-required, field-optional, field-there, value-one}
 use Rattle.message.specs.Scopes.{Lies}
-use Rattle.sheet.specs.Show.{Passage, passage, whole, just, then, extension_of, group_of, takes, head_of, number_of, id_of, end_of, Reads, Fits, Shown}
+use Rattle.sheet.specs.Show.{Passage, passage, whole, just, then, extension_of, group_of, takes, head_of, number_of, id_of, end_of, Reads, Fits}
 use Rattle.sheet.proofs.Writers.{tested-plain}
-use Rattle.sheet.proofs.ShowLaws.{need-done, next-done, Opens, alike, Left, shown-none, shown-opens, opened, first_fits, called, written}
+use Rattle.sheet.proofs.ShowLaws.{need-done, next-done, Opens, alike, written}
 
 -- THE MARKS, AS THE CODE HAS THEM
 
@@ -195,57 +194,7 @@ inline-written n pos x out m₁ m₂ m₃ e f g h =
     let k : length (mark_bytes ST ++ bytes_of 4 n) ≡ 6 = length-append (mark_bytes ST) (bytes_of 4 n) ∙ rw (length-mark ST, length-bytes 4 n) in
     written 6 n pos (mark_bytes ST ++ bytes_of 4 n) x out m₂ m₃ u g k (omega arith) ∙ rw (append_assoc (mark_bytes ST) (bytes_of 4 n) x)
 
--- ITEMS AND FIELDS, ONE BY ONE
-
-module _ (w : ℕ) (R : Reader) (b : List ℕ) (n i at : ℕ) where
-  pub items-turn : i < n → Opens (passage (items_r w R (n - i)) b at) (then (passage R b at) (passage (items_r w R (n - (i + 1))) b (at + w)))
-  unfolding items_r
-  items-turn l = let e : n - i ≡ suc (n - (i + 1)) = omega arith in rw e (λ s r. r)
-
-  pub items-end : n ≤ i → Opens (passage (items_r w R (n - i)) b at) (just [])
-  unfolding items_r none_r
-  items-end l = let e : n - i ≡ 0 = omega arith in rw e (λ s r. r)
-
-module _ (I : Inner) (sw : ℕ → ℕ) (S : ℕ → Reader) (es : List (List ℕ)) (t b : List ℕ) (n i q at : ℕ) where
-  pub fields-turn : (w : ℕ) → w ≡ field_width sw (field_at es (drop q t)) → i < n
-      → Opens (passage (fields_r I sw S (fields_at es (n - i) (drop q t))) b at)
-      (then (passage (field_r I sw S (field_at es (drop q t))) b at) (passage (fields_r I sw S (fields_at es (n - (i + 1)) (drop (q + 16) t))) b (at + w)))
-  unfolding fields_r then_r
-  fields-turn w e l = rw (fields-more es t q n i l, e) (λ s r. r)
-
-  pub fields-end : n ≤ i → Opens (passage (fields_r I sw S (fields_at es (n - i) (drop q t))) b at) (just [])
-  unfolding fields_r none_r
-  fields-end l = rw (fields-none es t q n i l) (λ s r. r)
-
--- one turn of each loop, and its end
-module _ (F : Passage) (pos₀ : ℕ) (out₀ : List ℕ) (b : List ℕ) (n i at pos : ℕ) (out : List ℕ) where
-  module _ (w : ℕ) (R : Reader) (L : Left F pos₀ out₀ (passage (items_r w R (n - i)) b at) pos out) where
-    items-two : i < n → Left F pos₀ out₀ (then (passage R b at) (passage (items_r w R (n - (i + 1))) b (at + w))) pos out
-    items-two l = opened F pos₀ out₀ _ _ pos out (items-turn w R b n i at l) L
-
-    pub item-fits : i < n → Fits (passage R b at) pos out
-    item-fits l = first_fits F pos₀ out₀ _ _ pos out (items-two l)
-
-    pub items-next : (mid : List ℕ) (p : ℕ) → i < n → Shown (passage R b at) pos out mid p → Left F pos₀ out₀ (passage (items_r w R (n - (i + 1))) b (at + w)) p mid
-    items-next mid p l v = called F pos₀ out₀ _ _ pos out (items-two l) mid p v
-
-    pub items-done : n ≤ i → Shown F pos₀ out₀ out pos
-    items-done l = L.whole out pos (shown-opens _ _ pos out out pos (items-end w R b n i at l) (shown-none pos out))
-
-  module _ (I : Inner) (sw : ℕ → ℕ) (S : ℕ → Reader) (es : List (List ℕ)) (t : List ℕ) (q : ℕ) (L : Left F pos₀ out₀ (passage (fields_r I sw S (fields_at es (n - i) (drop q t))) b at) pos out) where
-    fields-two : (w : ℕ) → w ≡ field_width sw (field_at es (drop q t)) → i < n
-        → Left F pos₀ out₀ (then (passage (field_r I sw S (field_at es (drop q t))) b at) (passage (fields_r I sw S (fields_at es (n - (i + 1)) (drop (q + 16) t))) b (at + w))) pos out
-    fields-two w e l = opened F pos₀ out₀ _ _ pos out (fields-turn I sw S es t b n i q at w e l) L
-
-    pub field_fits : i < n → Fits (passage (field_r I sw S (field_at es (drop q t))) b at) pos out
-    field_fits l = first_fits F pos₀ out₀ _ _ pos out (fields-two _ refl l)
-
-    pub fields-next : (mid : List ℕ) (p w : ℕ) → w ≡ field_width sw (field_at es (drop q t)) → i < n → Shown (passage (field_r I sw S (field_at es (drop q t))) b at) pos out mid p
-        → Left F pos₀ out₀ (passage (fields_r I sw S (fields_at es (n - (i + 1)) (drop (q + 16) t))) b (at + w)) p mid
-    fields-next mid p w e l v = called F pos₀ out₀ _ _ pos out (fields-two w e l) mid p v
-
-    pub fields-done : n ≤ i → Shown F pos₀ out₀ out pos
-    fields-done l = L.whole out pos (shown-opens _ _ pos out out pos (fields-end I sw S es t b n i q at l) (shown-none pos out))
+-- FIELDS
 
 module _ (I : Inner) (sw : ℕ → ℕ) (S : ℕ → Reader) (f : Field) (b : List ℕ) (at : ℕ) where
   -- a required value without a test
@@ -269,8 +218,8 @@ module _ (I : Inner) (sw : ℕ → ℕ) (S : ℕ → Reader) (f : Field) (b : Li
   field-always o = alike _ _ (λ base area m. field-required I sw S f (here lax b base area) at m o)
 
   module _ (x : Kind) (ix : x ≡ f.kind) where
-    pub value-item : f.sequence ≡ false → (w : ℕ) → Opens (passage (marked_value_r I sw S f) b at) (passage (items_r w (item_r I S x) 1) b at)
-    value-item e w = alike _ _ (λ base area m. let h = here lax b base area in value-one I sw S f h at m x ix e ∙ sym (items-one h at m w (item_r I S x)))
+    pub value-item : f.sequence ≡ false → Opens (passage (marked_value_r I sw S f) b at) (passage (item_r I S x) b at)
+    value-item e = alike _ _ (λ base area m. value-one I sw S f (here lax b base area) at m x ix e)
 
     module _ (e : f.sequence ≡ true) (w : ℕ) (iw : w ≡ kind_width sw x) where
       value-list : Opens (passage (marked_value_r I sw S f) b at) (passage (marked_r SQ (indirect_r 13 w (list_r w (item_r I S x)))) b at)

@@ -19,6 +19,8 @@ ghost use Rattle.message.specs.Check.{width_of, static_of};
 ghost use Rattle.message.specs.Scopes.{Lies};
 ghost use Rattle.sheet.specs.Show.{passage, takes, head_of, id_of, number_of, end_of, group_of, plain_of, item_of, value_of, field_of, nested_of, extension_of, extending_of, Fits, Shown};
 
+use schema::{FieldKind, Scope};
+
 // "a two-byte mark before each record"
 pub const VA: [u8; 2] = *b"VA";
 
@@ -64,7 +66,7 @@ fn show_inline(bytes: &[u8], at: usize, out: &mut [u8], pos: usize) -> usize
     requires { (at + 1 + byte at bytes.now ≤ length bytes.now) × (pos + (6 + byte at bytes.now) ≤ length out.old) }
     ensures { (out.new ≡ splice (6 + byte at bytes.now) pos (mark_bytes StringMark ++ (bytes_of 4 (byte at bytes.now) ++ part (byte at bytes.now) (at + 1) bytes.now)) out.old) × (result ≡ pos + (6 + byte at bytes.now)) }
 {
-    let count = wire::wide(bytes[at]);
+    let count = usize::from(bytes[at]);
     wire::write_mark(out, pos, ST);
     wire::write_u32(out, pos + 2, count);
     wire::copy(out, pos + 6, bytes, at + 1, count);
@@ -83,13 +85,11 @@ fn show_plain(
     requires { (at + total * width ≤ length bytes.now) × (Fits (passage (items_r width (plain_of width) total) bytes.now at) pos out.old) }
     ensures { Shown (passage (items_r width (plain_of width) total) bytes.now at) pos out.old out.new result }
 {
-    let mut i = 0;
     let mut place = at;
     let mut next = pos;
-    while i < total {
+    for _ in 0..total {
         next = show_bytes(VA, bytes, place, width, out, next);
         place += width;
-        i += 1;
     }
     next
 }
@@ -110,7 +110,7 @@ fn open_group(
     index: &[u16],
     bytes: &[u8],
     levels: usize,
-    scope: schema::Scope,
+    scope: Scope,
     out: &mut [u8],
     pos: usize,
 ) -> Opened
@@ -118,7 +118,7 @@ fn open_group(
     ensures { (result.group ≡ number_of table.now scope bytes.now) × (result.levels ≡ levels - takes scope) × (out.new ≡ splice (length (id_of scope bytes.now)) pos (id_of scope bytes.now) out.old) × (result.pos ≡ pos + length (id_of scope bytes.now)) }
 {
     match scope {
-        schema::Scope::Whole { allowed } => {
+        Scope::Whole { .. } => {
             let total = schema::group_total(index);
             let group = schema::find(table, index, total, wire::read_u64(bytes, 4));
             wire::copy_value(out, pos, bytes, 4, 8);
@@ -128,7 +128,7 @@ fn open_group(
                 pos: pos + 8,
             }
         }
-        schema::Scope::Fields { group } => Opened { group, levels, pos },
+        Scope::Fields { group } => Opened { group, levels, pos },
     }
 }
 
@@ -141,7 +141,7 @@ fn show_group(
     bytes: &[u8],
     levels: usize,
     depth: usize,
-    scope: schema::Scope,
+    scope: Scope,
     at: usize,
     out: &mut [u8],
     pos: usize,
@@ -171,7 +171,7 @@ fn close_group(
     index: &[u16],
     bytes: &[u8],
     levels: usize,
-    scope: schema::Scope,
+    scope: Scope,
     out: &mut [u8],
     pos: usize,
 ) -> usize
@@ -179,11 +179,11 @@ fn close_group(
     ensures { Shown (end_of table.now levels scope bytes.now) pos out.old out.new result }
 {
     match scope {
-        schema::Scope::Whole { allowed } => {
+        Scope::Whole { .. } => {
             let extension = show_extension(table, index, bytes, levels, out, pos);
             show_mark(GE, out, extension)
         }
-        schema::Scope::Fields { group } => pos,
+        Scope::Fields { .. } => pos,
     }
 }
 
@@ -207,24 +207,19 @@ fn show_fields(
     let start = schema::group_place(index, group);
     let total = schema::field_count(table, start);
     let deeper = depth - 1;
-    let mut i = 0;
     let mut field = start + 16;
     let mut place = at;
     let mut next = pos;
-    while i < total {
+    for _ in 0..total {
         let plain = schema::plain_width(table, field);
         if plain != 0 {
             next = show_bytes(VA, bytes, place, plain, out, next);
             place += plain;
-            field += 16;
-            i += 1;
-            continue;
+        } else {
+            next = show_field(table, index, bytes, levels, deeper, field, place, out, next);
+            place += schema::field_width(table, index, field);
         }
-        let width = schema::field_width(table, index, field);
-        next = show_field(table, index, bytes, levels, deeper, field, place, out, next);
-        place += width;
         field += 16;
-        i += 1;
     }
     next
 }
@@ -271,18 +266,25 @@ fn show_value(
     ensures { Shown (passage (value_of table.now levels depth field) bytes.now at) pos out.old out.new result }
 {
     let kind = schema::kind_at(table, field);
-    let width = schema::kind_width(index, kind);
-    let mut total = 1;
-    let mut start = at;
-    let mut next = pos;
-    if schema::is_sequence(table, field) {
-        let place = at + wire::read_u32(bytes, at);
-        total = wire::read_u32(bytes, place);
-        start = place + 4;
-        next = show_bytes(SQ, bytes, place, 4, out, pos);
+    if !schema::is_sequence(table, field) {
+        return show_item(table, index, bytes, levels, depth, kind, at, out, pos);
     }
+    let place = at + wire::read_u32(bytes, at);
+    let total = wire::read_u32(bytes, place);
+    let width = schema::kind_width(index, kind);
+    let next = show_bytes(SQ, bytes, place, 4, out, pos);
     show_items(
-        table, index, bytes, levels, depth, kind, width, total, start, out, next,
+        table,
+        index,
+        bytes,
+        levels,
+        depth,
+        kind,
+        width,
+        total,
+        place + 4,
+        out,
+        next,
     )
 }
 
@@ -294,7 +296,7 @@ fn show_items(
     bytes: &[u8],
     levels: usize,
     depth: usize,
-    kind: schema::FieldKind,
+    kind: FieldKind,
     width: usize,
     total: usize,
     at: usize,
@@ -304,16 +306,14 @@ fn show_items(
     requires { (Layout table.now index.now) × (length bytes.now ≤ 65536) × (at + total * width ≤ length bytes.now) × (width ≡ kind_width (width_of table.now depth) (kind_from (enums table.now) kind)) × (shallow_kind (shallow (schema table.now) depth) (width_of table.now depth) (kind_from (enums table.now) kind) ≡ true) × (Fits (passage (items_r width (item_of table.now levels depth kind) total) bytes.now at) pos out.old) }
     ensures { Shown (passage (items_r width (item_of table.now levels depth kind) total) bytes.now at) pos out.old out.new result }
 {
-    if let schema::FieldKind::Plain { width: plain } = kind {
-        return show_plain(bytes, at, wire::wide(plain), total, out, pos);
+    if let FieldKind::Plain { width: plain } = kind {
+        return show_plain(bytes, at, usize::from(plain), total, out, pos);
     }
-    let mut i = 0;
     let mut place = at;
     let mut next = pos;
-    while i < total {
+    for _ in 0..total {
         next = show_item(table, index, bytes, levels, depth, kind, place, out, next);
         place += width;
-        i += 1;
     }
     next
 }
@@ -325,7 +325,7 @@ fn show_item(
     bytes: &[u8],
     levels: usize,
     depth: usize,
-    kind: schema::FieldKind,
+    kind: FieldKind,
     at: usize,
     out: &mut [u8],
     pos: usize,
@@ -334,25 +334,18 @@ fn show_item(
     ensures { Shown (passage (item_of table.now levels depth kind) bytes.now at) pos out.old out.new result }
 {
     match kind {
-        schema::FieldKind::Plain { width } => show_bytes(
-            VA,
-            bytes,
-            at,
-            wire::wide(width),
-            out,
-            pos,
-        ),
-        schema::FieldKind::Number { tested } => {
-            let width = wire::wide(schema::tested_width(tested));
+        FieldKind::Plain { width } => show_bytes(VA, bytes, at, usize::from(width), out, pos),
+        FieldKind::Number { tested } => {
+            let width = usize::from(schema::tested_width(tested));
             show_bytes(VA, bytes, at, width, out, pos)
         }
-        schema::FieldKind::Inline { utf8, capacity } => show_inline(bytes, at, out, pos),
-        schema::FieldKind::Indirect { utf8 } => {
+        FieldKind::Inline { .. } => show_inline(bytes, at, out, pos),
+        FieldKind::Indirect { .. } => {
             let place = at + wire::read_u32(bytes, at);
             let count = wire::read_u32(bytes, place);
             show_bytes(ST, bytes, place, 4 + count, out, pos)
         }
-        schema::FieldKind::Static { group } => {
+        FieldKind::Static { group } => {
             let next = show_mark(SG, out, pos);
             show_group(
                 table,
@@ -360,13 +353,13 @@ fn show_item(
                 bytes,
                 levels,
                 depth,
-                schema::Scope::Fields { group },
+                Scope::Fields { group },
                 at,
                 out,
                 next,
             )
         }
-        schema::FieldKind::Dynamic { allowed } => {
+        FieldKind::Dynamic { allowed } => {
             let place = at + wire::read_u32(bytes, at);
             show_nested(table, index, bytes, levels, allowed, place, out, pos)
         }
@@ -396,7 +389,7 @@ fn show_nested(
         &bytes[place..end],
         levels,
         5,
-        schema::Scope::Whole { allowed },
+        Scope::Whole { allowed },
         16,
         out,
         next,
@@ -443,13 +436,11 @@ fn show_groups(
     requires { (Layout table.now index.now) × (length bytes.now ≤ 65536) × (at + total * 4 ≤ length bytes.now) × (Fits (passage (items_r 4 (extending_of table.now levels) total) bytes.now at) pos out.old) }
     ensures { Shown (passage (items_r 4 (extending_of table.now levels) total) bytes.now at) pos out.old out.new result }
 {
-    let mut i = 0;
     let mut place = at;
     let mut next = pos;
-    while i < total {
+    for _ in 0..total {
         next = show_extending(table, index, bytes, levels, place, out, next);
         place += 4;
-        i += 1;
     }
     next
 }
@@ -491,7 +482,7 @@ pub fn write_sheet(table: &[u8], index: &[u16], message: &[u8], sheet: &mut [u8]
         message,
         8,
         5,
-        schema::Scope::Whole { allowed: 0 },
+        Scope::Whole { allowed: 0 },
         16,
         sheet,
         next,

@@ -1,13 +1,13 @@
-use Prim.Native.Nat.{◌+◌, ◌-◌, ◌*◌, ◌≤◌}
+use Prim.Native.Nat.{◌+◌, ◌-◌, ◌*◌, ◌<◌, ◌≤◌}
 use native.Mathlib.Omega.{arith}
-use native.Mathlib.Nat.{add-sub_cancel_left, sub-zero}
+use native.Mathlib.Nat.{add-sub_cancel_left}
 use mathlib.Core.Path.{◌≡◌, sym, ◌∙◌, refl, ap}
 use mathlib.Core.Bool.{true, false}
 use mathlib.Core.Logic.{◌⊎◌, inl, inr}
-use mathlib.Core.List.{List, [], ◌∷◌, ◌++◌}
+use mathlib.Core.List.{List, ◌++◌}
 use lib.ListN.{length, drop}
 use lib.Dec.{leb}
-use Rattle.schema.specs.FieldKinds.{kind_from}
+use Rattle.schema.specs.FieldKinds.{kind_from, plain_width}
 use Rattle.schema.specs.declared.FieldKind.{FieldKind}
 use Rattle.schema.specs.declared.Scope.{Scope}
 use Rattle.schema.specs.Layout.{Layout}
@@ -15,22 +15,22 @@ use Rattle.message.specs.Scopes.{Lies}
 use Rattle.wire.specs.Bytes.{part, splice}
 use Rattle.schema.specs.Schema.{field_width, kind_width, value_width, shallow}
 use Rattle.schema.specs.Table.{field_at, enums, schema}
-use Rattle.schema.proofs.Records.{fields-more}
 use Rattle.schema.proofs.Types.{plain-is, width-sequence, width_one, width-optional, width-required}
 use Rattle.schema.proofs.Groups.{static-inside, placed-inside}
-use Rattle.schema.proofs.Depth.{and_both, shallow-some, width-cons, shallow-cons, wide-kind, wide-field}
-use Rattle.message.specs.Sheet.{VA, ST, SG, SQ, GB, XT, XU, NO, GE}
+use Rattle.schema.proofs.Depth.{and_both, shallow-some, wide-kind, wide-field}
+use Rattle.message.specs.Sheet.{mark_bytes, VA, ST, SG, SQ, GB, XT, XU, NO, GE}
 use Rattle.schema.specs.declared.FieldKind.TheVariants.{Plain}
 use Rattle.settings.specs.Store.{lax}
-use Rattle.message.specs.Walk.{byte, word, here, items_r}
+use Rattle.message.specs.Walk.{byte, word, items_r}
 use Rattle.message.specs.Check.{inner_of, width_of, static_of}
-use Rattle.message.proofs.CheckFields.{plain-wide, items_left, wide-number, wide-inline, wide-indirect, wide-static, wide-dynamic, kind-static, start-inside, start-static, start-width, start-shallow}
-use Rattle.sheet.specs.Show.{Fits, id_of, number_of, passage, then, item_of, value_of, field_of, group_of, takes, end_of}
-use Rattle.sheet.proofs.ShowLaws.{Opens, Left, begun, opened, first_fits, called, fits-opens, shown-opens, shown-none, shown-just, shown-mark, shown-bytes, mark-room, bytes-room, just-room, alike, shown-then}
-use Rattle.sheet.proofs.ShowReaders.{is-VA, is-ST, is-SG, is-SQ, is-GB, is-XT, is-XU, marked-inline, inline-count, inline-length, marked-inner, item-fits, items-next, items-done, field_fits, fields-next, fields-done, field_plain, field-absent, field-present, field-always, value-item, sequence-inside, sequence-opens, wide-plain, item-plain, item-number, item-inline, item-static, item-text, text-inside, item-group, group-inside, items-plain, extension-none, extension-inside, extension-empty, extension-some, extending-inside, extending-known, extending-kept, end_whole, end-fields, head-whole, group-parts, Readable, group-readable}
+use Rattle.message.proofs.CheckFields.{plain-wide, wide-number, wide-inline, wide-indirect, wide-static, wide-dynamic, kind-static}
+use Rattle.sheet.specs.Show.{just, Fits, id_of, number_of, passage, then, item_of, value_of, field_of, group_of, takes, end_of}
+use Rattle.sheet.proofs.ShowLaws.{Opens, Left, begun, opened, first_fits, called, fits-opens, shown-opens, shown-none, shown-just, shown-mark, shown-bytes, mark-room, bytes-room, just-room, shown-then}
+use Rattle.sheet.proofs.ShowReaders.{is-VA, is-ST, is-SG, is-SQ, is-GB, is-XT, is-XU, marked-inline, inline-count, inline-length, marked-inner, field_plain, field-absent, field-present, field-always, value-item, sequence-inside, sequence-opens, wide-plain, item-plain, item-number, item-inline, item-static, item-text, text-inside, item-group, group-inside, items-plain, extension-none, extension-inside, extension-empty, extension-some, extending-inside, extending-known, extending-kept, end_whole, end-fields, head-whole, group-parts, Readable, group-readable}
 use Prim.Native.Nat.{ℕ}
 use borrow.Author.Rules.{rules}
-use Rattle.sheet.proofs.+show.Goals.{show_field-then-is_optional+else-bytes-at-ne1, show_field-else-is_optional, show_value-then-is_sequence, show_value-else-is_sequence}
+use Rattle.sheet.proofs.Loops.{items-start, item-inside, item-fits, items-next, items-done, FieldsLeft, fields-start, field-listed, field-inside, field-flat, field_fits, fields-next, fields-done}
+use Rattle.sheet.proofs.+show.Goals.{show_field-then-is_optional+else-bytes-at-ne1, show_field-else-is_optional, show_fields-then-plain-ne0, show_fields-else-plain-ne0}
 use Rattle.sheet.proofs.+show.Goals as goal
 
 -- where a field's value stands: an optional one's behind the byte that says that it is there
@@ -40,20 +40,19 @@ field-value : (t b : List ℕ) (l d field at place : ℕ) → at + field_width (
 field-value t b l d field at place h (inl w) = rw w.2 (omega (arith, width-optional (width_of t d) (field_at (enums t) (drop field t)) w.0, h), field-present (inner_of lax t l) (width_of t d) (static_of lax t l d) _ b at w.0 w.1)
 field-value t b l d field at place h (inr w) = rw w.1 (omega (arith, width-required (width_of t d) (field_at (enums t) (drop field t)) w.0, h), field-always (inner_of lax t l) (width_of t d) (static_of lax t l d) _ b at w.0)
 
--- what is left of a value: so many items, behind the count of a sequence
-value-items : (t b : List ℕ) (l d field at : ℕ) (kind : FieldKind) (width total start next pos : ℕ) (out mid : List ℕ)
-    → kind_from (enums t) kind ≡ (field_at (enums t) (drop field t)).kind → width ≡ kind_width (width_of t d) (kind_from (enums t) kind)
-    → at + value_width (width_of t d) (field_at (enums t) (drop field t)) ≤ length b → Fits (passage (value_of t l d field) b at) pos out
-    → (((field_at (enums t) (drop field t)).sequence ≡ true) × (p : ℕ) × (p ≡ at + word at b) × (total ≡ word p b) × (start ≡ p + 4) × (mid ≡ splice 6 pos ((83 ∷ (81 ∷ [])) ++ part 4 p b) out) × (next ≡ pos + 6))
-    ⊎ (((field_at (enums t) (drop field t)).sequence ≡ false) × (total ≡ 1) × (start ≡ at) × (mid ≡ out) × (next ≡ pos))
-    → (start + total * width ≤ length b) × Left (passage (value_of t l d field) b at) pos out (passage (items_r width (item_of t l d kind) total) b start) next mid
-value-items t b l d field at kind width total start next pos out mid k iw h f (inl w) =
-    let p = w.1 in
-    let q = sequence-inside (inner_of lax t l) (width_of t d) (static_of lax t l d) _ b at _ k w.0 _ iw p total w.2 w.3 _ f.reads in
-    let o = opened _ _ _ _ _ _ _ (sequence-opens (inner_of lax t l) (width_of t d) (static_of lax t l d) _ b at _ k w.0 _ iw p total w.2 w.3) (begun _ _ _ f) in
-    rw w.4 (omega (arith, q), called _ _ _ _ _ _ _ o _ _ (shown-bytes SQ _ is-SQ _ _ _ _ 4 p b (omega (arith, q)) w.5 w.6))
-value-items t b l d field at kind width total start next pos out mid k iw h f (inr w) =
-    rw (w.1, w.2, w.3, w.4) (omega (arith, width_one (width_of t d) (field_at (enums t) (drop field t)) w.0, ap (kind_width (width_of t d)) k, iw, h), opened _ _ _ _ _ _ _ (value-item (inner_of lax t l) (width_of t d) (static_of lax t l d) _ b at _ k w.0 _) (begun _ _ _ f))
+-- a required value without a test is shown as its bytes, which the message has and there is room for
+module _ {t b : List ℕ} {l d g at pos : ℕ} {out₀ : List ℕ} {n i field place next : ℕ} {out : List ℕ} (L : FieldsLeft t b l d g at pos out₀ n i field place next out) where
+  plain-left : i < n → {w : ℕ} → w ≡ plain_width (field_at (enums t) (drop field t)) → (w ≡ 0 → ⊥) → (place + w ≤ length b) × Fits (just (mark_bytes VA ++ part w place b)) next out
+  plain-left h q z =
+      let e = plain-is _ _ _ q z in
+      (omega (arith, plain-wide (width_of t (d - 1)) _ _ _ e, field-inside L h), fits-opens _ _ _ _ (field_plain (inner_of lax t l) (width_of t (d - 1)) (static_of lax t l (d - 1)) _ b place _ _ e) (field_fits L h))
+
+-- a sequence's count and its items lie inside the message, and its count's record stands before them in the sheet
+value-left : (t b : List ℕ) (l d field at : ℕ) (kind : FieldKind) (p n w : ℕ) → kind_from (enums t) kind ≡ (field_at (enums t) (drop field t)).kind → (field_at (enums t) (drop field t)).sequence ≡ true
+    → p ≡ at + word at b → n ≡ word p b → w ≡ kind_width (width_of t d) (kind_from (enums t) kind) → (pos : ℕ) (out : List ℕ) → Fits (passage (value_of t l d field) b at) pos out
+    → (p + (4 + n * w) ≤ length b) × Left (passage (value_of t l d field) b at) pos out (then (just (mark_bytes SQ ++ part 4 p b)) (passage (items_r w (item_of t l d kind) n) b (p + 4))) pos out
+value-left t b l d field at kind p n w k o ip in' iw pos out f = let I = inner_of lax t l in let sw = width_of t d in let S = static_of lax t l d in
+    (sequence-inside I sw S _ b at _ k o w iw p n ip in' _ f.reads, opened _ _ _ _ _ _ _ (sequence-opens I sw S _ b at _ k o w iw p n ip in') (begun _ _ _ f))
 
 -- what is left of a group behind its head, and what is asked for its fields
 group-opened : (t k b : List ℕ) (l d at pos g n p : ℕ) (scope : Scope) (out mid : List ℕ) → Layout t k → Lies t d scope b at → Fits (group_of t l d scope b at) pos out
@@ -168,65 +167,6 @@ show_field-returns t c = let a = c.args in let R = c.requires in let es = enums 
     ]) in
     shown-opens _ _ _ _ _ _ v.1 c.show_value.ensures
 
-pub show_fields-field_count-total-requires : goal.show_fields-field_count-total-requires
-show_fields-field_count-total-requires t c = let R = c.requires in let p = placed-inside _ _ _ R.0.placed _ R.3 in omega (arith, p, c.group_place-start.ensures.0)
-
-pub show_fields-overflow_sub-deeper : goal.show_fields-overflow_sub-deeper
-show_fields-overflow_sub-deeper t c = let a = c.args in let R = c.requires in let t = a.table.now in omega (arith, shallow-some (schema t) _ _ R.4)
-
-pub show_fields-loop-i-init : goal.show_fields-loop-i-init
-show_fields-loop-i-init t c = let a = c.args in let R = c.requires in let t = a.table.now in let b = a.bytes.now in let I = inner_of lax t a.levels in let P = R.0 in let k = a.index.now in
-    let d = shallow-some (schema t) a.depth a.group R.4 in
-    let s = c.group_place-start.ensures.0 in let n = c.field_count-total.ensures.0 in
-    let w = start-width t k P a.group R.3 _ _ s n a.depth d in (
-      search rules,
-      search rules,
-      start-inside t k P a.group R.3 _ _ s n,
-      omega (arith, w, R.2),
-      start-shallow t k P a.group R.3 _ _ s n a.depth d R.4,
-      opened _ _ _ _ _ _ _ (alike _ _ (λ base area m. start-static t k P a.group R.3 _ _ s n a.depth d I (here lax b base area) a.at m)) (begun _ _ _ R.5),
-    )
-
-pub show_fields-show_bytes-next-requires : goal.show_fields-show_bytes-next-requires
-show_fields-show_bytes-next-requires t c = let a = c.args in let t = a.table.now in let b = a.bytes.now in let I = inner_of lax t a.levels in let i = c.loop-i.invariant in let l = c.loop-i-test.true in let sw = width_of t (a.depth - 1) in let S = static_of lax t a.levels (a.depth - 1) in let es = enums t in
-    let f = fields-more es t c.loop-i.field c.field_count-total.result c.loop-i.i l in let w = width-cons sw _ _ _ f in
-    let e = plain-is es _ _ (c.plain_width-plain.ensures.0 es) c.if-plain-ne0.true in let p = plain-wide sw _ _ _ e in let h : c.loop-i.place + c.plain_width-plain.result ≤ length b = omega (arith, i.3, w, p) in
-    (h, bytes-room VA _ _ _ _ b h (fits-opens _ _ _ _ (field_plain I sw S _ b c.loop-i.place _ _ e) (field_fits _ _ _ b c.field_count-total.result c.loop-i.i c.loop-i.place _ _ I sw S es t c.loop-i.field i.5 l)))
-
-pub show_fields-loop-i-preserved-then-plain-ne0 : goal.show_fields-loop-i-preserved-then-plain-ne0
-show_fields-loop-i-preserved-then-plain-ne0 t c = let a = c.args in let t = a.table.now in let b = a.bytes.now in let I = inner_of lax t a.levels in let i = c.loop-i.invariant in let l = c.loop-i-test.true in let sw = width_of t (a.depth - 1) in let S = static_of lax t a.levels (a.depth - 1) in let es = enums t in
-    let f = fields-more es t c.loop-i.field c.field_count-total.result c.loop-i.i l in let w = width-cons sw _ _ _ f in
-    let e = plain-is es _ _ (c.plain_width-plain.ensures.0 es) c.if-plain-ne0.true in let p = plain-wide sw _ _ _ e in let h : c.loop-i.place + c.plain_width-plain.result ≤ length b = omega (arith, i.3, w, p) in (
-      search rules,
-      search rules,
-      omega (arith, i.2, l),
-      omega (arith, i.3, w, p),
-      (shallow-cons _ _ _ _ _ f i.4).1,
-      fields-next _ _ _ b c.field_count-total.result c.loop-i.i c.loop-i.place _ _ I sw S es t c.loop-i.field i.5 _ _ _ (sym p) l (shown-opens _ _ _ _ _ _ (field_plain I sw S _ b c.loop-i.place _ _ e) (shown-bytes VA _ is-VA _ _ _ _ _ _ b h c.show_bytes-next.ensures.0 c.show_bytes-next.ensures.1)),
-    )
-
-pub show_fields-show_field-next-requires : goal.show_fields-show_field-next-requires
-show_fields-show_field-next-requires t c = let a = c.args in let R = c.requires in let t = a.table.now in let b = a.bytes.now in let I = inner_of lax t a.levels in let i = c.loop-i.invariant in let l = c.loop-i-test.true in let sw = width_of t (a.depth - 1) in let S = static_of lax t a.levels (a.depth - 1) in let es = enums t in
-    let f = fields-more es t c.loop-i.field c.field_count-total.result c.loop-i.i l in let w = width-cons sw _ _ _ f in
-    (omega (arith, shallow-some (schema t) _ _ R.4), (R.0, R.1, omega (arith, i.2, l), omega (arith, i.3, w), (shallow-cons _ _ _ _ _ f i.4).0, field_fits _ _ _ b c.field_count-total.result c.loop-i.i c.loop-i.place _ _ I sw S es t c.loop-i.field i.5 l))
-
-pub show_fields-loop-i-preserved : goal.show_fields-loop-i-preserved
-show_fields-loop-i-preserved t c = let a = c.args in let R = c.requires in let t = a.table.now in let b = a.bytes.now in let I = inner_of lax t a.levels in let i = c.loop-i.invariant in let l = c.loop-i-test.true in let sw = width_of t (a.depth - 1) in let S = static_of lax t a.levels (a.depth - 1) in let es = enums t in
-    let f = fields-more es t c.loop-i.field c.field_count-total.result c.loop-i.i l in let w = width-cons sw _ _ _ f in
-    let q = shallow-cons _ _ _ _ _ f i.4 in
-    let v = c.field_width-width.ensures.0 es ∙ wide-field t a.index.now R.0 (a.depth - 1) _ q.0 in (
-      search rules,
-      search rules,
-      omega (arith, i.2, l),
-      omega (arith, i.3, w, v),
-      q.1,
-      fields-next _ _ _ b c.field_count-total.result c.loop-i.i c.loop-i.place _ _ I sw S es t c.loop-i.field i.5 _ _ _ v l c.show_field-next.ensures,
-    )
-
-pub show_fields-returns : goal.show_fields-returns
-show_fields-returns t c = let a = c.args in let t = a.table.now in let b = a.bytes.now in let I = inner_of lax t a.levels in let sw = width_of t (a.depth - 1) in let S = static_of lax t a.levels (a.depth - 1) in let es = enums t in
-    fields-done _ _ _ b c.field_count-total.result c.loop-i.i c.loop-i.place _ _ I sw S es t c.loop-i.field c.loop-i.invariant.5 c.loop-i-test.false
-
 pub show_group-open_group-open-requires : goal.show_group-open_group-open-requires
 show_group-open_group-open-requires t c = let a = c.args in let R = c.requires in let t = a.table.now in let b = a.bytes.now in let S = group-readable t a.levels a.depth b a.at _ R.0 a.scope R.2 _ refl _ R.3.reads in
     (R.0, S.some, S.long, just-room _ _ _ (first_fits _ _ _ _ _ _ _ (opened _ _ _ _ _ _ _ (group-parts t a.levels a.depth b a.at a.scope R.2 _ _ refl refl) (begun _ _ _ R.3))))
@@ -243,26 +183,12 @@ pub show_group-returns : goal.show_group-returns
 show_group-returns t c = let a = c.args in let R = c.requires in let o = group-opened a.table.now a.index.now a.bytes.now a.levels a.depth a.at a.pos _ _ _ a.scope a.out.now _ R.0 R.2 R.3 c.open_group-open.ensures in
     (called _ _ _ _ _ _ _ o.0 _ _ c.show_fields-fields.ensures).whole _ _ c.close_group.ensures
 
-pub show_groups-loop-i-init : goal.show_groups-loop-i-init
-show_groups-loop-i-init t c = let a = c.args in let R = c.requires in (search rules, search rules, rw (sub-zero a.total) R.2, rw (sub-zero a.total) (begun _ _ _ R.3))
-
-pub show_groups-show_extending-next-requires : goal.show_groups-show_extending-next-requires
-show_groups-show_extending-next-requires t c = let a = c.args in let R = c.requires in let i = c.loop-i.invariant in let l = c.loop-i-test.true in
-    (search rules, (R.0, R.1, omega (arith, items_left a.total c.loop-i.i 4 l, i.2), item-fits _ _ _ _ _ _ _ _ _ _ _ i.3 l))
-
-pub show_groups-loop-i-preserved : goal.show_groups-loop-i-preserved
-show_groups-loop-i-preserved t c = let a = c.args in let i = c.loop-i.invariant in let l = c.loop-i-test.true in
-    (search rules, search rules, omega (arith, items_left a.total c.loop-i.i 4 l, i.2), items-next _ _ _ _ _ _ _ _ _ _ _ i.3 _ _ l c.show_extending-next.ensures)
-
-pub show_groups-returns : goal.show_groups-returns
-show_groups-returns t c = items-done _ _ _ _ _ _ _ _ _ _ _ c.loop-i.invariant.3 c.loop-i-test.false
-
 pub show_item-show_bytes-requires : goal.show_item-show_bytes-requires
-show_item-show_bytes-requires t c = let a = c.args in let R = c.requires in let t = a.table.now in let b = a.bytes.now in let I = inner_of lax t a.levels in let es = enums t in let sw = width_of t a.depth in let S = static_of lax t a.levels a.depth in let e = c.in-Plain.is ∙ ap Plain (sym c.wide.ensures.0) in let h : a.at + c.wide.result ≤ length b = omega (arith, wide-plain sw es a.kind _ e, R.2) in
+show_item-show_bytes-requires t c = let a = c.args in let R = c.requires in let t = a.table.now in let b = a.bytes.now in let I = inner_of lax t a.levels in let es = enums t in let sw = width_of t a.depth in let S = static_of lax t a.levels a.depth in let e = c.in-Plain.is ∙ ap Plain (sym c.from.ensures) in let h : a.at + c.from.result ≤ length b = omega (arith, wide-plain sw es a.kind _ e, R.2) in
     (h, bytes-room VA _ _ _ _ b h (fits-opens _ _ _ _ (item-plain I S es b a.at a.kind _ e) R.4))
 
 pub show_item-show_bytes-requires-in-Number : goal.show_item-show_bytes-requires-in-Number
-show_item-show_bytes-requires-in-Number t c = let a = c.args in let R = c.requires in let t = a.table.now in let b = a.bytes.now in let I = inner_of lax t a.levels in let es = enums t in let sw = width_of t a.depth in let S = static_of lax t a.levels a.depth in let e = c.in-Number.is in let iw = c.wide-width.ensures.0 ∙ c.tested_width.ensures es sw in let h : a.at + c.wide-width.result ≤ length b = omega (arith, wide-number sw es a.kind _ e, iw, R.2) in
+show_item-show_bytes-requires-in-Number t c = let a = c.args in let R = c.requires in let t = a.table.now in let b = a.bytes.now in let I = inner_of lax t a.levels in let es = enums t in let sw = width_of t a.depth in let S = static_of lax t a.levels a.depth in let e = c.in-Number.is in let iw = c.from-width.ensures ∙ c.tested_width.ensures es sw in let h : a.at + c.from-width.result ≤ length b = omega (arith, wide-number sw es a.kind _ e, iw, R.2) in
     (h, bytes-room VA _ _ _ _ b h (fits-opens _ _ _ _ (item-number I S es b a.at a.kind sw _ _ e iw) R.4))
 
 pub show_item-show_inline-requires : goal.show_item-show_inline-requires
@@ -300,11 +226,11 @@ show_item-show_nested-requires t c = let a = c.args in let R = c.requires in let
     (search rules, (R.0, R.1, group-inside I S es b a.at a.kind _ _ ip refl _ e _ R.4.reads, fits-opens _ _ _ _ (item-group I S es b a.at a.kind _ _ ip refl _ e) R.4))
 
 pub show_item-returns-in-Plain : goal.show_item-returns-in-Plain
-show_item-returns-in-Plain t c = let a = c.args in let R = c.requires in let t = a.table.now in let b = a.bytes.now in let I = inner_of lax t a.levels in let es = enums t in let sw = width_of t a.depth in let S = static_of lax t a.levels a.depth in let e = c.in-Plain.is ∙ ap Plain (sym c.wide.ensures.0) in let h : a.at + c.wide.result ≤ length b = omega (arith, wide-plain sw es a.kind _ e, R.2) in
+show_item-returns-in-Plain t c = let a = c.args in let R = c.requires in let t = a.table.now in let b = a.bytes.now in let I = inner_of lax t a.levels in let es = enums t in let sw = width_of t a.depth in let S = static_of lax t a.levels a.depth in let e = c.in-Plain.is ∙ ap Plain (sym c.from.ensures) in let h : a.at + c.from.result ≤ length b = omega (arith, wide-plain sw es a.kind _ e, R.2) in
     shown-opens _ _ _ _ _ _ (item-plain I S es b a.at a.kind _ e) (shown-bytes VA _ is-VA _ _ _ _ _ _ b h c.show_bytes.ensures.0 c.show_bytes.ensures.1)
 
 pub show_item-returns-in-Number : goal.show_item-returns-in-Number
-show_item-returns-in-Number t c = let a = c.args in let R = c.requires in let t = a.table.now in let b = a.bytes.now in let I = inner_of lax t a.levels in let es = enums t in let sw = width_of t a.depth in let S = static_of lax t a.levels a.depth in let e = c.in-Number.is in let iw = c.wide-width.ensures.0 ∙ c.tested_width.ensures es sw in let h : a.at + c.wide-width.result ≤ length b = omega (arith, wide-number sw es a.kind _ e, iw, R.2) in
+show_item-returns-in-Number t c = let a = c.args in let R = c.requires in let t = a.table.now in let b = a.bytes.now in let I = inner_of lax t a.levels in let es = enums t in let sw = width_of t a.depth in let S = static_of lax t a.levels a.depth in let e = c.in-Number.is in let iw = c.from-width.ensures ∙ c.tested_width.ensures es sw in let h : a.at + c.from-width.result ≤ length b = omega (arith, wide-number sw es a.kind _ e, iw, R.2) in
     shown-opens _ _ _ _ _ _ (item-number I S es b a.at a.kind sw _ _ e iw) (shown-bytes VA _ is-VA _ _ _ _ _ _ b h c.show_bytes-in-Number.ensures.0 c.show_bytes-in-Number.ensures.1)
 
 pub show_item-returns-in-Inline : goal.show_item-returns-in-Inline
@@ -326,29 +252,12 @@ show_item-returns-in-Dynamic t c = let a = c.args in let t = a.table.now in let 
     shown-opens _ _ _ _ _ _ (item-group I S es b a.at a.kind _ _ ip refl _ e) c.show_nested.ensures
 
 pub show_items-show_plain-requires : goal.show_items-show_plain-requires
-show_items-show_plain-requires t c = let a = c.args in let R = c.requires in let t = a.table.now in let b = a.bytes.now in let I = inner_of lax t a.levels in let es = enums t in let sw = width_of t a.depth in let S = static_of lax t a.levels a.depth in let e = c.in-Plain.is ∙ ap Plain (sym c.wide.ensures.0) in let w = R.3 ∙ wide-plain sw es a.kind _ e in
+show_items-show_plain-requires t c = let a = c.args in let R = c.requires in let t = a.table.now in let b = a.bytes.now in let I = inner_of lax t a.levels in let es = enums t in let sw = width_of t a.depth in let S = static_of lax t a.levels a.depth in let e = c.in-Plain.is ∙ ap Plain (sym c.from.ensures) in let w = R.3 ∙ wide-plain sw es a.kind _ e in
     (rw w at R.2, fits-opens _ _ _ _ (items-plain I S es b a.at a.kind sw _ _ _ e R.3) R.5)
 
 pub show_items-returns-in-Plain : goal.show_items-returns-in-Plain
-show_items-returns-in-Plain t c = let a = c.args in let R = c.requires in let t = a.table.now in let b = a.bytes.now in let I = inner_of lax t a.levels in let es = enums t in let sw = width_of t a.depth in let S = static_of lax t a.levels a.depth in let e = c.in-Plain.is ∙ ap Plain (sym c.wide.ensures.0) in
+show_items-returns-in-Plain t c = let a = c.args in let R = c.requires in let t = a.table.now in let b = a.bytes.now in let I = inner_of lax t a.levels in let es = enums t in let sw = width_of t a.depth in let S = static_of lax t a.levels a.depth in let e = c.in-Plain.is ∙ ap Plain (sym c.from.ensures) in
     shown-opens _ _ _ _ _ _ (items-plain I S es b a.at a.kind sw _ _ _ e R.3) c.show_plain.ensures
-
-pub show_items-loop-i-init : goal.show_items-loop-i-init
-show_items-loop-i-init t c = let a = c.args in let R = c.requires in (search rules, search rules, rw (sub-zero a.total) R.2, rw (sub-zero a.total) (begun _ _ _ R.5))
-
-pub show_items-show_item-next-requires : goal.show_items-show_item-next-requires
-show_items-show_item-next-requires t c = let a = c.args in let R = c.requires in let i = c.loop-i.invariant in let l = c.loop-i-test.true in
-    (search rules, (R.0, R.1, omega (arith, items_left a.total c.loop-i.i a.width l, i.2, R.3), R.4, item-fits _ _ _ _ _ _ _ _ _ _ _ i.3 l))
-
-pub show_items-overflow_add-place : goal.show_items-overflow_add-place
-show_items-overflow_add-place t c = let a = c.args in let R = c.requires in let i = c.loop-i.invariant in omega (arith, items_left a.total c.loop-i.i a.width c.loop-i-test.true, i.2, R.1)
-
-pub show_items-loop-i-preserved : goal.show_items-loop-i-preserved
-show_items-loop-i-preserved t c = let a = c.args in let i = c.loop-i.invariant in let l = c.loop-i-test.true in
-    (search rules, search rules, omega (arith, items_left a.total c.loop-i.i a.width l, i.2), items-next _ _ _ _ _ _ _ _ _ _ _ i.3 _ _ l c.show_item-next.ensures)
-
-pub show_items-returns : goal.show_items-returns
-show_items-returns t c = items-done _ _ _ _ _ _ _ _ _ _ _ c.loop-i.invariant.3 c.loop-i-test.false
 
 pub show_nested-show_mark-next-requires : goal.show_nested-show_mark-next-requires
 show_nested-show_mark-next-requires t c = let a = c.args in let R = c.requires in let t = a.table.now in let b = a.bytes.now in let L = opened _ _ _ _ _ _ _ (marked-inner GB b a.place t a.levels a.allowed _) (begun _ _ _ R.3) in mark-room GB _ _ (first_fits _ _ _ _ _ _ _ L)
@@ -363,33 +272,92 @@ unfolding group_of
 show_nested-returns t c = let a = c.args in let t = a.table.now in let b = a.bytes.now in let m : a.place + (4 + c.read_u32.result) - a.place ≡ 4 + word a.place b = add-sub_cancel_left a.place _ ∙ ap (λ (n : ℕ). 4 + n) c.read_u32.ensures.0 in
     shown-opens _ _ _ _ _ _ (marked-inner GB b a.place t a.levels a.allowed _) (shown-then _ _ _ _ _ _ _ _ (shown-mark GB _ is-GB _ _ _ _ c.show_mark-next.ensures.0 c.show_mark-next.ensures.1) (rw m at c.show_group.ensures))
 
+pub show_fields-field_count-total-requires : goal.show_fields-field_count-total-requires
+show_fields-field_count-total-requires t c = let R = c.requires in omega (arith, placed-inside _ _ _ R.0.placed _ R.3, c.group_place-start.ensures.0)
+
+pub show_fields-overflow_sub-deeper : goal.show_fields-overflow_sub-deeper
+show_fields-overflow_sub-deeper t c = omega (arith, shallow-some (schema c.args.table.now) _ _ c.requires.4)
+
+pub show_fields-loop-init : goal.show_fields-loop-init
+show_fields-loop-init t c = let R = c.requires in fields-start _ R.0 R.3 _ c.group_place-start.ensures.0 c.field_count-total.ensures.0 R.4 R.2 R.5
+
+pub show_fields-show_bytes-next-requires : goal.show_fields-show_bytes-next-requires
+show_fields-show_bytes-next-requires t c = let a = c.args in let L = c.loop.invariant in let l = c.loop-test.true in
+    let p = plain-left L l (c.plain_width-plain.ensures.0 (enums a.table.now)) c.if-plain-ne0.true in (p.0, bytes-room VA _ _ _ _ _ p.0 p.1)
+
+pub show_fields-show_field-next-requires : goal.show_fields-show_field-next-requires
+show_fields-show_field-next-requires t c = let R = c.requires in let L = c.loop.invariant in let l = c.loop-test.true in
+    (omega (arith, shallow-some (schema c.args.table.now) _ _ R.4), (R.0, R.1, field-listed L l, field-inside L l, field-flat L l, field_fits L l))
+
+pub show_fields-loop-preserved : goal.show_fields-loop-preserved
+show_fields-loop-preserved t c = let a = c.args in let L = c.loop.invariant in let l = c.loop-test.true in let es = enums a.table.now in let sw = width_of a.table.now (a.depth - 1) in elim c.if-plain-ne0.branch [
+    | show_fields-then-plain-ne0 w ↦
+        let q = c.plain_width-plain.ensures.0 es in let z = w.if-plain-ne0.true in let e = plain-is es _ _ q z in let v = w.show_bytes-next.ensures in
+        rw (w.place-is, w.next-is, w.out-is) (fields-next L l (sym (plain-wide sw _ _ _ e))
+          (shown-opens _ _ _ _ _ _ (field_plain (inner_of lax a.table.now a.levels) sw (static_of lax a.table.now a.levels (a.depth - 1)) _ a.bytes.now c.loop.place _ _ e) (shown-bytes VA _ is-VA _ _ _ _ _ _ _ (plain-left L l q z).0 v.0 v.1)))
+    | show_fields-else-plain-ne0 w ↦
+        rw (w.place-is, w.next-is, w.out-is) (fields-next L l (w.field_width-place.ensures.0 es ∙ wide-field a.table.now a.index.now c.requires.0 (a.depth - 1) _ (field-flat L l)) w.show_field-next.ensures)
+  ]
+
+pub show_fields-returns : goal.show_fields-returns
+show_fields-returns t c = fields-done c.loop.invariant c.loop-test.false
+
+pub show_groups-loop-init : goal.show_groups-loop-init
+show_groups-loop-init t c = items-start c.requires.2 c.requires.3
+
+pub show_groups-show_extending-next-requires : goal.show_groups-show_extending-next-requires
+show_groups-show_extending-next-requires t c = let R = c.requires in let L = c.loop.invariant in let l = c.loop-test.true in
+    (search rules, (R.0, R.1, item-inside L l, item-fits L l))
+
+pub show_groups-loop-preserved : goal.show_groups-loop-preserved
+show_groups-loop-preserved t c = items-next c.loop.invariant c.loop-test.true c.show_extending-next.ensures
+
+pub show_groups-returns : goal.show_groups-returns
+show_groups-returns t c = items-done c.loop.invariant c.loop-test.false
+
+pub show_items-loop-init : goal.show_items-loop-init
+show_items-loop-init t c = items-start c.requires.2 c.requires.5
+
+pub show_items-show_item-next-requires : goal.show_items-show_item-next-requires
+show_items-show_item-next-requires t c = let R = c.requires in let L = c.loop.invariant in let l = c.loop-test.true in
+    (search rules, (R.0, R.1, omega (arith, item-inside L l, R.3), R.4, item-fits L l))
+
+pub show_items-overflow_add-place : goal.show_items-overflow_add-place
+show_items-overflow_add-place t c = omega (arith, item-inside c.loop.invariant c.loop-test.true)
+
+pub show_items-loop-preserved : goal.show_items-loop-preserved
+show_items-loop-preserved t c = items-next c.loop.invariant c.loop-test.true c.show_item-next.ensures
+
+pub show_items-returns : goal.show_items-returns
+show_items-returns t c = items-done c.loop.invariant c.loop-test.false
+
+pub show_value-show_item-requires : goal.show_value-show_item-requires
+show_value-show_item-requires t c = let a = c.args in let R = c.requires in let t = a.table.now in let es = enums t in let k = c.kind_at-kind.ensures es in let f = field_at es (drop a.field t) in let o = sym (c.is_sequence.ensures es) ∙ c.if-not-is_sequence.true in
+    (search rules, (R.0, R.1, omega (arith, width_one (width_of t a.depth) f o, ap (kind_width (width_of t a.depth)) k, R.3), rw (sym k) at R.4, fits-opens _ _ _ _ (value-item (inner_of lax t a.levels) (width_of t a.depth) (static_of lax t a.levels a.depth) f a.bytes.now a.at _ k o) R.5))
+
+pub show_value-returns-then-not-is_sequence : goal.show_value-returns-then-not-is_sequence
+show_value-returns-then-not-is_sequence t c = let a = c.args in let t = a.table.now in let es = enums t in
+    shown-opens _ _ _ _ _ _ (value-item (inner_of lax t a.levels) (width_of t a.depth) (static_of lax t a.levels a.depth) (field_at es (drop a.field t)) a.bytes.now a.at _ (c.kind_at-kind.ensures es) (sym (c.is_sequence.ensures es) ∙ c.if-not-is_sequence.true)) c.show_item.ensures
+
 pub show_value-read_u32-requires : goal.show_value-read_u32-requires
 show_value-read_u32-requires t c = let a = c.args in let t = a.table.now in let es = enums t in
-    omega (arith, width-sequence (width_of t a.depth) (field_at es (drop a.field t)) (sym (c.is_sequence.ensures es) ∙ c.if-is_sequence.true), c.requires.3)
+    omega (arith, width-sequence (width_of t a.depth) (field_at es (drop a.field t)) (sym (c.is_sequence.ensures es) ∙ c.if-not-is_sequence.false), c.requires.3)
 
 pub show_value-read_u32-total-requires : goal.show_value-read_u32-total-requires
-show_value-read_u32-total-requires t c = let a = c.args in let R = c.requires in let t = a.table.now in let b = a.bytes.now in let I = inner_of lax t a.levels in let es = enums t in let sw = width_of t a.depth in let S = static_of lax t a.levels a.depth in let f = field_at es (drop a.field t) in let k = c.kind_at-kind.ensures es in let o = sym (c.is_sequence.ensures es) ∙ c.if-is_sequence.true in
-    let iw = c.kind_width-width.ensures.0 es ∙ wide-kind t a.index.now R.0 a.depth _ (rw (sym k) at R.4) in let ip = ap (λ (n : ℕ). a.at + n) c.read_u32.ensures.0 in
-    omega (arith, sequence-inside I sw S f b a.at _ k o _ iw _ _ ip refl _ R.5.reads)
+show_value-read_u32-total-requires t c = let a = c.args in let R = c.requires in let es = enums a.table.now in let k = c.kind_at-kind.ensures es in let o = sym (c.is_sequence.ensures es) ∙ c.if-not-is_sequence.false in let ip = ap (λ (n : ℕ). a.at + n) c.read_u32.ensures.0 in
+    omega (arith, (value-left a.table.now a.bytes.now a.levels a.depth a.field a.at _ _ _ _ k o ip refl refl a.pos a.out.now R.5).0)
 
 pub show_value-show_bytes-next-requires : goal.show_value-show_bytes-next-requires
-show_value-show_bytes-next-requires t c = let a = c.args in let R = c.requires in let t = a.table.now in let b = a.bytes.now in let I = inner_of lax t a.levels in let es = enums t in let sw = width_of t a.depth in let S = static_of lax t a.levels a.depth in let f = field_at es (drop a.field t) in let k = c.kind_at-kind.ensures es in let o = sym (c.is_sequence.ensures es) ∙ c.if-is_sequence.true in
-    let iw = c.kind_width-width.ensures.0 es ∙ wide-kind t a.index.now R.0 a.depth _ (rw (sym k) at R.4) in let ip = ap (λ (n : ℕ). a.at + n) c.read_u32.ensures.0 in let n = c.read_u32-total.ensures.0 in
-    let h : a.at + c.read_u32.result + 4 ≤ length b = omega (arith, sequence-inside I sw S f b a.at _ k o _ iw _ _ ip n _ R.5.reads) in
-    (omega (arith, h), bytes-room SQ _ _ 4 _ b h (first_fits _ _ _ _ _ _ _ (opened _ _ _ _ _ _ _ (sequence-opens I sw S f b a.at _ k o _ iw _ _ ip n) (begun _ _ _ R.5))))
+show_value-show_bytes-next-requires t c = let a = c.args in let R = c.requires in let es = enums a.table.now in let k = c.kind_at-kind.ensures es in let o = sym (c.is_sequence.ensures es) ∙ c.if-not-is_sequence.false in let ip = ap (λ (n : ℕ). a.at + n) c.read_u32.ensures.0 in let d = rw (sym k) at R.4 in
+    let iw = c.kind_width-width.ensures.0 es ∙ wide-kind a.table.now a.index.now R.0 a.depth _ d in let q = value-left a.table.now a.bytes.now a.levels a.depth a.field a.at _ _ _ _ k o ip c.read_u32-total.ensures.0 iw a.pos a.out.now R.5 in let h : a.at + c.read_u32.result + 4 ≤ length a.bytes.now = omega (arith, q.0) in
+    (h, bytes-room SQ _ _ 4 _ _ h (first_fits _ _ _ _ _ _ _ q.1))
 
 pub show_value-show_items-requires : goal.show_value-show_items-requires
-show_value-show_items-requires t c = let a = c.args in let R = c.requires in let t = a.table.now in let es = enums t in let k = c.kind_at-kind.ensures es in let d = rw (sym k) at R.4 in let iw = c.kind_width-width.ensures.0 es ∙ wide-kind t a.index.now R.0 a.depth _ d in let o = sym (c.is_sequence.ensures es) in
-    let v = value-items t a.bytes.now a.levels a.depth a.field a.at c.kind_at-kind.result c.kind_width-width.result c.if-is_sequence.total c.if-is_sequence.start c.if-is_sequence.next a.pos a.out.now c.if-is_sequence.out k iw R.3 R.5 (elim c.if-is_sequence.branch [
-      | show_value-then-is_sequence w ↦ inl (o ∙ w.if-is_sequence.true, _, ap (λ (n : ℕ). a.at + n) w.read_u32.ensures.0, w.total-is ∙ w.read_u32-total.ensures.0, w.start-is, w.out-is ∙ w.show_bytes-next.ensures.0, w.next-is ∙ w.show_bytes-next.ensures.1)
-      | show_value-else-is_sequence w ↦ inr (o ∙ w.if-is_sequence.false, w.total-is, w.start-is, w.out-is, w.next-is)
-    ]) in
-    (search rules, (R.0, R.1, v.0, iw, d, v.1.fits))
+show_value-show_items-requires t c = let a = c.args in let R = c.requires in let es = enums a.table.now in let k = c.kind_at-kind.ensures es in let o = sym (c.is_sequence.ensures es) ∙ c.if-not-is_sequence.false in let ip = ap (λ (n : ℕ). a.at + n) c.read_u32.ensures.0 in let d = rw (sym k) at R.4 in
+    let iw = c.kind_width-width.ensures.0 es ∙ wide-kind a.table.now a.index.now R.0 a.depth _ d in let q = value-left a.table.now a.bytes.now a.levels a.depth a.field a.at _ _ _ _ k o ip c.read_u32-total.ensures.0 iw a.pos a.out.now R.5 in let h : a.at + c.read_u32.result + 4 ≤ length a.bytes.now = omega (arith, q.0) in
+    (search rules, (R.0, R.1, omega (arith, q.0), iw, d, (called _ _ _ _ _ _ _ q.1 _ _ (shown-bytes SQ _ is-SQ _ _ _ _ 4 _ _ h c.show_bytes-next.ensures.0 c.show_bytes-next.ensures.1)).fits))
 
 pub show_value-returns : goal.show_value-returns
-show_value-returns t c = let a = c.args in let R = c.requires in let t = a.table.now in let es = enums t in let k = c.kind_at-kind.ensures es in let d = rw (sym k) at R.4 in let iw = c.kind_width-width.ensures.0 es ∙ wide-kind t a.index.now R.0 a.depth _ d in let o = sym (c.is_sequence.ensures es) in
-    let v = value-items t a.bytes.now a.levels a.depth a.field a.at c.kind_at-kind.result c.kind_width-width.result c.if-is_sequence.total c.if-is_sequence.start c.if-is_sequence.next a.pos a.out.now c.if-is_sequence.out k iw R.3 R.5 (elim c.if-is_sequence.branch [
-      | show_value-then-is_sequence w ↦ inl (o ∙ w.if-is_sequence.true, _, ap (λ (n : ℕ). a.at + n) w.read_u32.ensures.0, w.total-is ∙ w.read_u32-total.ensures.0, w.start-is, w.out-is ∙ w.show_bytes-next.ensures.0, w.next-is ∙ w.show_bytes-next.ensures.1)
-      | show_value-else-is_sequence w ↦ inr (o ∙ w.if-is_sequence.false, w.total-is, w.start-is, w.out-is, w.next-is)
-    ]) in
-    v.1.whole _ _ c.show_items.ensures
+show_value-returns t c = let a = c.args in let R = c.requires in let es = enums a.table.now in let k = c.kind_at-kind.ensures es in let o = sym (c.is_sequence.ensures es) ∙ c.if-not-is_sequence.false in let ip = ap (λ (n : ℕ). a.at + n) c.read_u32.ensures.0 in let d = rw (sym k) at R.4 in
+    let iw = c.kind_width-width.ensures.0 es ∙ wide-kind a.table.now a.index.now R.0 a.depth _ d in let q = value-left a.table.now a.bytes.now a.levels a.depth a.field a.at _ _ _ _ k o ip c.read_u32-total.ensures.0 iw a.pos a.out.now R.5 in let h : a.at + c.read_u32.result + 4 ≤ length a.bytes.now = omega (arith, q.0) in
+    (called _ _ _ _ _ _ _ q.1 _ _ (shown-bytes SQ _ is-SQ _ _ _ _ 4 _ _ h c.show_bytes-next.ensures.0 c.show_bytes-next.ensures.1)).whole _ _ c.show_items.ensures

@@ -1,14 +1,6 @@
-use Prim.Native.Nat.{◌+◌, ◌-◌, ◌*◌, ◌≤◌}
-use mathlib.Core.Path.{◌≡◌}
-use mathlib.Core.Bool.{true}
-use lib.ListN.{length, drop}
-use Rattle.schema.specs.Schema.{fields_width, shallow_fields, shallow}
-use Rattle.schema.specs.Table.{fields_at, enums, schema}
-use Rattle.settings.specs.Store.{lax}
-use Rattle.message.specs.Walk.{items_r, fields_r}
-use Rattle.message.specs.Check.{inner_of, width_of, static_of}
-use Rattle.sheet.specs.Show.{passage, item_of, extending_of, takes}
-use Rattle.sheet.proofs.ShowLaws.{Left}
+use Prim.Native.Nat.{◌+◌, ◌-◌, ◌*◌}
+use Rattle.sheet.specs.Show.{item_of, extending_of, takes}
+use Rattle.sheet.proofs.Loops.{ItemsLeft, FieldsLeft}
 use Rattle.sheet.proofs.+show.Given as goal
 
 abbrev pub decreases-close_group : goal.decreases-close_group
@@ -44,28 +36,11 @@ decreases-show_nested l = 64 * l.levels + 3
 abbrev pub decreases-show_value : goal.decreases-show_value
 decreases-show_value l = 64 * l.levels + 10 * l.depth + 8
 
-abbrev pub invariant-show_fields-loop-i : goal.invariant-show_fields-loop-i
-invariant-show_fields-loop-i l =
-    (l.i ≤ l.total) × (length l.out ≡ length l.initial.out) × (l.field + 16 * (l.total - l.i) ≤ length l.table)
-    × (l.place + fields_width (width_of l.table l.deeper) (fields_at (enums l.table) (l.total - l.i) (drop l.field l.table)) ≤ length l.bytes)
-    × (shallow_fields (shallow (schema l.table) l.deeper) (width_of l.table l.deeper) (fields_at (enums l.table) (l.total - l.i) (drop l.field l.table)) ≡ true)
-    × Left (passage (static_of lax l.table l.levels l.depth l.group) l.bytes l.at) l.pos l.initial.out (passage (fields_r (inner_of lax l.table l.levels) (width_of l.table l.deeper) (static_of lax l.table l.levels l.deeper) (fields_at (enums l.table) (l.total - l.i) (drop l.field l.table))) l.bytes l.place) l.next l.out
+abbrev pub invariant-show_fields-loop : goal.invariant-show_fields-loop
+invariant-show_fields-loop l = FieldsLeft l.table l.bytes l.levels l.depth l.group l.at l.pos l.initial.out l.total l.counter l.field l.place l.next l.out
 
-abbrev pub decreases-show_fields-loop-i : goal.decreases-show_fields-loop-i
-decreases-show_fields-loop-i l = l.total - l.i
+abbrev pub invariant-show_groups-loop : goal.invariant-show_groups-loop
+invariant-show_groups-loop l = ItemsLeft l.bytes 4 (extending_of l.table l.levels) l.total l.at l.pos l.initial.out l.counter l.place l.next l.out
 
-abbrev pub invariant-show_groups-loop-i : goal.invariant-show_groups-loop-i
-invariant-show_groups-loop-i l =
-    (l.i ≤ l.total) × (length l.out ≡ length l.initial.out) × (l.place + (l.total - l.i) * 4 ≤ length l.bytes)
-    × Left (passage (items_r 4 (extending_of l.table l.levels) l.total) l.bytes l.at) l.pos l.initial.out (passage (items_r 4 (extending_of l.table l.levels) (l.total - l.i)) l.bytes l.place) l.next l.out
-
-abbrev pub decreases-show_groups-loop-i : goal.decreases-show_groups-loop-i
-decreases-show_groups-loop-i l = l.total - l.i
-
-abbrev pub invariant-show_items-loop-i : goal.invariant-show_items-loop-i
-invariant-show_items-loop-i l =
-    (l.i ≤ l.total) × (length l.out ≡ length l.initial.out) × (l.place + (l.total - l.i) * l.width ≤ length l.bytes)
-    × Left (passage (items_r l.width (item_of l.table l.levels l.depth l.kind) l.total) l.bytes l.at) l.pos l.initial.out (passage (items_r l.width (item_of l.table l.levels l.depth l.kind) (l.total - l.i)) l.bytes l.place) l.next l.out
-
-abbrev pub decreases-show_items-loop-i : goal.decreases-show_items-loop-i
-decreases-show_items-loop-i l = l.total - l.i
+abbrev pub invariant-show_items-loop : goal.invariant-show_items-loop
+invariant-show_items-loop l = ItemsLeft l.bytes l.width (item_of l.table l.levels l.depth l.kind) l.total l.at l.pos l.initial.out l.counter l.place l.next l.out

@@ -3,7 +3,6 @@ use Rattle.schema.specs.declared.Fault.{Fault}
 use Rattle.schema.specs.Faults.{Verdict}
 use Rattle.std.specs.Prelude.{Ok, Err, Result, Bool, cond, ◌&&◌, ◌||◌, List, ℕ, leb, eqb}
 use Rattle.reading.specs.declared.Number.{Number}
-use Rattle.reading.specs.declared.Number.TheVariants.{Signed, Unsigned, Bool as Flag, Decimal, Float, NanBits}
 use Rattle.opening.specs.Opening.{Under}
 use Rattle.codec.specs.Answers.{number_answer, bytes_verdict}
 
@@ -17,12 +16,7 @@ placeless n = between 20 23 n || between 28 30 n || eqb n 42 || between 46 48 n 
 -- A field that is no number is asked for as bytes: "48 other kind".
 unfoldable pub or_bytes : Result Number Fault → Verdict → Verdict
 or_bytes (Err f) v = cond (eqb f.number 48) v (Err f)
-or_bytes (Signed x) v = Ok tt
-or_bytes (Unsigned x) v = Ok tt
-or_bytes (Flag x) v = Ok tt
-or_bytes (Decimal e x) v = Ok tt
-or_bytes (Float x) v = Ok tt
-or_bytes (NanBits x) v = Ok tt
+or_bytes (Ok n) v = Ok tt
 
 -- Why a field has no value to print.
 abbrev pub field_verdict : List ℕ → List ℕ → Under → ℕ → ℕ → Verdict

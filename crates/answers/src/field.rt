@@ -4,11 +4,12 @@ ghost use Rattle.opening.specs.Opening.{under};
 ghost use Rattle.codec.specs.Answers.{bytes_verdict};
 ghost use Rattle.answers.specs.Faults.{field_verdict};
 
-use codec::{Number, Verdict};
+use codec::{Fault, Number};
 use printing::print::Page;
 use printing::{print, value};
 
 // Prints the value, or answers why there is none.
+#[tactic(auto, unfolding(crate::specs::Faults::or_bytes))]
 pub fn print_field(
     page: &mut Page,
     table: &[u8],
@@ -21,29 +22,29 @@ pub fn print_field(
 ) -> Result<(), Fault>
     ensures { result ≡ field_verdict table.now message.now (under store.now customer (length scratch.old)) field item }
 {
-    let n = codec::read_number(table, store, customer, message, scratch, field, item);
-    match n {
-        Number::Refused { number, place } => {
-            if number == 48 {
-                return print_bytes(page, table, store, customer, message, scratch, field, item);
-            }
-            Verdict::Refused { number, place }
-        }
-        _ => {
+    match codec::read_number(table, store, customer, message, scratch, field, item) {
+        Ok(n) => {
             print_number(page, rows::message_type(table, message, field), n);
-            Verdict::Accepted
+            Ok(())
         }
+        // The field is no number: "48 other kind".
+        Err(
+            Fault {
+                number: 48,
+                place: _,
+            },
+        ) => print_bytes(page, table, store, customer, message, scratch, field, item),
+        Err(fault) => Err(fault),
     }
 }
 
-fn print_number(page: &mut Page, number: u8, n: Result<Number, Fault>) {
+fn print_number(page: &mut Page, number: u8, n: Number) {
     value::print_type(page, number);
     print::space(page);
     value::print_number(page, number, n);
     print::end_line(page);
 }
 
-// The field is no number: "48 other kind".
 fn print_bytes(
     page: &mut Page,
     table: &[u8],
@@ -56,20 +57,11 @@ fn print_bytes(
 ) -> Result<(), Fault>
     ensures { result ≡ bytes_verdict table.now message.now (under store.now customer (length scratch.old)) field item }
 {
-    let v = codec::read_bytes_verdict(table, store, customer, message, scratch, field, item);
-    match v {
-        Verdict::Accepted => {
-            let bytes = codec::read_bytes(table, store, customer, message, scratch, field, item);
-            print_part(page, rows::message_type(table, message, field), bytes);
-            Verdict::Accepted
-        }
-        Verdict::Refused { number, place } => Verdict::Refused { number, place },
-    }
-}
-
-fn print_part(page: &mut Page, number: u8, bytes: &[u8]) {
+    let part = codec::find_bytes(table, store, customer, message, scratch, field, item)?;
+    let number = rows::message_type(table, message, field);
     value::print_type(page, number);
     print::space(page);
-    value::print_bytes(page, number, bytes);
+    value::print_bytes(page, number, rows::part(message, part.start, part.length));
     print::end_line(page);
+    Ok(())
 }

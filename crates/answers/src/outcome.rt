@@ -1,9 +1,9 @@
 // What came of a question, and the exit status that says so.
 ghost use Rattle.std.specs.Prelude.{◌≡◌};
-ghost use Rattle.answers.specs.declared.outcome.Outcome.TheVariants.{Refused};
 ghost use Rattle.answers.specs.Outcomes.{status_of, worse_of};
 
-#[derive(Clone, Copy)]
+// In the order of how much they matter.
+#[derive(Clone, Copy, Debug, PartialEq, Eq, PartialOrd, Ord)]
 pub enum Outcome {
     // Accepted, written or answered.
     Answered,
@@ -12,6 +12,7 @@ pub enum Outcome {
     Failed,
 }
 
+#[tactic(auto, unfolding(crate::specs::Outcomes::status_of))]
 pub fn status(outcome: Outcome) -> i32
     ensures { result ≡ status_of outcome }
 {
@@ -23,22 +24,9 @@ pub fn status(outcome: Outcome) -> i32
 }
 
 // Of two outcomes the one that matters more.
+#[tactic(auto, unfolding(crate::specs::Outcomes::worse_of))]
 pub fn worse(a: Outcome, b: Outcome) -> Outcome
     ensures { result ≡ worse_of a b }
 {
-    match a {
-        Outcome::Answered => b,
-        Outcome::Refused => worse_than_refused(b),
-        Outcome::Failed => Outcome::Failed,
-    }
-}
-
-fn worse_than_refused(b: Outcome) -> Outcome
-    ensures { result ≡ worse_of Refused b }
-{
-    match b {
-        Outcome::Answered => Outcome::Refused,
-        Outcome::Refused => Outcome::Refused,
-        Outcome::Failed => Outcome::Failed,
-    }
+    a.max(b)
 }

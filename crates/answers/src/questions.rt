@@ -7,7 +7,7 @@ ghost use Rattle.answers.specs.Faults.{field_verdict};
 
 use crate::outcome::Outcome;
 use crate::{field, refusal};
-use codec::{Verdict, Written};
+use codec::Fault;
 use layout::walk;
 use printing::print;
 use printing::print::Page;
@@ -15,22 +15,17 @@ use printing::print::Page;
 pub fn check_table(page: &mut Page, table: &[u8]) -> Outcome
     ensures { result ≡ outcome_of (table_verdict table.now) }
 {
-    let v = codec::check_table(table);
-    refusal::say_alone(page, v, table)
+    refusal::say_alone(page, codec::check_table(table), table)
 }
 
 // The table as text.
 pub fn list_table(page: &mut Page, table: &[u8]) -> Outcome
     ensures { result ≡ outcome_of (table_verdict table.now) }
 {
-    let v = codec::check_table(table);
-    let outcome = refusal::say_alone(page, v, table);
-    match v {
-        Verdict::Accepted => listing::print_table(page, table),
-        Verdict::Refused {
-            number: _,
-            place: _,
-        } => {}
+    let verdict = codec::check_table(table);
+    let outcome = refusal::say_alone(page, verdict, table);
+    if verdict.is_ok() {
+        listing::print_table(page, table);
     }
     outcome
 }
@@ -45,8 +40,8 @@ pub fn check(
 ) -> Outcome
     ensures { result ≡ outcome_of (message_verdict table.now message.now (under store.now customer (length scratch.old))) }
 {
-    let v = codec::check_message(table, store, customer, message, scratch);
-    refusal::say(page, v, table, store, message)
+    let verdict = codec::check_message(table, store, customer, message, scratch);
+    refusal::say(page, verdict, table, store, message)
 }
 
 // The answer's line alone, for one of several messages.
@@ -60,10 +55,11 @@ pub fn check_briefly(
 ) -> Outcome
     ensures { result ≡ outcome_of (message_verdict table.now message.now (under store.now customer (length scratch.old))) }
 {
-    let v = codec::check_message(table, store, customer, message, scratch);
-    refusal::print_verdict(page, v)
+    let verdict = codec::check_message(table, store, customer, message, scratch);
+    refusal::print_verdict(page, verdict)
 }
 
+#[tactic(auto, unfolding(crate::specs::Outcomes::outcome_of))]
 pub fn read(
     page: &mut Page,
     table: &[u8],
@@ -76,12 +72,9 @@ pub fn read(
 ) -> Outcome
     ensures { result ≡ outcome_of (field_verdict table.now message.now (under store.now customer (length scratch.old)) field item) }
 {
-    let v = field::print_field(page, table, store, customer, message, scratch, field, item);
-    match v {
-        Verdict::Accepted => Outcome::Answered,
-        Verdict::Refused { number, place } => {
-            refusal::refuse(page, number, place, table, store, message)
-        }
+    match field::print_field(page, table, store, customer, message, scratch, field, item) {
+        Ok(()) => Outcome::Answered,
+        Err(fault) => refusal::refuse(page, fault, table, store, message),
     }
 }
 
@@ -94,16 +87,13 @@ pub fn show(
     scratch: &mut [u8],
     sheet: &mut [u8],
 ) -> Outcome {
-    let w = codec::message_to_sheet(table, store, customer, message, scratch, sheet);
-    match w {
-        Written::Bytes(length) => {
+    match codec::message_to_sheet(table, store, customer, message, scratch, sheet) {
+        Ok(length) => {
             print::text(page, b"accepted\n");
             showing::print_sheet(page, table, sheet, length);
             Outcome::Answered
         }
-        Written::Refused { number, place } => {
-            refusal::refuse(page, number, place, table, store, message)
-        }
+        Err(fault) => refusal::refuse(page, fault, table, store, message),
     }
 }
 
@@ -119,13 +109,11 @@ pub fn dump(
 ) -> Outcome
     ensures { result ≡ outcome_of (message_verdict table.now message.now (under store.now customer (length scratch.old))) }
 {
-    let v = codec::check_message(table, store, customer, message, scratch);
-    let outcome = refusal::say(page, v, table, store, message);
-    match v {
-        Verdict::Accepted => dump_whole(page, table, message, labels),
-        Verdict::Refused { number, place } => {
-            dump_up_to(page, number, place, table, message, labels)
-        }
+    let verdict = codec::check_message(table, store, customer, message, scratch);
+    let outcome = refusal::say(page, verdict, table, store, message);
+    match verdict {
+        Ok(()) => dump_whole(page, table, message, labels),
+        Err(fault) => dump_up_to(page, fault, table, message, labels),
     }
     outcome
 }
@@ -135,20 +123,11 @@ fn dump_whole(page: &mut Page, table: &[u8], message: &[u8], labels: &mut [u64])
     listing::print_dump(page, message, labels);
 }
 
-fn dump_up_to(
-    page: &mut Page,
-    number: u8,
-    place: usize,
-    table: &[u8],
-    message: &[u8],
-    labels: &mut [u64],
-) {
-    match number {
-        20 | 21 | 22 | 23 => {}
-        50 => {}
-        _ => {
-            let stop = walk::lay_out(table, message, labels);
-            listing::print_refused_dump(page, message, labels, number, place, stop);
-        }
+// Of the table's, the scratch's, the store's and the message's size's faults no byte of the message is shown.
+fn dump_up_to(page: &mut Page, fault: Fault, table: &[u8], message: &[u8], labels: &mut [u64]) {
+    if matches!(fault.number, 20..=23 | 50) {
+        return;
     }
+    let stop = walk::lay_out(table, message, labels);
+    listing::print_refused_dump(page, message, labels, fault.number, fault.place, stop);
 }

@@ -1,8 +1,8 @@
 // Answers as text.
 ghost use Rattle.std.specs.Prelude.{◌≡◌};
 
-use codec::{Number, Setting, Span, Verdict, Written};
-use tape::{Answer, Step};
+use codec::{Fault, Ignored, Number, Part};
+use tape::Step;
 
 const STDOUT_FILENO: i32 = 1;
 
@@ -21,16 +21,16 @@ pub fn end_line() {
 // A fault's number and place, both 0 where nothing is refused.
 pub fn verdict(v: Result<(), Fault>) {
     match v {
-        Verdict::Accepted => fault(0, 0),
-        Verdict::Refused { number, place } => fault(number as usize, place),
+        Ok(()) => fault(0, 0),
+        Err(Fault { number, place }) => fault(usize::from(number), place),
     }
 }
 
 // Also how many bytes were written.
 pub fn written(w: Result<usize, Fault>) {
     match w {
-        Written::Bytes(n) => three(0, 0, n),
-        Written::Refused { number, place } => three(number as usize, place, 0),
+        Ok(n) => three(0, 0, n),
+        Err(Fault { number, place }) => three(usize::from(number), place, 0),
     }
 }
 
@@ -43,12 +43,12 @@ fn three(number: usize, place: usize, length: usize) {
 // The flags of a setting, all 0 on a refusal.
 pub fn setting(s: Result<Ignored, Fault>) {
     match s {
-        Setting::Ignores { ignored } => {
+        Ok(ignored) => {
             fault(0, 0);
             flags(ignored.absent, ignored.pads, ignored.unused);
         }
-        Setting::Refused { number, place } => {
-            fault(number as usize, place);
+        Err(Fault { number, place }) => {
+            fault(usize::from(number), place);
             flags(false, false, false);
         }
     }
@@ -68,8 +68,8 @@ fn flag(set: bool) {
 // Where bytes lie in the message, and how many they are: after a space, and both 0 on a refusal.
 pub fn span(s: Result<Part, Fault>) {
     match s {
-        Span::Bytes { start, length } => two(start, length),
-        Span::Refused { number, place } => two(0, 0),
+        Ok(Part { start, length }) => two(start, length),
+        Err(_) => two(0, 0),
     }
 }
 
@@ -83,17 +83,17 @@ fn two(start: usize, length: usize) {
 // What kind of number it is and its value; or the fault, and that it is refused.
 pub fn answer(n: Result<Number, Fault>) {
     match n {
-        Number::Signed(x) => signed(b"signed ", x),
-        Number::Unsigned(x) => unsigned(b"unsigned ", x),
-        Number::Bool(x) => unsigned(b"bool ", x as u64),
-        Number::Decimal { exponent, mantissa } => {
+        Ok(Number::Signed(x)) => signed(b"signed ", x),
+        Ok(Number::Unsigned(x)) => unsigned(b"unsigned ", x),
+        Ok(Number::Bool(x)) => unsigned(b"bool ", x as u64),
+        Ok(Number::Decimal { exponent, mantissa }) => {
             signed(b"decimal ", wide(exponent));
             signed_after(b" ", mantissa);
         }
-        Number::Float(x) => float(x),
-        Number::NanBits(x) => unsigned(b"float ", x),
-        Number::Refused { number, place } => {
-            fault(number as usize, place);
+        Ok(Number::Float(x)) => float(x),
+        Ok(Number::NanBits(x)) => unsigned(b"float ", x),
+        Err(Fault { number, place }) => {
+            fault(usize::from(number), place);
             text(b" refused");
         }
     }
@@ -104,17 +104,17 @@ pub fn answer(n: Result<Number, Fault>) {
 pub fn step(s: Step, part: &[u8], scratch: &[u8]) {
     let answer = s.answer;
     match answer {
-        Answer::Ended => {
+        None => {
             text(b"ended");
             handed(s.next, part, scratch);
         }
-        Answer::Accepted => {
+        Some(Ok(())) => {
             fault(0, 0);
             handed(s.next, part, scratch);
             text(b"; ");
         }
-        Answer::Refused { number, place } => {
-            fault(number as usize, place);
+        Some(Err(Fault { number, place })) => {
+            fault(usize::from(number), place);
             handed(s.next, part, scratch);
             text(b"; ");
         }

@@ -120,7 +120,7 @@ fn print_float(page: &mut Page, x: f64) {
     }
 }
 
-// A number of a field of this type; nothing of a refusal.
+// A number of a field of this type.
 pub fn print_number(page: &mut Page, number: u8, n: Number) {
     match n {
         Number::Signed(x) => print_signed_as(page, number, x),
@@ -129,7 +129,6 @@ pub fn print_number(page: &mut Page, number: u8, n: Number) {
         Number::Decimal { exponent, mantissa } => print_decimal(page, mantissa, exponent),
         Number::Float(x) => print_float(page, x),
         Number::NanBits(x) => print_bits(page, x),
-        Number::Refused { number, place } => {}
     }
 }
 

@@ -12,7 +12,6 @@ use layout::label::{
 };
 use printing::print::Page;
 use printing::{around, print, value};
-use reading::Number;
 
 // RUNS
 
@@ -85,10 +84,6 @@ fn print_target(page: &mut Page, run: &[u8], at: usize) {
     }
 }
 
-fn number_of(bytes: &[u8; 9], number: u8) -> Result<Number, Fault> {
-    reading::number_at(bytes, 0, number)
-}
-
 // A number has at most nine bytes. That of type 19, fixed, is bytes and no number.
 fn print_value(page: &mut Page, number: u8, run: &[u8]) {
     if number == 19 {
@@ -97,7 +92,9 @@ fn print_value(page: &mut Page, number: u8, run: &[u8]) {
     let mut bytes = [0u8; 9];
     wire::copy(&mut bytes, 0, run, 0, smaller(run.len(), 9));
     print::space(page);
-    value::print_number(page, number, number_of(&bytes, number));
+    if let Ok(n) = reading::number_at(&bytes, 0, number) {
+        value::print_number(page, number, n);
+    }
 }
 
 // A string that is not too long is shown once more.

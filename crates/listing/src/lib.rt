@@ -7,16 +7,14 @@ mod names;
 mod tables;
 
 use printing::print::Page;
-use schema::Verdict;
 
 // Of a table that is refused nothing is printed.
 pub fn print_table(page: &mut Page, table: &[u8]) {
     let mut index = [0u16; 322];
-    let verdict = table::index_table(table, &mut index);
-    match verdict {
-        Verdict::Accepted => tables::print_records(page, table, &index),
-        Verdict::Refused { number, place } => {}
-    }
+    let Ok(()) = table::index_table(table, &mut index) else {
+        return;
+    };
+    tables::print_records(page, table, &index);
 }
 
 // The labels are those that crate `layout` gives the message.

@@ -47,7 +47,9 @@ fn print_symbol(page: &mut Page, table: &[u8], at: usize)
     requires { at + 16 ≤ length table.now }
 {
     print::text(page, b"  symbol ");
-    value::print_number(page, 20, reading::number_at(table, at + 2, 20));
+    if let Ok(n) = reading::number_at(table, at + 2, 20) {
+        value::print_number(page, 20, n);
+    }
 }
 
 // GROUPS

@@ -315,7 +315,9 @@ fn print_number(page: &mut Page, left: &[u8], number: u8) {
     if left.len() < 11 {
         return;
     }
-    value::print_number(page, number, reading::number_at(left, 2, number));
+    if let Ok(n) = reading::number_at(left, 2, number) {
+        value::print_number(page, number, n);
+    }
 }
 
 // The value after the mark. That of type 19, fixed, is bytes and no number.

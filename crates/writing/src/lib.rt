@@ -50,13 +50,21 @@ fn write_inline(sheet: &[u8], pos: usize, capacity: usize, at: usize, out: &mut 
     pos + (4 + count)
 }
 
+// An offset at `at`, which counts from its own first byte and leads to the first free place.
+fn write_offset(free: usize, at: usize, out: &mut [u8])
+    requires { (at + 4 ≤ free) × (free ≤ length out.old) }
+    ensures { out.new ≡ splice 4 at (bytes_of 4 (free - at)) out.old }
+{
+    wire::write_u32(out, at, free - at);
+}
+
 // A count and so many bytes behind an offset, as the sheet has them.
 fn write_text(sheet: &[u8], ends: Ends, at: usize, out: &mut [u8]) -> Ends
     requires { (ends.pos + 4 ≤ length sheet.now) × (ends.pos + (4 + le (part 4 ends.pos sheet.now)) ≤ length sheet.now) × (at + 4 ≤ ends.free) × (ends.free + (4 + le (part 4 ends.pos sheet.now)) ≤ length out.old) }
     ensures { (out.new ≡ splice (4 + le (part 4 ends.pos sheet.now)) ends.free (part (4 + le (part 4 ends.pos sheet.now)) ends.pos sheet.now) (splice 4 at (bytes_of 4 (ends.free - at)) out.old)) × (result.pos ≡ ends.pos + (4 + le (part 4 ends.pos sheet.now))) × (result.free ≡ ends.free + (4 + le (part 4 ends.pos sheet.now))) }
 {
     let size = 4 + wire::read_u32(sheet, ends.pos);
-    wire::write_u32(out, at, ends.free - at);
+    write_offset(ends.free, at, out);
     wire::copy(out, ends.free, sheet, ends.pos, size);
     Ends {
         pos: ends.pos + size,
@@ -231,8 +239,9 @@ fn write_fields(
             ends.pos = write_bytes(sheet, ends.pos + 2, plain, place, out);
             place += plain;
         } else {
+            let width = schema::field_width(table, index, field);
             ends = write_field(table, index, sheet, levels, deeper, field, ends, place, out);
-            place += schema::field_width(table, index, field);
+            place += width;
         }
         field += 16;
     }
@@ -288,32 +297,19 @@ fn write_value(
     ensures { Stands (value_of table.now levels depth field at ends.free (drop ends.pos sheet.now)) at ends.free sheet.now out.old out.new result.pos result.free }
 {
     let kind = schema::kind_at(table, field);
-    let behind = ends.pos + 2;
-    if !schema::is_sequence(table, field) {
-        let item = Ends {
-            pos: behind,
-            ..ends
-        };
-        return write_item(table, index, sheet, levels, depth, kind, item, at, out);
-    }
     let width = schema::kind_width(index, kind);
-    let total = wire::read_u32(sheet, behind);
-    wire::write_u32(out, at, ends.free - at);
-    let pos = write_bytes(sheet, behind, 4, ends.free, out);
-    let free = ends.free + (4 + total * width);
-    let items = ends.free + 4;
+    // A single value is a row of one item, so that a level stays one call.
+    let (total, items, ends) = if schema::is_sequence(table, field) {
+        let total = wire::read_u32(sheet, ends.pos + 2);
+        write_offset(ends.free, at, out);
+        let pos = write_bytes(sheet, ends.pos + 2, 4, ends.free, out);
+        let free = ends.free + (4 + total * width);
+        (total, ends.free + 4, Ends { pos, free })
+    } else {
+        (1, at, ends)
+    };
     write_items(
-        table,
-        index,
-        sheet,
-        levels,
-        depth,
-        kind,
-        width,
-        total,
-        Ends { pos, free },
-        items,
-        out,
+        table, index, sheet, levels, depth, kind, width, total, ends, items, out,
     )
 }
 
@@ -414,7 +410,7 @@ fn write_nested(
     requires { (Layout table.now index.now) × (Fits (nested_of table.now levels allowed at ends.free (drop ends.pos sheet.now)) at ends.free out.old) }
     ensures { Stands (nested_of table.now levels allowed at ends.free (drop ends.pos sheet.now)) at ends.free sheet.now out.old out.new result.pos result.free }
 {
-    wire::write_u32(out, at, ends.free - at);
+    write_offset(ends.free, at, out);
     let group = write_group(
         table,
         index,
@@ -449,10 +445,9 @@ fn write_extension(
         wire::write_u32(out, 12, 0);
         return ends;
     }
-    let behind = ends.pos + 2;
-    let total = wire::read_u32(sheet, behind);
-    wire::write_u32(out, 12, ends.free - 12);
-    let pos = write_bytes(sheet, behind, 4, ends.free, out);
+    let total = wire::read_u32(sheet, ends.pos + 2);
+    write_offset(ends.free, 12, out);
+    let pos = write_bytes(sheet, ends.pos + 2, 4, ends.free, out);
     let free = ends.free + (4 + total * 4);
     let items = ends.free + 4;
     write_groups(

@@ -1,3 +1,5 @@
+use Rattle.writing.specs.declared.Ends.{Ends}
+use mathlib.Core.Logic.{◌⊎◌, inl, inr}
 use Prim.Native.Nat.{◌+◌, ◌-◌, ◌*◌, ◌≤◌, ◌<◌}
 use native.Mathlib.Omega.{arith}
 use mathlib.Core.Path.{◌≡◌, sym, ◌∙◌, refl, ap}
@@ -16,13 +18,13 @@ use Rattle.schema.specs.declared.FieldKind.{FieldKind}
 use Rattle.schema.specs.declared.FieldKind.TheVariants.{Plain}
 use Rattle.schema.proofs.Groups.{static-inside, placed-inside}
 use Rattle.schema.proofs.Depth.{and_both, shallow-some, wide-kind, wide-field}
-use Rattle.message.specs.Sheet.{VA, kind_mark, field_mark}
+use Rattle.message.specs.Sheet.{VA, kind_mark}
 use Rattle.message.specs.Check.{width_of}
 use Rattle.message.proofs.CheckFields.{plain-wide, kind-static}
-use Rattle.sheet.specs.Written.{indirect_w, list_b, items_w, Writing, Writer, marked_w, plain_w, value_w}
+use Rattle.sheet.specs.Written.{indirect_w, list_b, items_w, Writing, Writer, marked_w, plain_w}
 use Rattle.sheet.specs.Writers.{inner_of, static_of, kind_of, item_of, value_of, field_of, extending_of, extension_of}
 use Rattle.sheet.proofs.Widths.{wide_is, Wides, wides-indirect, wides-marked, wides-kind, wides-static, wides-extension}
-use Rattle.sheet.proofs.Writers.{field_plain, value-one, items-plain, items-text}
+use Rattle.sheet.proofs.Writers.{field_plain, value-one, items-plain, items-text, items-one}
 use Rattle.sheet.proofs.ShowReaders.{is-XT, is-XU}
 use Rattle.writing.specs.Write.{Fits, group_of, place_of, Scoped}
 use Rattle.writing.proofs.Laws.{put-byte}
@@ -34,7 +36,7 @@ use Rattle.writing.proofs.Scopes.{end-begins, end-room, whole-ends, fields-end, 
 use Prim.Native.Nat.{ℕ}
 use borrow.Author.Rules.{rules}
 use Rattle.writing.proofs.+write.Goals as goal
-use Rattle.writing.proofs.+write.Goals.{write_field-Joined-is_optional, write_field-then-is_optional+else-has_mark, write_field-else-is_optional, write_fields-then-plain-ne0, write_fields-else-plain-ne0}
+use Rattle.writing.proofs.+write.Goals.{write_field-Joined-is_optional, write_field-then-is_optional+else-has_mark, write_field-else-is_optional, write_fields-then-plain-ne0, write_fields-else-plain-ne0, write_value-then-is_sequence, write_value-else-is_sequence}
 
 -- what is left of the field where the two ways to its value meet
 
@@ -83,10 +85,17 @@ module _ (x : Writing) (least w : ℕ) (W : Writer) (u : Wides w W) (at free pos
       → Left x at free out (items_w w W n (free + 4) (free + (4 + n * w)) (drop p s)) (free + 4) (free + (4 + n * w)) left
   items_left m l e = list_left _ _ _ _ least w W u at free (pos + 2) n s out i (opened _ _ _ _ _ _ _ _ (begun _ _ _ _ f) _ o) _ _ _ _ _ m l e refl refl
 
--- a single value behind its mark
-module _ (t : List ℕ) (levels depth field at free pos : ℕ) (s : List ℕ) (k : FieldKind) (i : kind_from (enums t) k ≡ (field_at (enums t) (drop field t)).kind) (q : (field_at (enums t) (drop field t)).sequence ≡ false) where
-  one-opens : Opens (value_of t levels depth field at free (drop pos s)) (kind_of t levels depth k at free (drop (pos + 2) s))
-  one-opens F D r e = marked-opens (kind_mark (kind_from (enums t) k)) (kind_of t levels depth k) at free pos s F D r (sym (value-one (inner_of t levels) (width_of t depth) (static_of t levels depth) (field_at (enums t) (drop field t)) at free pos s _ i q) ∙ e)
+-- what is left of a value: so many items from where they start, and the two ends, which are behind the count of a sequence and behind its items
+value-left : (t : List ℕ) (levels depth field at w : ℕ) (e : Ends) (s out mid : List ℕ) (k : FieldKind) (j : ℕ × ℕ × Ends) → kind_from (enums t) k ≡ (field_at (enums t) (drop field t)).kind
+    → w ≡ kind_width (width_of t depth) (kind_from (enums t) k) → Fits (value_of t levels depth field at e.free (drop e.pos s)) at e.free out
+    → (((field_at (enums t) (drop field t)).sequence ≡ true) × (n : ℕ) × (p : ℕ) × (first : List ℕ) × (n ≡ le (part 4 (e.pos + 2) s)) × (first ≡ splice 4 at (bytes_of 4 (e.free - at)) out) × (mid ≡ splice 4 e.free (part 4 (e.pos + 2) s) first) × (p ≡ e.pos + 2 + 4)
+    × (j ≡ (n, e.free + 4, record { pos = p; free = e.free + (4 + n * w) })))
+    ⊎ (((field_at (enums t) (drop field t)).sequence ≡ false) × (mid ≡ out) × (j ≡ (1, at, e)))
+    → Left (value_of t levels depth field at e.free (drop e.pos s)) at e.free out (items_w w (item_of t levels depth k) j.0 j.1 j.2.free (drop j.2.pos s)) j.1 j.2.free mid
+value-left t levels depth field at w e s out mid k j i iw f (inl v) = rw v.8 (items_left _ 0 w (item_of t levels depth k) (item-wides t levels depth w k iw) at e.free e.pos v.1 s out v.4 f
+    (list-opens (inner_of t levels) (width_of t depth) (static_of t levels depth) (field_at (enums t) (drop field t)) at e.free e.pos s _ i v.0 w iw) v.5 v.6 v.7)
+value-left t levels depth field at w e s out mid k j i iw f (inr v) = rw (v.2, v.1) (opened _ _ _ _ _ _ _ _ (begun _ _ _ _ f) _
+    (same-opens _ _ (value-one (inner_of t levels) (width_of t depth) (static_of t levels depth) (field_at (enums t) (drop field t)) at e.free e.pos s _ i v.0 ∙ sym (items-one w (item_of t levels depth k) at e.free (drop e.pos s)))))
 
 pub close_group-write_extension-ends-requires : goal.close_group-write_extension-ends-requires
 close_group-write_extension-ends-requires t c = let a = c.args in let R = c.requires in let b = end-begins a.scope _ c.in-Whole.is a.ends.pos a.ends.free a.sheet.now a.out.now a.table.now a.levels R.1 in
@@ -237,21 +246,21 @@ pub write_items-returns-in-Indirect : goal.write_items-returns-in-Indirect
 write_items-returns-in-Indirect t c = let a = c.args in let R = c.requires in let t = a.table.now in let q = same-opens _ _ (items-text (inner_of t a.levels) (width_of t a.depth) (static_of t a.levels a.depth) (enums t) a.kind a.width a.total a.at a.ends.free (drop a.ends.pos a.sheet.now) R.1 _ c.in-Indirect.is) in
     stands-opens _ _ _ _ _ R.3 q _ _ _ _ (c.write_texts.ensures _ (fits-opens _ _ _ _ _ R.3 q))
 
-pub write_nested-write_u32-requires : goal.write_nested-write_u32-requires
-write_nested-write_u32-requires t c = let a = c.args in let R = c.requires in let t = a.table.now in let s = a.sheet.now in let o = a.out.now in let I = inner_of t a.levels in let r = nested-room t a.levels a.allowed a.at a.ends.free a.ends.pos s o R.1 in omega (arith, r.0, r.1)
+pub write_nested-write_offset-requires : goal.write_nested-write_offset-requires
+write_nested-write_offset-requires t c = let a = c.args in let R = c.requires in let t = a.table.now in let s = a.sheet.now in let o = a.out.now in let I = inner_of t a.levels in let r = nested-room t a.levels a.allowed a.at a.ends.free a.ends.pos s o R.1 in (r.0, r.1)
 
 pub write_nested-write_group-group-requires : goal.write_nested-write_group-group-requires
 unfolding group_of place_of Scoped deep
-write_nested-write_group-group-requires t c = let a = c.args in let R = c.requires in let t = a.table.now in let s = a.sheet.now in let o = a.out.now in let I = inner_of t a.levels in (search rules, (R.0, (refl, refl), nested-fits t a.levels a.allowed a.at a.ends.free a.ends.pos s o R.1 _ c.write_u32.ensures _ refl))
+write_nested-write_group-group-requires t c = let a = c.args in let R = c.requires in let t = a.table.now in let s = a.sheet.now in let o = a.out.now in let I = inner_of t a.levels in (search rules, (R.0, (refl, refl), nested-fits t a.levels a.allowed a.at a.ends.free a.ends.pos s o R.1 _ c.write_offset.ensures _ refl))
 
 pub write_nested-overflow_add-result : goal.write_nested-overflow_add-result
 unfolding group_of place_of
-write_nested-overflow_add-result t c = let a = c.args in let R = c.requires in let t = a.table.now in let s = a.sheet.now in let o = a.out.now in let I = inner_of t a.levels in let e = nested-end t a.levels a.allowed a.at a.ends.free a.ends.pos s o R.1 _ c.write_u32.ensures _ refl _ [] _ _ c.write_group-group.ensures in omega (arith, e, c.write_u32.auto.out)
+write_nested-overflow_add-result t c = let a = c.args in let R = c.requires in let t = a.table.now in let s = a.sheet.now in let o = a.out.now in let I = inner_of t a.levels in let e = nested-end t a.levels a.allowed a.at a.ends.free a.ends.pos s o R.1 _ c.write_offset.ensures _ refl _ [] _ _ c.write_group-group.ensures in omega (arith, e, c.write_offset.auto.out)
 
 pub write_nested-returns : goal.write_nested-returns
 unfolding group_of place_of
 write_nested-returns t c = let a = c.args in let R = c.requires in let t = a.table.now in let s = a.sheet.now in let o = a.out.now in let I = inner_of t a.levels in
-    nested-stands t a.levels a.allowed a.at a.ends.free a.ends.pos s o R.1 _ c.write_u32.ensures _ refl _ _ _ _ c.write_group-group.ensures refl
+    nested-stands t a.levels a.allowed a.at a.ends.free a.ends.pos s o R.1 _ c.write_offset.ensures _ refl _ _ _ _ c.write_group-group.ensures refl
 
 pub write_field-bounds-out-at : goal.write_field-bounds-out-at
 write_field-bounds-out-at t c = let a = c.args in let R = c.requires in let t = a.table.now in let es = enums t in
@@ -278,11 +287,11 @@ write_fields-write_field-ends-requires t c = let R = c.requires in let L = c.loo
 
 pub write_fields-loop-preserved : goal.write_fields-loop-preserved
 write_fields-loop-preserved t c = let a = c.args in let L = c.loop.invariant in let l = c.loop-test.true in let es = enums a.table.now in elim c.if-plain-ne0.branch [
-    | write_fields-then-plain-ne0 w ↦
-        rw (w.place-is, w.ends-is, w.out-is) (plain-next L l (c.plain_width-plain.ensures.0 es) w.if-plain-ne0.true w.write_bytes.ensures.0 w.write_bytes.ensures.1)
-    | write_fields-else-plain-ne0 w ↦
-        rw (w.place-is, w.ends-is, w.out-is) (fields-next L l (w.field_width-place.ensures.0 es ∙ wide-field a.table.now a.index.now c.requires.0 (a.depth - 1) _ (field-flat L l)) w.write_field-ends.ensures)
-  ]
+  | write_fields-then-plain-ne0 w ↦
+      rw (w.place-is, w.ends-is, w.out-is) (plain-next L l (c.plain_width-plain.ensures.0 es) w.if-plain-ne0.true w.write_bytes.ensures.0 w.write_bytes.ensures.1)
+  | write_fields-else-plain-ne0 w ↦
+      rw (w.place-is, w.ends-is, w.out-is) (fields-next L l (w.field_width-width.ensures.0 es ∙ wide-field a.table.now a.index.now c.requires.0 (a.depth - 1) _ (field-flat L l)) w.write_field-ends.ensures)
+]
 
 pub write_fields-returns : goal.write_fields-returns
 write_fields-returns t c = fields-done c.loop.invariant c.loop-test.false
@@ -326,50 +335,52 @@ pub write_extension-read_u32-total-requires : goal.write_extension-read_u32-tota
 write_extension-read_u32-total-requires t c = let a = c.args in let R = c.requires in let t = a.table.now in let s = a.sheet.now in let k = ap (same (part 2 a.ends.pos s)) (sym is-XT) ∙ sym c.has_mark.ensures ∙ c.if-not-has_mark.false in
     let r = list-inside (extension_of t a.levels 12 a.ends.free (drop a.ends.pos s)) 1 4 (extending_of t a.levels) (wides-indirect _) 12 a.ends.free a.ends.pos _ s a.out.now refl R.2 (extension-some (schema t) (inner_of t a.levels) 12 a.ends.free a.ends.pos s k) in r.0
 
-pub write_extension-write_u32-requires-2 : goal.write_extension-write_u32-requires-2
-write_extension-write_u32-requires-2 t c = let a = c.args in let R = c.requires in let t = a.table.now in let s = a.sheet.now in let k = ap (same (part 2 a.ends.pos s)) (sym is-XT) ∙ sym c.has_mark.ensures ∙ c.if-not-has_mark.false in
-    let r = list-inside (extension_of t a.levels 12 a.ends.free (drop a.ends.pos s)) 1 4 (extending_of t a.levels) (wides-indirect _) 12 a.ends.free a.ends.pos _ s a.out.now c.read_u32-total.ensures.0 R.2 (extension-some (schema t) (inner_of t a.levels) 12 a.ends.free a.ends.pos s k) in omega (arith, r.1, r.2)
+pub write_extension-write_offset-requires : goal.write_extension-write_offset-requires
+write_extension-write_offset-requires t c = let a = c.args in let R = c.requires in let t = a.table.now in let s = a.sheet.now in let k = ap (same (part 2 a.ends.pos s)) (sym is-XT) ∙ sym c.has_mark.ensures ∙ c.if-not-has_mark.false in
+    let r = list-inside (extension_of t a.levels 12 a.ends.free (drop a.ends.pos s)) 1 4 (extending_of t a.levels) (wides-indirect _) 12 a.ends.free a.ends.pos _ s a.out.now c.read_u32-total.ensures.0 R.2 (extension-some (schema t) (inner_of t a.levels) 12 a.ends.free a.ends.pos s k) in (r.1, omega (arith, r.2))
 
 pub write_extension-write_bytes-pos-requires : goal.write_extension-write_bytes-pos-requires
 write_extension-write_bytes-pos-requires t c = let a = c.args in let R = c.requires in let t = a.table.now in let s = a.sheet.now in let k = ap (same (part 2 a.ends.pos s)) (sym is-XT) ∙ sym c.has_mark.ensures ∙ c.if-not-has_mark.false in
-    let r = list-inside (extension_of t a.levels 12 a.ends.free (drop a.ends.pos s)) 1 4 (extending_of t a.levels) (wides-indirect _) 12 a.ends.free a.ends.pos _ s a.out.now c.read_u32-total.ensures.0 R.2 (extension-some (schema t) (inner_of t a.levels) 12 a.ends.free a.ends.pos s k) in (r.0, omega (arith, r.2, c.write_u32-2.auto.out))
+    let r = list-inside (extension_of t a.levels 12 a.ends.free (drop a.ends.pos s)) 1 4 (extending_of t a.levels) (wides-indirect _) 12 a.ends.free a.ends.pos _ s a.out.now c.read_u32-total.ensures.0 R.2 (extension-some (schema t) (inner_of t a.levels) 12 a.ends.free a.ends.pos s k) in (r.0, omega (arith, r.2, c.write_offset.auto.out))
 
 pub write_extension-write_groups-requires : goal.write_extension-write_groups-requires
 write_extension-write_groups-requires t c = let a = c.args in let R = c.requires in let t = a.table.now in let s = a.sheet.now in let k = ap (same (part 2 a.ends.pos s)) (sym is-XT) ∙ sym c.has_mark.ensures ∙ c.if-not-has_mark.false in
-    let r = items_left (extension_of t a.levels 12 a.ends.free (drop a.ends.pos s)) 1 4 (extending_of t a.levels) (wides-indirect _) 12 a.ends.free a.ends.pos _ s a.out.now c.read_u32-total.ensures.0 R.2 (extension-some (schema t) (inner_of t a.levels) 12 a.ends.free a.ends.pos s k) c.write_u32-2.ensures c.write_bytes-pos.ensures.0 c.write_bytes-pos.ensures.1 in (search rules, (R.0, left-fits _ _ _ _ _ _ _ _ r))
+    let r = items_left (extension_of t a.levels 12 a.ends.free (drop a.ends.pos s)) 1 4 (extending_of t a.levels) (wides-indirect _) 12 a.ends.free a.ends.pos _ s a.out.now c.read_u32-total.ensures.0 R.2 (extension-some (schema t) (inner_of t a.levels) 12 a.ends.free a.ends.pos s k) c.write_offset.ensures c.write_bytes-pos.ensures.0 c.write_bytes-pos.ensures.1 in (search rules, (R.0, left-fits _ _ _ _ _ _ _ _ r))
 
 pub write_extension-returns : goal.write_extension-returns
 write_extension-returns t c = let a = c.args in let R = c.requires in let t = a.table.now in let s = a.sheet.now in let k = ap (same (part 2 a.ends.pos s)) (sym is-XT) ∙ sym c.has_mark.ensures ∙ c.if-not-has_mark.false in
-    let r = items_left (extension_of t a.levels 12 a.ends.free (drop a.ends.pos s)) 1 4 (extending_of t a.levels) (wides-indirect _) 12 a.ends.free a.ends.pos _ s a.out.now c.read_u32-total.ensures.0 R.2 (extension-some (schema t) (inner_of t a.levels) 12 a.ends.free a.ends.pos s k) c.write_u32-2.ensures c.write_bytes-pos.ensures.0 c.write_bytes-pos.ensures.1 in finished _ _ _ _ _ _ _ _ r _ _ _ _ c.write_groups.ensures
+    let r = items_left (extension_of t a.levels 12 a.ends.free (drop a.ends.pos s)) 1 4 (extending_of t a.levels) (wides-indirect _) 12 a.ends.free a.ends.pos _ s a.out.now c.read_u32-total.ensures.0 R.2 (extension-some (schema t) (inner_of t a.levels) 12 a.ends.free a.ends.pos s k) c.write_offset.ensures c.write_bytes-pos.ensures.0 c.write_bytes-pos.ensures.1 in finished _ _ _ _ _ _ _ _ r _ _ _ _ c.write_groups.ensures
 
-pub write_value-overflow_add-behind : goal.write_value-overflow_add-behind
-write_value-overflow_add-behind t c = let a = c.args in let t = a.table.now in let f = field_at (enums t) (drop a.field t) in
-    omega (arith, marked-inside (field_mark f) (value_w (inner_of t a.levels) (width_of t a.depth) (static_of t a.levels a.depth) f) a.at a.ends.free a.ends.pos a.sheet.now a.out.now c.requires.3)
-
-pub write_value-write_item-requires : goal.write_value-write_item-requires
-write_value-write_item-requires t c = let a = c.args in let R = c.requires in let t = a.table.now in let s = a.sheet.now in let es = enums t in let i = c.kind_at-kind.ensures es in let q = sym (c.is_sequence.ensures es) ∙ c.if-not-is_sequence.true in let f = field_at es (drop a.field t) in
-    (search rules, (R.0, rw (sym i) at R.2, marked-inside (field_mark f) (value_w (inner_of t a.levels) (width_of t a.depth) (static_of t a.levels a.depth) f) a.at a.ends.free a.ends.pos s a.out.now R.3, fits-opens _ _ _ _ _ R.3 (one-opens t a.levels a.depth a.field a.at a.ends.free a.ends.pos s _ i q)))
-
-pub write_value-returns-then-not-is_sequence : goal.write_value-returns-then-not-is_sequence
-write_value-returns-then-not-is_sequence t c = let a = c.args in let R = c.requires in let t = a.table.now in let s = a.sheet.now in let es = enums t in let i = c.kind_at-kind.ensures es in let q = sym (c.is_sequence.ensures es) ∙ c.if-not-is_sequence.true in
-    stands-opens _ _ _ _ _ R.3 (one-opens t a.levels a.depth a.field a.at a.ends.free a.ends.pos s _ i q) _ _ _ _ c.write_item.ensures
+pub write_value-overflow_add-ends : goal.write_value-overflow_add-ends
+write_value-overflow_add-ends t c = let a = c.args in let R = c.requires in let t = a.table.now in let s = a.sheet.now in let es = enums t in let i = c.kind_at-kind.ensures es in let o = sym (c.is_sequence.ensures es) in let e = value-wide t a.index.now a.depth a.field _ _ R.0 R.2 i (c.kind_width-width.ensures.0 es) in
+    let r = list-inside (value_of t a.levels a.depth a.field a.at a.ends.free (drop a.ends.pos s)) 0 c.kind_width-width.result (item_of t a.levels a.depth c.kind_at-kind.result) (item-wides t a.levels a.depth _ _ e.0) a.at a.ends.free a.ends.pos _ s a.out.now refl R.3 (list-opens (inner_of t a.levels) (width_of t a.depth) (static_of t a.levels a.depth) (field_at es (drop a.field t)) a.at a.ends.free a.ends.pos s _ i (o ∙ c.if-is_sequence.true) _ e.0) in omega (arith, r.0)
 
 pub write_value-read_u32-total-requires : goal.write_value-read_u32-total-requires
-write_value-read_u32-total-requires t c = let a = c.args in let R = c.requires in let t = a.table.now in let s = a.sheet.now in let es = enums t in let i = c.kind_at-kind.ensures es in let q = sym (c.is_sequence.ensures es) ∙ c.if-not-is_sequence.false in let e = value-wide t a.index.now a.depth a.field _ _ R.0 R.2 i (c.kind_width-width.ensures.0 es) in
-    let r = list-inside (value_of t a.levels a.depth a.field a.at a.ends.free (drop a.ends.pos s)) 0 c.kind_width-width.result (item_of t a.levels a.depth c.kind_at-kind.result) (item-wides t a.levels a.depth _ _ e.0) a.at a.ends.free a.ends.pos _ s a.out.now refl R.3 (list-opens (inner_of t a.levels) (width_of t a.depth) (static_of t a.levels a.depth) (field_at es (drop a.field t)) a.at a.ends.free a.ends.pos s _ i q _ e.0) in r.0
+write_value-read_u32-total-requires t c = let a = c.args in let R = c.requires in let t = a.table.now in let s = a.sheet.now in let es = enums t in let i = c.kind_at-kind.ensures es in let o = sym (c.is_sequence.ensures es) in let e = value-wide t a.index.now a.depth a.field _ _ R.0 R.2 i (c.kind_width-width.ensures.0 es) in
+    let r = list-inside (value_of t a.levels a.depth a.field a.at a.ends.free (drop a.ends.pos s)) 0 c.kind_width-width.result (item_of t a.levels a.depth c.kind_at-kind.result) (item-wides t a.levels a.depth _ _ e.0) a.at a.ends.free a.ends.pos _ s a.out.now refl R.3 (list-opens (inner_of t a.levels) (width_of t a.depth) (static_of t a.levels a.depth) (field_at es (drop a.field t)) a.at a.ends.free a.ends.pos s _ i (o ∙ c.if-is_sequence.true) _ e.0) in r.0
 
-pub write_value-write_u32-requires : goal.write_value-write_u32-requires
-write_value-write_u32-requires t c = let a = c.args in let R = c.requires in let t = a.table.now in let s = a.sheet.now in let es = enums t in let i = c.kind_at-kind.ensures es in let q = sym (c.is_sequence.ensures es) ∙ c.if-not-is_sequence.false in let e = value-wide t a.index.now a.depth a.field _ _ R.0 R.2 i (c.kind_width-width.ensures.0 es) in
-    let r = list-inside (value_of t a.levels a.depth a.field a.at a.ends.free (drop a.ends.pos s)) 0 c.kind_width-width.result (item_of t a.levels a.depth c.kind_at-kind.result) (item-wides t a.levels a.depth _ _ e.0) a.at a.ends.free a.ends.pos _ s a.out.now c.read_u32-total.ensures.0 R.3 (list-opens (inner_of t a.levels) (width_of t a.depth) (static_of t a.levels a.depth) (field_at es (drop a.field t)) a.at a.ends.free a.ends.pos s _ i q _ e.0) in omega (arith, r.1, r.2)
+pub write_value-overflow_add-ends-then-is_sequence : goal.write_value-overflow_add-ends-then-is_sequence
+write_value-overflow_add-ends-then-is_sequence t c = let a = c.args in let R = c.requires in let t = a.table.now in let s = a.sheet.now in let es = enums t in let i = c.kind_at-kind.ensures es in let o = sym (c.is_sequence.ensures es) in let e = value-wide t a.index.now a.depth a.field _ _ R.0 R.2 i (c.kind_width-width.ensures.0 es) in
+    let r = list-inside (value_of t a.levels a.depth a.field a.at a.ends.free (drop a.ends.pos s)) 0 c.kind_width-width.result (item_of t a.levels a.depth c.kind_at-kind.result) (item-wides t a.levels a.depth _ _ e.0) a.at a.ends.free a.ends.pos _ s a.out.now refl R.3 (list-opens (inner_of t a.levels) (width_of t a.depth) (static_of t a.levels a.depth) (field_at es (drop a.field t)) a.at a.ends.free a.ends.pos s _ i (o ∙ c.if-is_sequence.true) _ e.0) in omega (arith, r.0)
+
+pub write_value-write_offset-requires : goal.write_value-write_offset-requires
+write_value-write_offset-requires t c = let a = c.args in let R = c.requires in let t = a.table.now in let s = a.sheet.now in let es = enums t in let i = c.kind_at-kind.ensures es in let o = sym (c.is_sequence.ensures es) in let e = value-wide t a.index.now a.depth a.field _ _ R.0 R.2 i (c.kind_width-width.ensures.0 es) in
+    let r = list-inside (value_of t a.levels a.depth a.field a.at a.ends.free (drop a.ends.pos s)) 0 c.kind_width-width.result (item_of t a.levels a.depth c.kind_at-kind.result) (item-wides t a.levels a.depth _ _ e.0) a.at a.ends.free a.ends.pos _ s a.out.now c.read_u32-total.ensures.0 R.3 (list-opens (inner_of t a.levels) (width_of t a.depth) (static_of t a.levels a.depth) (field_at es (drop a.field t)) a.at a.ends.free a.ends.pos s _ i (o ∙ c.if-is_sequence.true) _ e.0) in (r.1, omega (arith, r.2))
 
 pub write_value-write_bytes-pos-requires : goal.write_value-write_bytes-pos-requires
-write_value-write_bytes-pos-requires t c = let a = c.args in let R = c.requires in let t = a.table.now in let s = a.sheet.now in let es = enums t in let i = c.kind_at-kind.ensures es in let q = sym (c.is_sequence.ensures es) ∙ c.if-not-is_sequence.false in let e = value-wide t a.index.now a.depth a.field _ _ R.0 R.2 i (c.kind_width-width.ensures.0 es) in
-    let r = list-inside (value_of t a.levels a.depth a.field a.at a.ends.free (drop a.ends.pos s)) 0 c.kind_width-width.result (item_of t a.levels a.depth c.kind_at-kind.result) (item-wides t a.levels a.depth _ _ e.0) a.at a.ends.free a.ends.pos _ s a.out.now c.read_u32-total.ensures.0 R.3 (list-opens (inner_of t a.levels) (width_of t a.depth) (static_of t a.levels a.depth) (field_at es (drop a.field t)) a.at a.ends.free a.ends.pos s _ i q _ e.0) in (r.0, omega (arith, r.2, c.write_u32.auto.out))
+write_value-write_bytes-pos-requires t c = let a = c.args in let R = c.requires in let t = a.table.now in let s = a.sheet.now in let es = enums t in let i = c.kind_at-kind.ensures es in let o = sym (c.is_sequence.ensures es) in let e = value-wide t a.index.now a.depth a.field _ _ R.0 R.2 i (c.kind_width-width.ensures.0 es) in
+    let r = list-inside (value_of t a.levels a.depth a.field a.at a.ends.free (drop a.ends.pos s)) 0 c.kind_width-width.result (item_of t a.levels a.depth c.kind_at-kind.result) (item-wides t a.levels a.depth _ _ e.0) a.at a.ends.free a.ends.pos _ s a.out.now c.read_u32-total.ensures.0 R.3 (list-opens (inner_of t a.levels) (width_of t a.depth) (static_of t a.levels a.depth) (field_at es (drop a.field t)) a.at a.ends.free a.ends.pos s _ i (o ∙ c.if-is_sequence.true) _ e.0) in (r.0, omega (arith, r.2, c.write_offset.auto.out))
 
 pub write_value-write_items-requires : goal.write_value-write_items-requires
-write_value-write_items-requires t c = let a = c.args in let R = c.requires in let t = a.table.now in let s = a.sheet.now in let es = enums t in let i = c.kind_at-kind.ensures es in let q = sym (c.is_sequence.ensures es) ∙ c.if-not-is_sequence.false in let e = value-wide t a.index.now a.depth a.field _ _ R.0 R.2 i (c.kind_width-width.ensures.0 es) in
-    let r = items_left (value_of t a.levels a.depth a.field a.at a.ends.free (drop a.ends.pos s)) 0 c.kind_width-width.result (item_of t a.levels a.depth c.kind_at-kind.result) (item-wides t a.levels a.depth _ _ e.0) a.at a.ends.free a.ends.pos _ s a.out.now c.read_u32-total.ensures.0 R.3 (list-opens (inner_of t a.levels) (width_of t a.depth) (static_of t a.levels a.depth) (field_at es (drop a.field t)) a.at a.ends.free a.ends.pos s _ i q _ e.0) c.write_u32.ensures c.write_bytes-pos.ensures.0 c.write_bytes-pos.ensures.1 in (search rules, (R.0, e.0, e.1, left-fits _ _ _ _ _ _ _ _ r))
+write_value-write_items-requires t c = let a = c.args in let R = c.requires in let t = a.table.now in let s = a.sheet.now in let es = enums t in let i = c.kind_at-kind.ensures es in let o = sym (c.is_sequence.ensures es) in let e = value-wide t a.index.now a.depth a.field _ _ R.0 R.2 i (c.kind_width-width.ensures.0 es) in
+    let v = value-left t a.levels a.depth a.field a.at _ a.ends s a.out.now _ _ c.if-is_sequence.total i e.0 R.3 (elim c.if-is_sequence.branch [
+      | write_value-then-is_sequence w ↦ inl (o ∙ w.if-is_sequence.true, _, _, _, w.read_u32-total.ensures.0, w.write_offset.ensures, w.out-is ∙ w.write_bytes-pos.ensures.0, w.write_bytes-pos.ensures.1, w.total-is)
+      | write_value-else-is_sequence w ↦ inr (o ∙ w.if-is_sequence.false, w.out-is, w.total-is)
+    ]) in (search rules, (R.0, e.0, e.1, left-fits _ _ _ _ _ _ _ _ v))
 
 pub write_value-returns : goal.write_value-returns
-write_value-returns t c = let a = c.args in let R = c.requires in let t = a.table.now in let s = a.sheet.now in let es = enums t in let i = c.kind_at-kind.ensures es in let q = sym (c.is_sequence.ensures es) ∙ c.if-not-is_sequence.false in let e = value-wide t a.index.now a.depth a.field _ _ R.0 R.2 i (c.kind_width-width.ensures.0 es) in
-    let r = items_left (value_of t a.levels a.depth a.field a.at a.ends.free (drop a.ends.pos s)) 0 c.kind_width-width.result (item_of t a.levels a.depth c.kind_at-kind.result) (item-wides t a.levels a.depth _ _ e.0) a.at a.ends.free a.ends.pos _ s a.out.now c.read_u32-total.ensures.0 R.3 (list-opens (inner_of t a.levels) (width_of t a.depth) (static_of t a.levels a.depth) (field_at es (drop a.field t)) a.at a.ends.free a.ends.pos s _ i q _ e.0) c.write_u32.ensures c.write_bytes-pos.ensures.0 c.write_bytes-pos.ensures.1 in finished _ _ _ _ _ _ _ _ r _ _ _ _ c.write_items.ensures
+write_value-returns t c = let a = c.args in let R = c.requires in let t = a.table.now in let s = a.sheet.now in let es = enums t in let i = c.kind_at-kind.ensures es in let o = sym (c.is_sequence.ensures es) in let e = value-wide t a.index.now a.depth a.field _ _ R.0 R.2 i (c.kind_width-width.ensures.0 es) in
+    let v = value-left t a.levels a.depth a.field a.at _ a.ends s a.out.now _ _ c.if-is_sequence.total i e.0 R.3 (elim c.if-is_sequence.branch [
+      | write_value-then-is_sequence w ↦ inl (o ∙ w.if-is_sequence.true, _, _, _, w.read_u32-total.ensures.0, w.write_offset.ensures, w.out-is ∙ w.write_bytes-pos.ensures.0, w.write_bytes-pos.ensures.1, w.total-is)
+      | write_value-else-is_sequence w ↦ inr (o ∙ w.if-is_sequence.false, w.out-is, w.total-is)
+    ]) in finished _ _ _ _ _ _ _ _ v _ _ _ _ c.write_items.ensures

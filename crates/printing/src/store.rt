@@ -12,6 +12,7 @@ use std::fmt::Write;
 
 const CS: [u8; 2] = *b"CS";
 
+#[tactic(auto, unfolding(settings::specs::Store::stands))]
 fn is_record(store: &[u8], n: usize) -> bool
     requires { 9 * n + 9 ≤ length store.now }
     ensures { result ≡ stands store.now n }

@@ -1,7 +1,8 @@
 // Messages checked under one table: one with all that can be said of it, or several, or those of a tape, with a line for each.
 use crate::rooms;
+use answers::context::Context;
 use answers::outcome::Outcome;
-use answers::{outcome, questions, refusal};
+use answers::{questions, refusal};
 use inputs::arguments::PlainIndices;
 use inputs::{arguments, command};
 use printing::print::Page;
@@ -15,9 +16,7 @@ const ROOM: usize = 65537;
 fn check_one(
     rt: &HostRuntime,
     page: &mut Page,
-    table: &[u8],
-    store: &[u8],
-    customer: u16,
+    context: Context,
     room: &mut [u8],
     scratch: &mut [u8],
 ) -> Outcome {
@@ -26,7 +25,7 @@ fn check_one(
         return refusal::fail(page);
     }
     let message = rows::part(room, 0, read.length);
-    questions::check(page, table, store, customer, message, scratch)
+    questions::check(page, context, message, scratch)
 }
 
 // The name of the file that argument `i` names.
@@ -40,9 +39,7 @@ fn check_at(
     rt: &HostRuntime,
     page: &mut Page,
     i: usize,
-    table: &[u8],
-    store: &[u8],
-    customer: u16,
+    context: Context,
     room: &mut [u8],
     scratch: &mut [u8],
 ) -> Outcome {
@@ -52,22 +49,20 @@ fn check_at(
         return refusal::fail(page);
     }
     let message = rows::part(room, 0, read.length);
-    questions::check_briefly(page, table, store, customer, message, scratch)
+    questions::check_briefly(page, context, message, scratch)
 }
 
 fn check_each(
     rt: &HostRuntime,
     page: &mut Page,
-    table: &[u8],
-    store: &[u8],
-    customer: u16,
+    context: Context,
     room: &mut [u8],
     scratch: &mut [u8],
 ) -> Outcome {
     let mut worst = Outcome::Answered;
     for i in PlainIndices::new(rt).skip(command::INPUT - 1) {
-        let next = check_at(rt, page, i, table, store, customer, room, scratch);
-        worst = outcome::worse(worst, next);
+        let next = check_at(rt, page, i, context, room, scratch);
+        worst = worst.max(next);
     }
     worst
 }
@@ -76,16 +71,14 @@ fn check_each(
 pub fn check_messages(
     rt: &HostRuntime,
     page: &mut Page,
-    table: &[u8],
-    store: &[u8],
-    customer: u16,
+    context: Context,
     room: &mut [u8],
     scratch: &mut [u8],
 ) -> Outcome {
     if command::INPUT < arguments::count_plain(rt) {
-        return check_each(rt, page, table, store, customer, room, scratch);
+        return check_each(rt, page, context, room, scratch);
     }
-    check_one(rt, page, table, store, customer, room, scratch)
+    check_one(rt, page, context, room, scratch)
 }
 
 // The most bytes of a file that a room of this length holds whole: one more shows that it may be longer.
@@ -122,13 +115,11 @@ fn read_tape(rt: &HostRuntime, room: &mut [u8]) -> Input {
 pub fn check_tape(
     rt: &HostRuntime,
     page: &mut Page,
-    table: &[u8],
-    store: &[u8],
-    customer: u16,
+    context: Context,
     scratch: &mut [u8],
 ) -> Outcome {
     match rooms::tape(rt.alloc()) {
-        Ok(mut room) => check_tape_in(rt, page, table, store, customer, &mut room, scratch),
+        Ok(mut room) => check_tape_in(rt, page, context, &mut room, scratch),
         Err(_) => rooms::fail(page),
     }
 }
@@ -136,9 +127,7 @@ pub fn check_tape(
 fn check_tape_in(
     rt: &HostRuntime,
     page: &mut Page,
-    table: &[u8],
-    store: &[u8],
-    customer: u16,
+    context: Context,
     room: &mut [u8],
     scratch: &mut [u8],
 ) -> Outcome {
@@ -147,5 +136,5 @@ fn check_tape_in(
         return refusal::fail(page);
     }
     let tape = rows::part(room, 0, read.length);
-    tapes::check_tape(page, table, store, customer, tape, scratch)
+    tapes::check_tape(page, context, tape, scratch)
 }

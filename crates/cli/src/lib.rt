@@ -10,6 +10,7 @@ mod settings_store;
 ghost use Rattle.std.specs.Prelude.{◌≡◌};
 ghost use Rattle.cli.specs.Questions.{room_of, customer_of};
 
+use answers::context::Context;
 use answers::outcome::Outcome;
 use answers::{outcome, questions, refusal};
 use files::loading;
@@ -110,11 +111,14 @@ fn check_messages(
     if !store.is_read {
         return refusal::fail(page);
     }
-    let table = rows::part(tables, 0, table.length);
-    let store = rows::part(stores, 0, store.length);
+    let context = Context {
+        table: rows::part(tables, 0, table.length),
+        store: rows::part(stores, 0, store.length),
+        customer,
+    };
     match command {
-        Command::Tape => check::check_tape(rt, page, table, store, customer, scratch),
-        _ => check::check_messages(rt, page, table, store, customer, messages, scratch),
+        Command::Tape => check::check_tape(rt, page, context, scratch),
+        _ => check::check_messages(rt, page, context, messages, scratch),
     }
 }
 
@@ -137,9 +141,7 @@ fn room_of(question: Question) -> usize
 fn answer_in_text(
     page: &mut Page,
     question: Question,
-    table: &[u8],
-    store: &[u8],
-    customer: u16,
+    context: Context,
     message: &[u8],
     scratch: &mut [u8],
     sheet: &mut [u8],
@@ -147,10 +149,10 @@ fn answer_in_text(
 ) -> Outcome {
     match question {
         Question::Read { field, item } => {
-            questions::read(page, table, store, customer, message, scratch, field, item)
+            questions::read(page, context, message, scratch, field, item)
         }
-        Question::Dump => questions::dump(page, table, store, customer, message, scratch, labels),
-        _ => questions::show(page, table, store, customer, message, scratch, sheet),
+        Question::Dump => questions::dump(page, context, message, scratch, labels),
+        _ => questions::show(page, context, message, scratch, sheet),
     }
 }
 
@@ -159,19 +161,17 @@ fn answer_in_bytes(
     rt: &HostRuntime,
     page: &mut Page,
     question: Question,
-    table: &[u8],
-    store: &[u8],
-    customer: u16,
+    context: Context,
     input: &[u8],
     scratch: &mut [u8],
     sheet: &mut [u8],
     output: &mut [u8],
 ) -> Outcome {
     match question {
-        Question::Sheet => output::sheet(rt, page, table, store, customer, input, scratch, sheet),
-        Question::Write => output::write(rt, page, table, input, output),
+        Question::Sheet => output::sheet(rt, page, context, input, scratch, sheet),
+        Question::Write => output::write(rt, page, context.table, input, output),
         _ => output::rewrite(
-            rt, page, table, store, customer, input, scratch, sheet, output,
+            rt, page, context, input, scratch, sheet, output,
         ),
     }
 }
@@ -180,9 +180,7 @@ fn answer_with(
     rt: &HostRuntime,
     page: &mut Page,
     question: Question,
-    table: &[u8],
-    store: &[u8],
-    customer: u16,
+    context: Context,
     input: &[u8],
     scratch: &mut [u8],
     sheet: &mut [u8],
@@ -191,11 +189,11 @@ fn answer_with(
 ) -> Outcome {
     if destination::writes(question) {
         return answer_in_bytes(
-            rt, page, question, table, store, customer, input, scratch, sheet, output,
+            rt, page, question, context, input, scratch, sheet, output,
         );
     }
     answer_in_text(
-        page, question, table, store, customer, input, scratch, sheet, labels,
+        page, question, context, input, scratch, sheet, labels,
     )
 }
 
@@ -282,9 +280,11 @@ fn ask(
         rt,
         page,
         question,
-        rows::part(tables, 0, files.table),
-        rows::part(stores, 0, files.store),
-        customer,
+        Context {
+            table: rows::part(tables, 0, files.table),
+            store: rows::part(stores, 0, files.store),
+            customer,
+        },
         rows::part(messages, 0, files.input),
         scratch,
         sheet,

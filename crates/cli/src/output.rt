@@ -1,4 +1,5 @@
 // The questions whose answer is a message or a sheet, for OUT.
+use answers::context::Context;
 use answers::outcome::Outcome;
 use answers::refusal;
 use printing::print::Page;
@@ -7,13 +8,16 @@ use transfer::destination;
 pub fn sheet(
     rt: &HostRuntime,
     page: &mut Page,
-    table: &[u8],
-    store: &[u8],
-    customer: u16,
+    context: Context,
     message: &[u8],
     scratch: &mut [u8],
     sheet: &mut [u8],
 ) -> Outcome {
+    let Context {
+        table,
+        store,
+        customer,
+    } = context;
     match codec::message_to_sheet(table, store, customer, message, scratch, sheet) {
         Ok(length) => destination::save(rt, page, sheet, length),
         Err(fault) => refusal::refuse(page, fault, table, store, message),
@@ -36,14 +40,17 @@ pub fn write(
 pub fn rewrite(
     rt: &HostRuntime,
     page: &mut Page,
-    table: &[u8],
-    store: &[u8],
-    customer: u16,
+    context: Context,
     message: &[u8],
     scratch: &mut [u8],
     sheet: &mut [u8],
     output: &mut [u8],
 ) -> Outcome {
+    let Context {
+        table,
+        store,
+        customer,
+    } = context;
     match codec::rewrite(table, store, customer, message, scratch, sheet, output) {
         Ok(length) => destination::save(rt, page, output, length),
         Err(fault) => refusal::refuse(page, fault, table, store, message),

@@ -1,7 +1,6 @@
 // The questions whose answer is a message or a sheet, for OUT.
 use answers::outcome::Outcome;
 use answers::refusal;
-use codec::Written;
 use printing::print::Page;
 use transfer::destination;
 
@@ -15,12 +14,9 @@ pub fn sheet(
     scratch: &mut [u8],
     sheet: &mut [u8],
 ) -> Outcome {
-    let w = codec::message_to_sheet(table, store, customer, message, scratch, sheet);
-    match w {
-        Written::Bytes(length) => destination::save(rt, page, sheet, length),
-        Written::Refused { number, place } => {
-            refusal::refuse(page, number, place, table, store, message)
-        }
+    match codec::message_to_sheet(table, store, customer, message, scratch, sheet) {
+        Ok(length) => destination::save(rt, page, sheet, length),
+        Err(fault) => refusal::refuse(page, fault, table, store, message),
     }
 }
 
@@ -31,12 +27,9 @@ pub fn write(
     sheet: &[u8],
     output: &mut [u8],
 ) -> Outcome {
-    let w = codec::sheet_to_message(table, sheet, output);
-    match w {
-        Written::Bytes(length) => destination::save(rt, page, output, length),
-        Written::Refused { number, place } => {
-            refusal::refuse(page, number, place, table, &table[0..0], sheet)
-        }
+    match codec::sheet_to_message(table, sheet, output) {
+        Ok(length) => destination::save(rt, page, output, length),
+        Err(fault) => refusal::refuse(page, fault, table, &table[0..0], sheet),
     }
 }
 
@@ -51,11 +44,8 @@ pub fn rewrite(
     sheet: &mut [u8],
     output: &mut [u8],
 ) -> Outcome {
-    let w = codec::rewrite(table, store, customer, message, scratch, sheet, output);
-    match w {
-        Written::Bytes(length) => destination::save(rt, page, output, length),
-        Written::Refused { number, place } => {
-            refusal::refuse(page, number, place, table, store, message)
-        }
+    match codec::rewrite(table, store, customer, message, scratch, sheet, output) {
+        Ok(length) => destination::save(rt, page, output, length),
+        Err(fault) => refusal::refuse(page, fault, table, store, message),
     }
 }

@@ -6,7 +6,7 @@ ghost use Rattle.cli.specs.Questions.{store_at};
 
 use answers::outcome::Outcome;
 use answers::refusal;
-use codec::{Ignored, Setting, Verdict};
+use codec::Ignored;
 use inputs::command::StoreQuestion;
 use inputs::{arguments, store_command};
 use printing::print::Page;
@@ -78,23 +78,18 @@ fn answer(rt: &HostRuntime, page: &mut Page, question: StoreQuestion, store: &mu
 fn list(page: &mut Page, store: &[u8]) -> Outcome
     ensures { result ≡ outcome_of (store_verdict store.now) }
 {
-    let v = codec::check_store(store);
-    let outcome = refusal::say_alone(page, v, store);
-    match v {
-        Verdict::Accepted => store::print_store(page, store),
-        Verdict::Refused {
-            number: _,
-            place: _,
-        } => {}
+    let verdict = codec::check_store(store);
+    let outcome = refusal::say_alone(page, verdict, store);
+    if verdict.is_ok() {
+        store::print_store(page, store);
     }
     outcome
 }
 
 fn get(page: &mut Page, store: &[u8], customer: u16, version: u16) -> Outcome {
-    let s = codec::read_settings(store, customer, version);
-    match s {
-        Setting::Ignores { ignored } => print_ignored(page, ignored),
-        Setting::Refused { number, place } => refusal::explain(page, number, place, store),
+    match codec::read_settings(store, customer, version) {
+        Ok(ignored) => print_ignored(page, ignored),
+        Err(fault) => refusal::explain(page, fault, store),
     }
 }
 
@@ -113,7 +108,7 @@ fn add(
     version: u16,
     ignored: store_command::Ignored,
 ) -> Outcome {
-    let v = codec::add_settings(
+    let added = codec::add_settings(
         store,
         customer,
         version,
@@ -121,14 +116,9 @@ fn add(
         ignored.pads,
         ignored.unused,
     );
-    match v {
-        Verdict::Accepted => destination::replace(
-            rt,
-            page,
-            arguments::plain(rt, store_command::STORE),
-            store,
-        ),
-        Verdict::Refused { number, place } => refusal::explain(page, number, place, store),
+    match added {
+        Ok(()) => destination::replace(rt, page, arguments::plain(rt, store_command::STORE), store),
+        Err(fault) => refusal::explain(page, fault, store),
     }
 }
 

@@ -1,20 +1,18 @@
--- One turn of each loop over a lent buffer, what a load leaves in a room, and that a tape's reader moves on.
-use Prim.Native.Nat.{ℕ, zero, suc, ◌+◌, ◌-◌, ◌*◌, ◌%◌, ◌<◌, ◌≤◌}
-use mathlib.Core.Path.{◌≡◌, refl, sym}
-use mathlib.Core.Bool.{Bool, true, false}
-use mathlib.Core.List.{List, ◌++◌, append-nil}
+-- One turn of each loop over a lent buffer, and that a tape's reader moves on.
+use Prim.Native.Nat.{ℕ, suc, ◌+◌, ◌-◌, ◌*◌, ◌%◌, ◌<◌, ◌≤◌}
+use mathlib.Core.Path.{◌≡◌, sym}
+use mathlib.Core.List.{List, append-nil}
 use native.Mathlib.Omega.{arith}
 use native.Mathlib.Nat.{sub-zero}
-use lib.ListN.{length, get_or, set, drop, replicate}
-use lib.Seq.{drop-length, drop_at}
-use borrow.Author.Tests.{le-leb}
+use lib.ListN.{length, get_or, set, drop}
+use lib.Seq.{drop-length}
 use Rattle.wire.specs.Bytes.{splice}
 use Rattle.wire.proofs.Laws.{drop_more, splice-cons, splice-nil}
 use Rattle.opening.specs.Opening.{Under}
+use Rattle.tape.specs.declared.Step.{Step}
 use Rattle.tape.specs.Tape.{tape_step}
-use Rattle.tape.proofs.Whole.{step_past, step-within}
+use Rattle.tape.proofs.Whole.{step_past}
 use Rattle.conformance.specs.Room.{filled, adler_from}
-use Rattle.conformance.specs.Vectors.{behind}
 
 -- FILLING
 
@@ -45,21 +43,7 @@ module _ (a b i : ℕ) (s : List ℕ) where
   unfolding adler_from
   adler-end h = rw (h, drop-length s)
 
--- LOADING
-
-drop-zeros : (k n : ℕ) (t : List ℕ) → k ≤ n → drop k (replicate n 0 ++ t) ≡ replicate (n - k) 0 ++ t
-drop-zeros zero n t h = rw sub-zero
-drop-zeros (suc k) zero t h = absurd (omega arith)
-drop-zeros (suc k) (suc n) t h = let e : suc n - suc k ≡ n - k = omega arith in rw e (drop-zeros k n t (omega arith))
-
--- the stored bytes `got`, read over the zeros of f
-pub loaded : (k n : ℕ) (got f room : List ℕ) → f ≡ splice n 0 (replicate n 0) room → length got ≡ k → k ≤ n → n ≤ length room
-    → drop k (splice (k - 0) 0 got f) ≡ behind k n room
-unfolding behind
-loaded k n got f room is e h l =
-    rw (le-leb n (length room) l, le-leb k n h, drop_at got (drop (k - 0) f) k e, sub-zero, is) (drop-zeros k n (drop n room) h)
-
 -- A TAPE'S READER
 
-pub moved_on : (t s : List ℕ) (u : Under) (p next : ℕ) → next ≡ (tape_step t s p u).next → p < length s → p < next
-moved_on t s u p next e h = rw e (step_past t s u p h)
+pub moved_on : (t s : List ℕ) (u : Under) (p : ℕ) (x : Step) → x ≡ tape_step t s p u → p < length s → p < x.next
+moved_on t s u p x e h = rw e (step_past t s u p h)

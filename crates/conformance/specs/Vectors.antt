@@ -1,14 +1,13 @@
 -- The records of a file of questions, as README.md describes them.
-use Rattle.std.specs.Prelude.{Bool, cond, ◌&&◌, List, ◌++◌, ℕ, ◌-◌, ◌%◌, ◌^◌, length, drop, replicate, leb, eqb}
+use Rattle.std.specs.Prelude.{Bool, not, cond, ◌||◌, List, ℕ, ◌-◌, ◌%◌, ◌^◌, replicate, leb, eqb, vec_len}
 use Rattle.wire.specs.Bytes.{part, le}
 use Rattle.conformance.specs.declared.record.Record.{Record}
-use Rattle.conformance.specs.declared.Held.{Held}
+use Rattle.conformance.specs.declared.held.Held.{Held}
 
--- The record of a header; `last` says that the file has no more.
-abbrev pub record_of : Bool → List ℕ → Record
-record_of last h =
+-- The record of a header.
+abbrev pub record_of : List ℕ → Record
+record_of h =
     record {
-      last = last;
       kind = le (part 4 0 h);
       length = le (part 4 4 h);
       stored = le (part 4 8 h);
@@ -19,15 +18,21 @@ record_of last h =
       item = le (part 8 32 h);
     }
 
--- "The input is the stored bytes and zeros up to its length": what follows the stored bytes in a room, where the input fits.
-unfoldable pub behind : ℕ → ℕ → List ℕ → List ℕ
-behind stored n room =
-    cond (leb n (length room) && leb stored n)
-    (replicate (n - stored) 0 ++ drop n room)
-    (drop stored room)
+-- "The input is the stored bytes and zeros up to its length": what follows the stored bytes.
+abbrev pub behind : ℕ → ℕ → List ℕ
+behind stored n = replicate (n - stored) 0
+
+-- What is in force: how long the table and the store are, and the customer.
+pub record InForce : Type 0 where
+  pub table : ℕ
+  pub store : ℕ
+  pub customer : ℕ
+
+abbrev pub in_force : Held → InForce
+in_force h = record { table = vec_len h.table; store = vec_len h.store; customer = h.customer }
 
 -- "the table in force from here on", and the store, "and in `field` the customer".
-unfoldable pub held_after : Record → Held → Held
+abbrev pub held_after : Record → InForce → InForce
 held_after r h =
     cond (leb r.kind 1)
     (record { table = r.length; store = h.store; customer = h.customer })
@@ -35,6 +40,6 @@ held_after r h =
     (record { table = h.table; store = r.length; customer = r.field % 2 ^ 16 })
     h)
 
--- A question that writes a sheet or a message: kinds 3, 4 and 5.
-abbrev pub writes : ℕ → Bool
-writes kind = leb 3 kind && leb kind 5
+-- "no answer": kinds 0 and 8.
+abbrev pub asks : ℕ → Bool
+asks kind = not (eqb kind 0 || eqb kind 8)

@@ -1,184 +1,78 @@
 // Answers as text.
-ghost use Rattle.std.specs.Prelude.{◌≡◌};
-
-use codec::{Number, Setting, Span, Verdict, Written};
-use tape::{Answer, Step};
+use crate::room::adler32;
+use codec::{Fault, Number};
+use std::fmt;
+use tape::Step;
 
 const STDOUT_FILENO: i32 = 1;
 
-pub fn number(n: usize) {
-    io::print_decimal(STDOUT_FILENO, n as u64);
-}
-
-pub fn space() {
-    io::write_all(STDOUT_FILENO, b" ");
-}
-
-pub fn end_line() {
+pub fn line(text: &str) {
+    io::write_all(STDOUT_FILENO, text.as_bytes());
     io::write_all(STDOUT_FILENO, b"\n");
 }
 
 // A fault's number and place, both 0 where nothing is refused.
-pub fn verdict(v: Result<(), Fault>) {
-    match v {
-        Verdict::Accepted => fault(0, 0),
-        Verdict::Refused { number, place } => fault(number as usize, place),
-    }
-}
+#[derive(Clone, Copy)]
+pub struct Verdict(pub Option<Fault>);
 
-// Also how many bytes were written.
-pub fn written(w: Result<usize, Fault>) {
-    match w {
-        Written::Bytes(n) => three(0, 0, n),
-        Written::Refused { number, place } => three(number as usize, place, 0),
-    }
-}
-
-fn three(number: usize, place: usize, length: usize) {
-    fault(number, place);
-    space();
-    self::number(length);
-}
-
-// The flags of a setting, all 0 on a refusal.
-pub fn setting(s: Result<Ignored, Fault>) {
-    match s {
-        Setting::Ignores { ignored } => {
-            fault(0, 0);
-            flags(ignored.absent, ignored.pads, ignored.unused);
-        }
-        Setting::Refused { number, place } => {
-            fault(number as usize, place);
-            flags(false, false, false);
+impl fmt::Display for Verdict {
+    fn fmt<W: fmt::Write>(&self, f: &mut fmt::Formatter<W>) -> fmt::Result {
+        match self.0 {
+            None => f.write_str("0 0"),
+            Some(Fault { number, place }) => write!(f, "{number} {place}"),
         }
     }
 }
 
-fn flags(absent: bool, pads: bool, unused: bool) {
-    flag(absent);
-    flag(pads);
-    flag(unused);
-}
+// What kind of number it is and its value, or that it is refused.
+#[derive(Clone, Copy)]
+pub struct Words(pub Option<Number>);
 
-fn flag(set: bool) {
-    space();
-    number(set as usize);
-}
-
-// Where bytes lie in the message, and how many they are: after a space, and both 0 on a refusal.
-pub fn span(s: Result<Part, Fault>) {
-    match s {
-        Span::Bytes { start, length } => two(start, length),
-        Span::Refused { number, place } => two(0, 0),
-    }
-}
-
-fn two(start: usize, length: usize) {
-    space();
-    number(start);
-    space();
-    number(length);
-}
-
-// What kind of number it is and its value; or the fault, and that it is refused.
-pub fn answer(n: Result<Number, Fault>) {
-    match n {
-        Number::Signed(x) => signed(b"signed ", x),
-        Number::Unsigned(x) => unsigned(b"unsigned ", x),
-        Number::Bool(x) => unsigned(b"bool ", x as u64),
-        Number::Decimal { exponent, mantissa } => {
-            signed(b"decimal ", wide(exponent));
-            signed_after(b" ", mantissa);
-        }
-        Number::Float(x) => float(x),
-        Number::NanBits(x) => unsigned(b"float ", x),
-        Number::Refused { number, place } => {
-            fault(number as usize, place);
-            text(b" refused");
+impl fmt::Display for Words {
+    fn fmt<W: fmt::Write>(&self, f: &mut fmt::Formatter<W>) -> fmt::Result {
+        match self.0 {
+            None => f.write_str("refused"),
+            Some(Number::Signed(x)) => write!(f, "signed {x}"),
+            Some(Number::Unsigned(x)) => write!(f, "unsigned {x}"),
+            Some(Number::Bool(x)) => write!(f, "bool {}", u8::from(x)),
+            Some(Number::Decimal { exponent, mantissa }) => {
+                write!(f, "decimal {exponent} {mantissa}")
+            }
+            Some(Number::Float(x)) => write_float(f, x),
+            Some(Number::NanBits(bits)) => write!(f, "float {bits}"),
         }
     }
-}
-
-// A step of a tape's reader: its answer, where it goes on, what it hands out, and the scratch. More steps follow
-// until the tape has ended.
-pub fn step(s: Step, part: &[u8], scratch: &[u8]) {
-    let answer = s.answer;
-    match answer {
-        Answer::Ended => {
-            text(b"ended");
-            handed(s.next, part, scratch);
-        }
-        Answer::Accepted => {
-            fault(0, 0);
-            handed(s.next, part, scratch);
-            text(b"; ");
-        }
-        Answer::Refused { number, place } => {
-            fault(number as usize, place);
-            handed(s.next, part, scratch);
-            text(b"; ");
-        }
-    }
-}
-
-fn handed(next: usize, part: &[u8], scratch: &[u8]) {
-    space();
-    number(next);
-    space();
-    number(part.len());
-    sum(part);
-    sum(scratch);
-}
-
-// A lent buffer's checksum, after a space.
-pub fn sum(room: &[u8]) {
-    space();
-    number(crate::room::adler32(room));
-}
-
-fn wide(x: i8) -> i64
-    ensures { result ≡ x }
-{
-    x as i64
-}
-
-fn text(bytes: &[u8]) {
-    io::write_all(STDOUT_FILENO, bytes);
-}
-
-fn unsigned(kind: &[u8], x: u64) {
-    fault(0, 0);
-    space();
-    text(kind);
-    io::print_decimal(STDOUT_FILENO, x);
-}
-
-fn signed(kind: &[u8], x: i64) {
-    fault(0, 0);
-    space();
-    signed_after(kind, x);
-}
-
-fn signed_after(before: &[u8], x: i64) {
-    text(before);
-    let bits = wire::i64_to_bits(x);
-    if bits < 0x8000_0000_0000_0000 {
-        io::print_decimal(STDOUT_FILENO, bits);
-        return;
-    }
-    text(b"-");
-    io::print_decimal(STDOUT_FILENO, 0xffff_ffff_ffff_ffff - bits + 1);
 }
 
 // A NaN is answered by its bits, so none comes here.
-fn float(x: f64) {
-    if x == x {
-        unsigned(b"float ", f64::to_bits(x));
+fn write_float<W: fmt::Write>(f: &mut fmt::Formatter<W>, x: f64) -> fmt::Result {
+    if x.is_nan() {
+        return Ok(());
     }
+    write!(f, "float {}", x.to_bits())
 }
 
-fn fault(number: usize, place: usize) {
-    self::number(number);
-    space();
-    self::number(place);
+// A step of a tape's reader: its answer, where it goes on, what it hands out, and the scratch.
+#[derive(Clone, Copy)]
+pub struct Answer<'a> {
+    pub step: Step,
+    pub part: &'a [u8],
+    pub scratch: &'a [u8],
+}
+
+impl<'a> fmt::Display for Answer<'a> {
+    fn fmt<W: fmt::Write>(&self, f: &mut fmt::Formatter<W>) -> fmt::Result {
+        match self.step.answer {
+            None => f.write_str("ended")?,
+            Some(answer) => write!(f, "{}", Verdict(answer.err()))?,
+        }
+        let next = self.step.next;
+        let length = self.part.len();
+        write!(
+            f,
+            " {next} {length} {} {}",
+            adler32(self.part),
+            adler32(self.scratch)
+        )
+    }
 }

@@ -89,15 +89,13 @@ fn find_words(text: &[u8], number: u8) -> usize
     ensures { (result ≤ length text.now) × (words_of number text.now ≡ line (drop result text.now)) }
 {
     let mut first = true;
-    let mut i = 0;
-    while i < text.len() {
+    for i in 0..text.len() {
         if first & has_heading(text, i, number) {
             return i + 3;
         }
         first = text[i] == b'\n';
-        i += 1;
     }
-    i
+    text.len()
 }
 
 // How long the line at `at` is, without its end.
@@ -105,14 +103,12 @@ fn line_length(text: &[u8], at: usize) -> usize
     requires { at ≤ length text.now }
     ensures { (at + result ≤ length text.now) × (line (drop at text.now) ≡ part result at text.now) }
 {
-    let mut n = 0;
-    while n < text.len() - at {
+    for n in 0..text.len() - at {
         if text[at + n] == b'\n' {
             return n;
         }
-        n += 1;
     }
-    n
+    text.len() - at
 }
 
 // One number's words out of a text of such lines, at the start of the room as far as they fit. Answers how long they are.

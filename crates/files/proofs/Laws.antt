@@ -4,11 +4,11 @@ use mathlib.Core.Path.{◌≡◌, refl, sym, ap, ◌∙◌}
 use mathlib.Core.List.{List, [], ◌∷◌, ◌++◌, append_assoc}
 use native.Mathlib.Omega.{arith}
 use lib.ListN.{length, get_or, get_or-replicate, take, drop, replicate}
-use borrow.Author.Tests.{eq-eqb, ne_eqb, le-leb}
+use borrow.Author.Tests.{eq-eqb, ne_eqb, le-leb, lt-leb}
 use Rattle.std.proofs.Common.{inl, inr}
 use Rattle.std.proofs.lemmas.Bool.Decides.{eqb_tells}
-use Rattle.std.proofs.lemmas.List.{drop-replicate, get_or-append_right, length-take, take_min}
-use Rattle.files.specs.Paths.{Ended, ended_of, directory_in, short_name}
+use Rattle.std.proofs.lemmas.List.{drop-replicate, get_or-append_right, length-append, length-take, take_min}
+use Rattle.files.specs.Paths.{Ended, ended_of, directory_in, fitting, short_name}
 
 -- THE DIRECTORY
 
@@ -61,3 +61,26 @@ pub short-is : (digits start named full : List ℕ) (letter : ℕ) → length di
     → named ≡ start ++ (letter ∷ []) → full ≡ named ++ (46 ∷ (110 ∷ (101 ∷ (119 ∷ [])))) → full ≡ short_name digits letter
 unfolding short_name
 short-is digits start named full letter l a b c = rw (le-leb (length digits) 20 l, c, b, a, append_assoc)
+
+-- THE SAME IN A LENT ROOM
+
+pub short-none : (digits : List ℕ) (letter : ℕ) → 20 < length digits → [] ≡ short_name digits letter
+unfolding short_name
+short-none digits letter h = rw (lt-leb (length digits) 20 h)
+
+fits : (start text room held full : List ℕ) → length start + length text ≤ length room → held ≡ start → full ≡ fitting (held ++ text) room → full ≡ start ++ text
+fits start text room held full h e f = rw (f, e, le-leb (length (start ++ text)) (length room) (omega (arith, h, length-append start text)))
+
+module _ (room₀ room₁ room₂ digits xs ys zs : List ℕ) (letter : ℕ) where
+  abbrev head : List ℕ
+  head = 46 ∷ (98 ∷ (108 ∷ (105 ∷ (110 ∷ (107 ∷ (45 ∷ []))))))
+
+  abbrev tail : List ℕ
+  tail = letter ∷ (46 ∷ (110 ∷ (101 ∷ (119 ∷ []))))
+
+  pub short-lent : length room₀ ≡ 64 → length room₁ ≡ length room₀ → length room₂ ≡ length room₁ → length digits ≤ 20
+      → xs ≡ fitting head room₀ → ys ≡ fitting (xs ++ digits) room₁ → zs ≡ fitting (ys ++ tail) room₂ → zs ≡ short_name digits letter
+  unfolding short_name
+  short-lent l₀ l₁ l₂ l a b c =
+      let start = fits head digits room₁ xs ys (omega arith) (fits [] head room₀ [] xs (omega arith) refl a) b in
+      rw (le-leb (length digits) 20 l) (fits (head ++ digits) tail room₂ ys zs (omega arith) start c)

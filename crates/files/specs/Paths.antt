@@ -35,6 +35,10 @@ start_of name target = cond (is_rooted target) 0 (directory_in name (length name
 abbrev pub joined : List ℕ → List ℕ → List ℕ
 joined name target = take (start_of name target) name ++ target
 
+-- A name in a room: where it does not fit, the whole room.
+abbrev pub fitting : List ℕ → List ℕ → List ℕ
+fitting name room = cond (leb (length name) (length room)) name room
+
 -- `.blink-`, the digits, the letter and `.new`; nothing where a number has not so many digits.
 unfoldable pub short_name : List ℕ → ℕ → List ℕ
 short_name digits letter = cond (leb (length digits) 20) ((46 ∷ (98 ∷ (108 ∷ (105 ∷ (110 ∷ (107 ∷ (45 ∷ []))))))) ++ (digits ++ (letter ∷ (46 ∷ (110 ∷ (101 ∷ (119 ∷ []))))))) []

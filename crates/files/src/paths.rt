@@ -1,7 +1,8 @@
 // Names of files, as bytes.
-ghost use Rattle.std.specs.Prelude.{◌≡◌, ◌≢◌, ℕ, ◌<◌, ◌≤◌, EachIndex, IfOk, IfSome, IsNone, length, slice_index};
+ghost use Rattle.std.specs.Prelude.{◌≡◌, ◌≢◌, ℕ, ◌<◌, ◌≤◌, ◌++◌, EachIndex, IfOk, IfSome, IsNone, length, slice_index, take};
 ghost use Rattle.std.specs.Fmt.{decimal};
-ghost use Rattle.files.specs.Paths.{Ended, is_dash, is_path, ended_of, directory_in, is_rooted, start_of, joined, short_name};
+ghost use Rattle.io.specs.Counts.{IsPrefixLen};
+ghost use Rattle.files.specs.Paths.{Ended, is_dash, is_path, ended_of, directory_in, is_rooted, start_of, joined, fitting, short_name};
 
 use std::alloc::{AllocError, Global};
 use std::io::Error;
@@ -93,7 +94,7 @@ fn start(name: &[u8], target: &[u8]) -> usize
 }
 
 // The name of a target that is seen from this one, as the text of a link is, or the name of a file beside it.
-pub fn join(alloc: Global, name: &[u8], target: &[u8]) -> Result<Vec<u8>, AllocError>
+pub fn joined_path(alloc: Global, name: &[u8], target: &[u8]) -> Result<Vec<u8>, AllocError>
     ensures { IfOk result (λ path. path.items ≡ joined name.now target.now) }
 {
     let at = start(name, target);
@@ -103,11 +104,49 @@ pub fn join(alloc: Global, name: &[u8], target: &[u8]) -> Result<Vec<u8>, AllocE
 }
 
 // The name of a new file, of the process's number and a letter.
-pub fn short_name(alloc: Global, process: u32, letter: u8) -> Result<Vec<u8>, AllocError>
+pub fn new_name(alloc: Global, process: u32, letter: u8) -> Result<Vec<u8>, AllocError>
     ensures { IfOk result (λ name. name.items ≡ short_name (decimal process) letter) }
 {
     let mut name = format!(in alloc; ".blink-{process}")?.into_bytes();
     name.push(letter)?;
     name.extend_from_slice(b".new")?;
     Ok(name)
+}
+
+// IN A LENT ROOM
+
+// These are public and cannot fail, so they stay, and those above that allocate stand beside them.
+
+// The room's first n bytes and the text behind them. Where it does not fit, the whole room is taken for it, and a room of 4096 bytes is
+// then refused as too long a name.
+pub fn append(room: &mut [u8], n: usize, text: &[u8]) -> usize
+    requires { n ≤ length room.old }
+    ensures { (take result room.new ≡ fitting (take n room.old ++ text.now) room.old) × (IsPrefixLen result room.new) }
+{
+    if room.len() - n < text.len() {
+        return room.len();
+    }
+    room[n..n + text.len()].copy_from_slice(text);
+    n + text.len()
+}
+
+// The name of n bytes becomes that of a target which is seen from it, as the text of a link is, or the name of a file beside it.
+pub fn join(room: &mut [u8], n: usize, target: &[u8]) -> usize
+    requires { n ≤ length room.old }
+    ensures { (take result room.new ≡ fitting (joined (take n room.old) target.now) room.old) × (IsPrefixLen result room.new) }
+{
+    let at = start(&room[..n], target);
+    append(room, at, target)
+}
+
+// The name of a new file, of the process's number and a letter. A number has at most 20 digits.
+pub fn short_name(room: &mut [u8; 64], number: &[u8], letter: u8) -> usize
+    ensures { (take result room.new ≡ short_name number.now letter) × (IsPrefixLen result room.new) }
+{
+    if 20 < number.len() {
+        return 0;
+    }
+    let behind = append(room, 0, b".blink-");
+    let behind = append(room, behind, number);
+    append(room, behind, &[letter, b'.', b'n', b'e', b'w'])
 }

@@ -32,7 +32,7 @@ fn follow(rt: &HostRuntime, name: &[u8]) -> Result<Vec<u8>, Error> {
         let Some(link) = read_link(rt, &name)? else {
             break;
         };
-        name = paths::join(rt.alloc(), &name, link.as_str().as_bytes())?;
+        name = paths::joined_path(rt.alloc(), &name, link.as_str().as_bytes())?;
     }
     Ok(name)
 }
@@ -46,8 +46,8 @@ fn may_write(rt: &HostRuntime, name: &[u8]) -> Result<(), Error> {
 
 // The name of a new file beside this one.
 fn name_beside(rt: &HostRuntime, name: &[u8], letter: u8) -> Result<Vec<u8>, Error> {
-    let short = paths::short_name(rt.alloc(), process::id(rt.process()), letter)?;
-    Ok(paths::join(rt.alloc(), name, &short)?)
+    let short = paths::new_name(rt.alloc(), process::id(rt.process()), letter)?;
+    Ok(paths::joined_path(rt.alloc(), name, &short)?)
 }
 
 // A file that is not there yet. The system narrows its mode, by the process's umask.

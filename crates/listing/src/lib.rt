@@ -7,21 +7,19 @@ mod names;
 mod tables;
 
 use printing::print::Page;
-use schema::Verdict;
 
 // Of a table that is refused nothing is printed.
 pub fn print_table(page: &mut Page, table: &[u8]) {
     let mut index = [0u16; 322];
-    let verdict = table::index_table(table, &mut index);
-    match verdict {
-        Verdict::Accepted => tables::print_records(page, table, &index),
-        Verdict::Refused { number, place } => {}
-    }
+    let Ok(()) = table::index_table(table, &mut index) else {
+        return;
+    };
+    tables::print_records(page, table, &index);
 }
 
 // The labels are those that crate `layout` gives the message.
 pub fn print_dump(page: &mut Page, message: &[u8], labels: &[u64]) {
-    dump::print_runs(page, message, labels, message.len(), message.len());
+    dump::print_runs(page, message, labels, None);
 }
 
 // A message that is refused, up to the byte at `place`, and what that byte belongs to. `stop` is what the layout's walk was at where it
@@ -34,16 +32,15 @@ pub fn print_refused_dump(
     place: usize,
     stop: u64,
 ) {
-    let n = message.len();
-    if place < n {
-        dump::print_runs(page, message, labels, place + 1, place);
+    if place < message.len() {
+        dump::print_runs(page, message, labels, Some(place));
         dump::print_fault(
             page,
             place,
             dump::label_at_fault(labels, number, place, stop),
         );
     } else {
-        dump::print_runs(page, message, labels, n, n);
-        dump::print_end(page, n, stop);
+        dump::print_runs(page, message, labels, None);
+        dump::print_end(page, message.len(), stop);
     }
 }

@@ -1,5 +1,5 @@
 -- Fields, sequences and items: each way through them, and one turn of each loop.
-use Rattle.std.proofs.Common.{Ok, Err, mul-le-mul_right, ◌≡◌, ℕ, zero, suc, ◌+◌, ◌-◌, ◌*◌, ◌%◌, ◌^◌, ◌<◌, ◌≤◌, Bool, true, false, not, ◌&&◌, eqb, leb, List, length, drop, sym, refl, ap, ◌∙◌, add-mul, arith, eq-eqb, eqb-true}
+use Rattle.std.proofs.Common.{Ok, Err, ◌≡◌, ℕ, zero, suc, ◌+◌, ◌-◌, ◌*◌, ◌%◌, ◌^◌, ◌<◌, ◌≤◌, Bool, true, false, not, ◌&&◌, eqb, leb, List, length, drop, sym, refl, ap, ◌∙◌, add-mul, arith, eq-eqb, eqb-true}
 use native.Mathlib.Nat.{sub-zero}
 use mir.Val.{bool_byte}
 use borrow.Author.Tests.{eqb-false, not-true, not-false}
@@ -145,32 +145,20 @@ module _ (I : Inner) (sw : ℕ → ℕ) (S : ℕ → Reader) (f : Field) (h : He
 
 -- ITEMS
 
--- after i of n items from p on
-module _ (w : ℕ) (R : Reader) (h : Here) (n i p k : ℕ) (m : List ℕ) where
-  items-turn : i < n → count (items_r w R (n - i) h (p + i * w) m) ≡ and_then (count (R h (p + i * w) m)) (λ m'. count (items_r w R (n - (i + 1)) h (p + (i + 1) * w) m'))
-  items-turn l =
-      let e : n - i ≡ suc (n - (i + 1)) = omega arith in
-      let q : p + (i + 1) * w ≡ p + i * w + w = omega (arith, add-mul i 1 w) in
-      rw (e, q) (count-items h (p + i * w) m w R (n - (i + 1)))
+module _ (w : ℕ) (R : Reader) (h : Here) (n i at k : ℕ) (m : List ℕ) where
+  items-turn : i < n → count (items_r w R (n - i) h at m) ≡ and_then (count (R h at m)) (λ m'. count (items_r w R (n - (i + 1)) h (at + w) m'))
+  items-turn l = let e : n - i ≡ suc (n - (i + 1)) = omega arith in rw e (count-items h at m w R (n - (i + 1)))
 
   module _ (F : ℕ → List ℕ) (l : i < n) where
-    pub items-passed : (s : Step) → count_by F (Ok s) ≡ after k (count (R h (p + i * w) m))
-        → after k (count (items_r w R (n - i) h (p + i * w) m)) ≡ after s.length (count (items_r w R (n - (i + 1)) h (p + (i + 1) * w) (F s.taken)))
+    pub items-passed : (s : Step) → count_by F (Ok s) ≡ after k (count (R h at m)) → after k (count (items_r w R (n - i) h at m)) ≡ after s.length (count (items_r w R (n - (i + 1)) h (at + w) (F s.taken)))
     items-passed s e = rw (items-turn l) (passed F k _ s _ e)
 
-    pub items-stopped : (G : ℕ → List ℕ) (f : Fault) → count_by F (Err f) ≡ after k (count (R h (p + i * w) m)) → count_by G (Err f) ≡ after k (count (items_r w R (n - i) h (p + i * w) m))
+    pub items-stopped : (G : ℕ → List ℕ) (f : Fault) → count_by F (Err f) ≡ after k (count (R h at m)) → count_by G (Err f) ≡ after k (count (items_r w R (n - i) h at m))
     items-stopped G f e = rw (items-turn l) (stopped F k _ G f _ e)
 
-  pub items-end : (F : ℕ → List ℕ) (s : Step) → F s.taken ≡ m → s.length ≡ k → n ≤ i → k < 2 ^ 64 → count_by F (Ok s) ≡ after k (count (items_r w R (n - i) h (p + i * w) m))
+  pub items-end : (F : ℕ → List ℕ) (s : Step) → F s.taken ≡ m → s.length ≡ k → n ≤ i → k < 2 ^ 64 → count_by F (Ok s) ≡ after k (count (items_r w R (n - i) h at m))
   unfolding items_r
-  items-end F s f q l b = let e : n - i ≡ 0 = omega arith in rw e (stays F k _ s (rw f (count_none h (p + i * w) m)) q b)
-
--- before the first item, and the bytes of one
-pub items-begin : (w : ℕ) (R : Reader) (h : Here) (n p : ℕ) (m : List ℕ) → items_r w R n h p m ≡ items_r w R (n - 0) h (p + 0 * w) m
-items-begin w R h n p m = let e : p + 0 * w ≡ p = omega arith in rw (sub-zero, e) refl
-
-pub item-inside : (n i w : ℕ) → i < n → i * w + w ≤ n * w
-item-inside n i w h = omega (arith, add-mul i 1 w, mul-le-mul_right {m = i + 1} {n = n} w (omega arith))
+  items-end F s f q l b = let e : n - i ≡ 0 = omega arith in rw e (stays F k _ s (rw f (count_none h at m)) q b)
 
 -- what is left of n items of w bytes, one item further
 pub items_left : (n i w : ℕ) → i < n → (n - i) * w ≡ w + (n - (i + 1)) * w

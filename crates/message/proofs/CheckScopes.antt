@@ -5,7 +5,7 @@ use Rattle.schema.specs.declared.Scope.{Scope}
 use Rattle.schema.specs.declared.Scope.TheVariants.{Whole, Fields}
 use Rattle.message.specs.Walk.{Here}
 use Rattle.message.specs.Count.{Count, failed, count}
-use Rattle.message.specs.Check.{occupancy_of, count_by, after, within, inner_of, Ready}
+use Rattle.message.specs.Check.{levels_in, ignored_in, occupancy_of, count_by, after, within, inner_of, Ready}
 use Rattle.message.specs.Scopes.{group_of, behind_of, left_of, Lies, Inside, Begins, Opens}
 use Rattle.message.specs.declared.Frame.{Frame}
 use Rattle.message.specs.declared.Step.{Step}
@@ -21,9 +21,9 @@ weight (Whole a) d = 1
 weight (Fields g) d = 10 * d + 12
 
 module _ (o f : Frame) where
-  pub inside-falls : (t b : List ℕ) (z : Scope) (d at : ℕ) → Lies t d z b at → Inside z o f → 64 * f.levels + (10 * d + 11) < 64 * o.levels + weight z d
+  pub inside-falls : (t b : List ℕ) (z : Scope) (d at : ℕ) → Lies t d z b at → Inside z o f → 64 * (levels_in f.rules) + (10 * d + 11) < 64 * (levels_in o.rules) + weight z d
   inside-falls t b (Whole a) d at F i = omega (arith, F.0, i.0)
-  inside-falls t b (Fields g) d at F i = omega (arith, ap (λ (x : Frame). x.levels) i)
+  inside-falls t b (Fields g) d at F i = omega (arith, ap (λ (x : Frame). (levels_in x.rules)) i)
 
   pub inside-long : (z : Scope) → Inside z o f → (n : ℕ) → f.area ≤ n → (a : ℕ) → z ≡ Whole a → 16 ≤ n
   inside-long (Whole x) i n l a e = omega (arith, i.1, l)
@@ -46,17 +46,17 @@ module _ (t i b m : List ℕ) (o : Frame) (d at k : ℕ) (z : Scope) where
     unfolding Opens
     opens-refused f h = h
 
-  pub opens-dynamic : (a : ℕ) → z ≡ Whole a → Lies t d z b at → (s : List ℕ) (r : Result Begun Fault) → Opens t i b m o 5 (Whole a) 16 k (count (inner_of o.ignored t o.levels a o.base b)) r
-      → Opens t i b m o d z at k (count (group_of t o.levels d z (within b o) at s)) r
+  pub opens-dynamic : (a : ℕ) → z ≡ Whole a → Lies t d z b at → (s : List ℕ) (r : Result Begun Fault) → Opens t i b m o 5 (Whole a) 16 k (count (inner_of (ignored_in o.rules) t (levels_in o.rules) a o.base b)) r
+      → Opens t i b m o d z at k (count (group_of t (levels_in o.rules) d z (within b o) at s)) r
   opens-dynamic a e F s r h =
-      subst (λ z. Lies t d z b at → Opens t i b m o d z at k (count (group_of t o.levels d z (within b o) at s)) r) (sym e) (λ F. rw (F.0, F.1) h) F
+      subst (λ z. Lies t d z b at → Opens t i b m o d z at k (count (group_of t (levels_in o.rules) d z (within b o) at s)) r) (sym e) (λ F. rw (F.0, F.1) h) F
 
   pub opens-static : (g : ℕ) → z ≡ Fields g → Ready t i b m o → Lies t d z b at → (s : ℕ)
-      → Opens t i b m o d z at k (count (group_of t o.levels d z (within b o) at (occupancy_of o.area s m))) (Ok (record { group = g; frame = o; taken = s; length = k }))
+      → Opens t i b m o d z at k (count (group_of t (levels_in o.rules) d z (within b o) at (occupancy_of o.area s m))) (Ok (record { group = g; frame = o; taken = s; length = k }))
   unfolding Opens
   opens-static g e R F s =
       subst
-      (λ z. Lies t d z b at → Begins t i b m o d z at k (count (group_of t o.levels d z (within b o) at (occupancy_of o.area s m))) (record { group = g; frame = o; taken = s; length = k }))
+      (λ z. Lies t d z b at → Begins t i b m o d z at k (count (group_of t (levels_in o.rules) d z (within b o) at (occupancy_of o.area s m))) (record { group = g; frame = o; taken = s; length = k }))
       (sym e)
       (λ F. record { ready = R; fits = F; inside = refl; counts = ap (after k) (sym (then-nothing _)) })
       F

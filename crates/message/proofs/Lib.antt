@@ -1,5 +1,6 @@
 pub mod Count
 pub mod Tests
+pub mod Rules
 pub mod CheckAnswers
 pub mod CheckPlaces
 pub mod CheckValues

@@ -1,6 +1,6 @@
 -- What the check's functions answer, and what they ask of their callers.
 use Rattle.schema.specs.declared.Fault.{Fault}
-use Rattle.std.specs.Prelude.{Ok, Err, Result, ◌≡◌, ℕ, ◌+◌, ◌-◌, ◌*◌, ◌%◌, ◌^◌, ◌<◌, ◌≤◌, min, Bool, cond, ◌||◌, List, [], length, drop, replicate, nat_le}
+use Rattle.std.specs.Prelude.{Ok, Err, Result, ◌≡◌, ℕ, ◌+◌, ◌-◌, ◌*◌, ◌/◌, ◌%◌, ◌^◌, ◌<◌, ◌≤◌, min, Bool, cond, ◌||◌, List, [], length, drop, replicate, ◌==◌, nat_le}
 use Rattle.schema.specs.Faults.{need}
 use Rattle.schema.specs.Schema.{Kind, Field, width}
 use Rattle.schema.specs.Table.{schema}
@@ -13,6 +13,15 @@ use Rattle.message.specs.Count.{Count, failed, counted}
 use Rattle.message.specs.declared.Step.{Step}
 use Rattle.message.specs.declared.Found.{Found}
 use Rattle.message.specs.declared.Frame.{Frame}
+
+-- RULES
+
+-- The code keeps in one number how many levels are left below a group and, from 16 on, which faults are ignored.
+unfoldable pub levels_in : ℕ → ℕ
+levels_in n = n % 16
+
+unfoldable pub ignored_in : ℕ → Ignored
+ignored_in n = record { absent = n / 16 % 2 == 1; pads = nat_le 2 (n / 16 % 4); unused = nat_le 4 (n / 16) }
 
 -- MARKS
 -- The code keeps no occupancy of the values that stand one behind the other from the data area's start on, as most do: it knows where they end.
@@ -73,7 +82,7 @@ closing h m =
 -- READERS, AS THE CODE CALLS THEM
 
 abbrev pub within : List ℕ → Frame → Here
-within b f = here f.ignored b f.base f.area
+within b f = here (ignored_in f.rules) b f.base f.area
 
 -- An item with its mark; a field's value with its mark.
 abbrev pub item_r : Inner → (ℕ → Reader) → Kind → Reader

@@ -7,7 +7,7 @@ use Rattle.schema.specs.declared.Scope.{Scope}
 use Rattle.schema.specs.declared.Scope.TheVariants.{Whole, Fields}
 use Rattle.message.specs.Walk.{Here, Reader, extension_r}
 use Rattle.message.specs.Count.{Count, failed, counted, count, and_then}
-use Rattle.message.specs.Check.{occupancy_of, closing, after, within, inner_of, width_of, static_of, Ready}
+use Rattle.message.specs.Check.{levels_in, ignored_in, occupancy_of, closing, after, within, inner_of, width_of, static_of, Ready}
 use Rattle.message.specs.declared.Frame.{Frame}
 use Rattle.message.specs.declared.Begun.{Begun}
 
@@ -33,7 +33,7 @@ Lies t d (Fields g) b at = (at + width_of t d g ≤ length b) × (g < length (sc
 
 -- Its frame f, in the frame o: a dynamic group has one of its own, a level deeper; a static group is in that of the group that holds it.
 abbrev pub Inside : Scope → Frame → Frame → Type 0
-Inside (Whole a) o f = (f.levels + 1 ≡ o.levels) × (16 ≤ f.area)
+Inside (Whole a) o f = ((levels_in f.rules) + 1 ≡ (levels_in o.rules)) × (16 ≤ f.area)
 Inside (Fields g) o f = f ≡ o
 
 -- It is begun: its count c, behind k bytes of the sheet, is that of the fields of its number and of what follows them, behind g.length bytes.
@@ -41,7 +41,7 @@ pub record Begins (t i b m : List ℕ) (o : Frame) (d : ℕ) (z : Scope) (at k :
   pub ready : Ready t i b m g.frame
   pub fits : Lies t d (Fields g.group) b at
   pub inside : Inside z o g.frame
-  pub counts : after k c ≡ after g.length (and_then (count (static_of g.frame.ignored t g.frame.levels d g.group (within b g.frame) at (occupancy_of g.frame.area g.taken m))) (behind_of t g.frame.levels z (within b g.frame)))
+  pub counts : after k c ≡ after g.length (and_then (count (static_of (ignored_in g.frame.rules) t (levels_in g.frame.rules) d g.group (within b g.frame) at (occupancy_of g.frame.area g.taken m))) (behind_of t (levels_in g.frame.rules) z (within b g.frame)))
 
 -- It is opened: begun, or refused by its first fault.
 unfoldable pub Opens : List ℕ → List ℕ → List ℕ → List ℕ → Frame → ℕ → Scope → ℕ → ℕ → Count → Result Begun Fault → Type 0

@@ -18,7 +18,7 @@ ghost use Rattle.message.specs.Occupancy.{free, occupy, pads_zero, pads_before};
 ghost use Rattle.message.specs.Sheet.{Mark, ST};
 ghost use Rattle.message.specs.Walk.{lost, found, Reader, Inner, byte, here, marked_r, optional_r, indirect_r, text_r, inner_r, locate, items_r, field_r, extending_r, extension_r, extension_in, body_r, walk};
 ghost use Rattle.message.specs.Count.{count, and_then, counted};
-ghost use Rattle.message.specs.Check.{packed, scattered, occupancy_of, closing, count_by, count_of, after, place_by, Claims, Lands, within, item_r, marked_value_r, inner_of, width_of, static_of, Ready};
+ghost use Rattle.message.specs.Check.{levels_in, ignored_in, packed, scattered, occupancy_of, closing, count_by, count_of, after, place_by, Claims, Lands, within, item_r, marked_value_r, inner_of, width_of, static_of, Ready};
 ghost use Rattle.message.specs.declared.Frame.{Frame};
 ghost use Rattle.message.specs.Scopes.{group_of, behind_of, left_of, Lies, Opens};
 
@@ -47,14 +47,46 @@ struct Found {
 }
 
 // What holds in the whole of a dynamic group: where it starts in the message, where its data area
-// starts in its own bytes, how many levels are left below it, and which faults are ignored. A frame goes
-// through every call of the walk, so it is kept small.
+// starts in its own bytes, and in one number how many levels are left below it and which faults are
+// ignored. With a level and three flags for that number a nested group took 5 in 100 more instructions.
 #[derive(Clone, Copy)]
 struct Frame {
     base: usize,
     area: usize,
-    levels: u8,
-    ignored: Ignored,
+    rules: usize,
+}
+
+// The rules of a message where this is ignored: eight levels, and 16, 32 and 64 for 4, 6 and 8.
+fn rules_of(ignored: Ignored) -> usize
+    ensures { (levels_in result ≡ 8) × (ignored_in result ≡ ignored) }
+{
+    8 + 16 * usize::from(ignored.absent)
+        + 32 * usize::from(ignored.pads)
+        + 64 * usize::from(ignored.unused)
+}
+
+fn levels_left(rules: usize) -> usize
+    ensures { result ≡ levels_in rules }
+{
+    rules % 16
+}
+
+fn ignores_absent(rules: usize) -> bool
+    ensures { result ≡ (ignored_in rules).absent }
+{
+    rules / 16 % 2 == 1
+}
+
+fn ignores_pads(rules: usize) -> bool
+    ensures { result ≡ (ignored_in rules).pads }
+{
+    2 <= rules / 16 % 4
+}
+
+fn ignores_unused(rules: usize) -> bool
+    ensures { result ≡ (ignored_in rules).unused }
+{
+    4 <= rules / 16
 }
 
 // Whether the n bytes from `at` on, which hold no value, are as they must be: zero, unless that is ignored.
@@ -263,7 +295,13 @@ fn check_pads(
     requires { (length occupied.old ≡ length bytes.now) × (frame.base + length bytes.now ≤ 65536) × (frame.area ≤ length bytes.now) }
     ensures { count_by (λ _. []) result ≡ after before (closing (within bytes.now frame) (occupancy_of frame.area taken occupied.old)) }
 {
-    if are_pads_blank(frame.ignored.pads, occupied, bytes, frame.area, taken) {
+    if are_pads_blank(
+        ignores_pads(frame.rules),
+        occupied,
+        bytes,
+        frame.area,
+        taken,
+    ) {
         return Ok(Step {
             length: before.wrapping_add(2),
             taken,
@@ -315,21 +353,23 @@ fn check_numbers(
     ensures { (x : Ignored) (I : Inner) (S : ℕ → Reader) (area : ℕ) (F : ℕ → List ℕ) → count_by F result ≡ after before (count (items_r (kind_width (width_in index.now) (tested_kind (enums table.now) tested)) (item_r I S (tested_kind (enums table.now) tested)) total (here x bytes.now base area) at (F taken))) }
 {
     let width = usize::from(schema::tested_width(tested));
+    let mut place = at;
     let mut step = Step {
         length: before,
         taken,
     };
-    for i in 0..total {
+    for _ in 0..total {
         step = check_number(
             table,
             index,
             bytes,
             base,
             tested,
-            at + i * width,
+            place,
             step.taken,
             step.length,
         )?;
+        place += width;
     }
     Ok(step)
 }
@@ -356,7 +396,7 @@ fn check_inline(
         });
     }
     let end = at + 1 + count;
-    if !is_blank(frame.ignored.unused, bytes, end, room - count) {
+    if !is_blank(ignores_unused(frame.rules), bytes, end, room - count) {
         return Err(Fault {
             number: 8,
             place: frame.base + end + wire::count_zeros(bytes, end, room - count),
@@ -374,7 +414,8 @@ fn check_inline(
     })
 }
 
-// "Indirect string: u32 count and bytes."
+// "Indirect string: u32 count and bytes." Compiled into its callers, for the reason at `check_value`.
+#[inline]
 fn check_text(
     bytes: &[u8],
     occupied: &mut [u8],
@@ -414,20 +455,14 @@ fn check_texts(
     requires { (length occupied.old ≡ length bytes.now) × (frame.base + length bytes.now ≤ 65536) × (frame.area ≤ length bytes.now) × (at + total * 4 ≤ length bytes.now) }
     ensures { count_by (λ s. occupancy_of frame.area s occupied.new) result ≡ after before (count (items_r 4 (marked_r ST (indirect_r 26 1 (text_r utf8))) total (within bytes.now frame) at (occupancy_of frame.area taken occupied.old))) }
 {
+    let mut place = at;
     let mut step = Step {
         length: before,
         taken,
     };
-    for i in 0..total {
-        step = check_text(
-            bytes,
-            occupied,
-            frame,
-            utf8,
-            at + i * 4,
-            step.taken,
-            step.length,
-        )?;
+    for _ in 0..total {
+        step = check_text(bytes, occupied, frame, utf8, place, step.taken, step.length)?;
+        place += 4;
     }
     Ok(step)
 }
@@ -450,7 +485,7 @@ fn check_absent(
             place: frame.base + at,
         });
     }
-    if is_blank(frame.ignored.absent, bytes, at + 1, width) {
+    if is_blank(ignores_absent(frame.rules), bytes, at + 1, width) {
         return Ok(Step {
             length: before.wrapping_add(2),
             taken,
@@ -470,13 +505,20 @@ fn is_unset(optional: bool, bytes: &[u8], at: usize) -> bool
     optional && bytes[at] != 1
 }
 
-// Whether the extension's offset, which stands at 12, is zero or leads into the data area.
+// Whether the extension's offset, which stands at 12, is zero or leads into the data area. As one
+// expression with `||` and `&&` it took a nested group 2 in 100 more instructions.
 fn extension_inside(bytes: &[u8], area: usize) -> bool
     requires { 16 ≤ length bytes.now }
     ensures { (x : Ignored) (base : ℕ) → result ≡ extension_in (here x bytes.now base area) 12 }
 {
     let offset = wire::read_u32(bytes, 12);
-    offset == 0 || area <= 12 + offset && 12 + offset < bytes.len()
+    if offset == 0 {
+        return true;
+    }
+    if 12 + offset < area {
+        return false;
+    }
+    12 + offset < bytes.len()
 }
 
 // GROUPS, FIELDS AND ITEMS
@@ -507,7 +549,7 @@ fn check_group(
     before: usize,
 ) -> Result<Step, Fault>
     requires { (Ready table.now index.now bytes.now occupied.old outer) × (Lies table.now depth scope bytes.now at) }
-    ensures { count_by (λ s. left_of scope outer.area s occupied.new) result ≡ after before (count (group_of table.now outer.levels depth scope (within bytes.now outer) at (occupancy_of outer.area taken occupied.old))) }
+    ensures { count_by (λ s. left_of scope outer.area s occupied.new) result ≡ after before (count (group_of table.now (levels_in outer.rules) depth scope (within bytes.now outer) at (occupancy_of outer.area taken occupied.old))) }
 {
     let begun = open_group(table, index, bytes, outer, scope, taken, before)?;
     let fields = check_fields(
@@ -545,7 +587,7 @@ fn open_group(
     before: usize,
 ) -> Result<Begun, Fault>
     requires { (Layout table.now index.now) × (frame.base + length bytes.now ≤ 65536) }
-    ensures { (m : List ℕ) (d at : ℕ) → Ready table.now index.now bytes.now m frame → Lies table.now d scope bytes.now at → Opens table.now index.now bytes.now m frame d scope at before (count (group_of table.now frame.levels d scope (within bytes.now frame) at (occupancy_of frame.area taken m))) result }
+    ensures { (m : List ℕ) (d at : ℕ) → Ready table.now index.now bytes.now m frame → Lies table.now d scope bytes.now at → Opens table.now index.now bytes.now m frame d scope at before (count (group_of table.now (levels_in frame.rules) d scope (within bytes.now frame) at (occupancy_of frame.area taken m))) result }
 {
     match scope {
         Scope::Whole { allowed } => open_dynamic(table, index, bytes, frame, allowed, before),
@@ -569,7 +611,7 @@ fn open_dynamic(
     before: usize,
 ) -> Result<Begun, Fault>
     requires { (Layout table.now index.now) × (frame.base + length bytes.now ≤ 65536) }
-    ensures { (m : List ℕ) (o : Frame) → length m ≡ length bytes.now → o.levels ≡ frame.levels → Opens table.now index.now bytes.now m o 5 (Whole allowed) 16 before (count (inner_of frame.ignored table.now frame.levels allowed frame.base bytes.now)) result }
+    ensures { (m : List ℕ) (o : Frame) → length m ≡ length bytes.now → (levels_in o.rules) ≡ (levels_in frame.rules) → Opens table.now index.now bytes.now m o 5 (Whole allowed) 16 before (count (inner_of (ignored_in frame.rules) table.now (levels_in frame.rules) allowed frame.base bytes.now)) result }
 {
     if bytes.len() < 16 {
         return Err(Fault {
@@ -591,7 +633,7 @@ fn open_dynamic(
             place: frame.base,
         });
     }
-    if frame.levels == 0 {
+    if levels_left(frame.rules) == 0 {
         return Err(Fault {
             number: 24,
             place: frame.base,
@@ -608,8 +650,8 @@ fn open_area(
     group: usize,
     before: usize,
 ) -> Result<Begun, Fault>
-    requires { (Widths index.now) × (16 ≤ length bytes.now) × (outer.base + length bytes.now ≤ 65536) × (1 ≤ outer.levels) }
-    ensures { (t m : List ℕ) (o : Frame) (allowed : ℕ) → Layout t index.now → group < length (schema t) → length m ≡ length bytes.now → o.levels ≡ outer.levels → Opens t index.now bytes.now m o 5 (Whole allowed) 16 before (count (body_r outer.ignored (schema t) (inner_of outer.ignored t (outer.levels - 1)) group outer.base bytes.now)) result }
+    requires { (Widths index.now) × (16 ≤ length bytes.now) × (outer.base + length bytes.now ≤ 65536) × (1 ≤ (levels_in outer.rules)) }
+    ensures { (t m : List ℕ) (o : Frame) (allowed : ℕ) → Layout t index.now → group < length (schema t) → length m ≡ length bytes.now → (levels_in o.rules) ≡ (levels_in outer.rules) → Opens t index.now bytes.now m o 5 (Whole allowed) 16 before (count (body_r (ignored_in outer.rules) (schema t) (inner_of (ignored_in outer.rules) t ((levels_in outer.rules) - 1)) group outer.base bytes.now)) result }
 {
     let area = 16 + schema::group_width(index, group);
     if bytes.len() < area {
@@ -626,7 +668,7 @@ fn open_area(
     }
     let frame = Frame {
         area,
-        levels: outer.levels - 1,
+        rules: outer.rules - 1,
         ..outer
     };
     Ok(Begun {
@@ -650,7 +692,7 @@ fn close_group(
     before: usize,
 ) -> Result<Step, Fault>
     requires { (Ready table.now index.now bytes.now occupied.old frame) × ((allowed : ℕ) → scope ≡ Whole allowed → 16 ≤ length bytes.now) }
-    ensures { count_by (λ s. left_of scope frame.area s occupied.new) result ≡ after before (behind_of table.now frame.levels scope (within bytes.now frame) (occupancy_of frame.area taken occupied.old)) }
+    ensures { count_by (λ s. left_of scope frame.area s occupied.new) result ≡ after before (behind_of table.now (levels_in frame.rules) scope (within bytes.now frame) (occupancy_of frame.area taken occupied.old)) }
 {
     match scope {
         Scope::Whole { .. } => {
@@ -685,7 +727,7 @@ fn check_rest(
     before: usize,
 ) -> Result<Step, Fault>
     requires { (Ready table.now index.now bytes.now occupied.old frame) × (16 ≤ length bytes.now) }
-    ensures { count_by (λ _. []) result ≡ after before (and_then (count (extension_r (schema table.now) (inner_of frame.ignored table.now frame.levels) (within bytes.now frame) 12 (occupancy_of frame.area taken occupied.old))) (closing (within bytes.now frame))) }
+    ensures { count_by (λ _. []) result ≡ after before (and_then (count (extension_r (schema table.now) (inner_of (ignored_in frame.rules) table.now (levels_in frame.rules)) (within bytes.now frame) 12 (occupancy_of frame.area taken occupied.old))) (closing (within bytes.now frame))) }
 {
     let extension = check_extension(table, index, bytes, occupied, frame, taken, before)?;
     check_pads(bytes, occupied, frame, extension.taken, extension.length)
@@ -707,23 +749,25 @@ fn check_fields(
     before: usize,
 ) -> Result<Step, Fault>
     requires { (Ready table.now index.now bytes.now occupied.old frame) × (at + width_of table.now depth group ≤ length bytes.now) × (group < length (schema table.now)) × (shallow (schema table.now) depth group ≡ true) }
-    ensures { count_by (λ s. occupancy_of frame.area s occupied.new) result ≡ after before (count (static_of frame.ignored table.now frame.levels depth group (within bytes.now frame) at (occupancy_of frame.area taken occupied.old))) }
+    ensures { count_by (λ s. occupancy_of frame.area s occupied.new) result ≡ after before (count (static_of (ignored_in frame.rules) table.now (levels_in frame.rules) depth group (within bytes.now frame) at (occupancy_of frame.area taken occupied.old))) }
 {
     let start = schema::group_place(index, group);
     let total = schema::field_count(table, start);
+    let mut field = start + 16;
     let mut place = at;
     let mut step = Step {
         length: before,
         taken,
     };
-    for i in 0..total {
-        let field = start + 16 * (i + 1);
+    for _ in 0..total {
         let plain = schema::plain_width(table, field);
         if plain != 0 {
             step.length = step.length.wrapping_add(2 + plain);
             place += plain;
+            field += 16;
             continue;
         }
+        let width = schema::field_width(table, index, field);
         step = check_field(
             table,
             index,
@@ -736,7 +780,8 @@ fn check_fields(
             step.taken,
             step.length,
         )?;
-        place += schema::field_width(table, index, field);
+        place += width;
+        field += 16;
     }
     Ok(step)
 }
@@ -756,7 +801,7 @@ fn check_field(
     before: usize,
 ) -> Result<Step, Fault>
     requires { (Ready table.now index.now bytes.now occupied.old frame) × (field + 16 ≤ length table.now) × (at + field_width (width_of table.now depth) (field_at (enums table.now) (drop field table.now)) ≤ length bytes.now) × (shallow_kind (shallow (schema table.now) depth) (width_of table.now depth) (field_at (enums table.now) (drop field table.now)).kind ≡ true) }
-    ensures { count_by (λ s. occupancy_of frame.area s occupied.new) result ≡ after before (count (field_r (inner_of frame.ignored table.now frame.levels) (width_of table.now depth) (static_of frame.ignored table.now frame.levels depth) (field_at (enums table.now) (drop field table.now)) (within bytes.now frame) at (occupancy_of frame.area taken occupied.old))) }
+    ensures { count_by (λ s. occupancy_of frame.area s occupied.new) result ≡ after before (count (field_r (inner_of (ignored_in frame.rules) table.now (levels_in frame.rules)) (width_of table.now depth) (static_of (ignored_in frame.rules) table.now (levels_in frame.rules) depth) (field_at (enums table.now) (drop field table.now)) (within bytes.now frame) at (occupancy_of frame.area taken occupied.old))) }
 {
     let optional = schema::is_optional(table, field);
     if is_unset(optional, bytes, at) {
@@ -785,7 +830,7 @@ fn check_value(
     before: usize,
 ) -> Result<Step, Fault>
     requires { (Ready table.now index.now bytes.now occupied.old frame) × (field + 16 ≤ length table.now) × (at + value_width (width_of table.now depth) (field_at (enums table.now) (drop field table.now)) ≤ length bytes.now) × (shallow_kind (shallow (schema table.now) depth) (width_of table.now depth) (field_at (enums table.now) (drop field table.now)).kind ≡ true) }
-    ensures { count_by (λ s. occupancy_of frame.area s occupied.new) result ≡ after before (count (marked_value_r (inner_of frame.ignored table.now frame.levels) (width_of table.now depth) (static_of frame.ignored table.now frame.levels depth) (field_at (enums table.now) (drop field table.now)) (within bytes.now frame) at (occupancy_of frame.area taken occupied.old))) }
+    ensures { count_by (λ s. occupancy_of frame.area s occupied.new) result ≡ after before (count (marked_value_r (inner_of (ignored_in frame.rules) table.now (levels_in frame.rules)) (width_of table.now depth) (static_of (ignored_in frame.rules) table.now (levels_in frame.rules) depth) (field_at (enums table.now) (drop field table.now)) (within bytes.now frame) at (occupancy_of frame.area taken occupied.old))) }
 {
     let kind = schema::kind_at(table, field);
     let width = schema::kind_width(index, kind);
@@ -838,7 +883,7 @@ fn check_items(
     before: usize,
 ) -> Result<Step, Fault>
     requires { (Ready table.now index.now bytes.now occupied.old frame) × (at + total * width ≤ length bytes.now) × (total < 2 ^ 32) × (width ≤ 4096) × (width ≡ kind_width (width_of table.now depth) (kind_from (enums table.now) kind)) × (shallow_kind (shallow (schema table.now) depth) (width_of table.now depth) (kind_from (enums table.now) kind) ≡ true) }
-    ensures { count_by (λ s. occupancy_of frame.area s occupied.new) result ≡ after before (count (items_r width (item_r (inner_of frame.ignored table.now frame.levels) (static_of frame.ignored table.now frame.levels depth) (kind_from (enums table.now) kind)) total (within bytes.now frame) at (occupancy_of frame.area taken occupied.old))) }
+    ensures { count_by (λ s. occupancy_of frame.area s occupied.new) result ≡ after before (count (items_r width (item_r (inner_of (ignored_in frame.rules) table.now (levels_in frame.rules)) (static_of (ignored_in frame.rules) table.now (levels_in frame.rules) depth) (kind_from (enums table.now) kind)) total (within bytes.now frame) at (occupancy_of frame.area taken occupied.old))) }
 {
     match kind {
         FieldKind::Plain { width: plain } => {
@@ -852,11 +897,12 @@ fn check_items(
             table, index, bytes, frame.base, tested, total, at, taken, before,
         ),
         _ => {
+            let mut place = at;
             let mut step = Step {
                 length: before,
                 taken,
             };
-            for i in 0..total {
+            for _ in 0..total {
                 step = check_item(
                     table,
                     index,
@@ -865,10 +911,11 @@ fn check_items(
                     frame,
                     depth,
                     kind,
-                    at + i * width,
+                    place,
                     step.taken,
                     step.length,
                 )?;
+                place += width;
             }
             Ok(step)
         }
@@ -889,7 +936,7 @@ fn check_item(
     before: usize,
 ) -> Result<Step, Fault>
     requires { (Ready table.now index.now bytes.now occupied.old frame) × (at + kind_width (width_of table.now depth) (kind_from (enums table.now) kind) ≤ length bytes.now) × (shallow_kind (shallow (schema table.now) depth) (width_of table.now depth) (kind_from (enums table.now) kind) ≡ true) }
-    ensures { count_by (λ s. occupancy_of frame.area s occupied.new) result ≡ after before (count (item_r (inner_of frame.ignored table.now frame.levels) (static_of frame.ignored table.now frame.levels depth) (kind_from (enums table.now) kind) (within bytes.now frame) at (occupancy_of frame.area taken occupied.old))) }
+    ensures { count_by (λ s. occupancy_of frame.area s occupied.new) result ≡ after before (count (item_r (inner_of (ignored_in frame.rules) table.now (levels_in frame.rules)) (static_of (ignored_in frame.rules) table.now (levels_in frame.rules) depth) (kind_from (enums table.now) kind) (within bytes.now frame) at (occupancy_of frame.area taken occupied.old))) }
 {
     match kind {
         FieldKind::Plain { width } => Ok(Step {
@@ -942,7 +989,7 @@ fn check_dynamic(
     before: usize,
 ) -> Result<Step, Fault>
     requires { (Ready table.now index.now bytes.now occupied.old frame) × (at + 4 ≤ length bytes.now) }
-    ensures { count_by (λ s. occupancy_of frame.area s occupied.new) result ≡ after before (count (indirect_r 26 1 (inner_r (inner_of frame.ignored table.now frame.levels) allowed) (within bytes.now frame) at (occupancy_of frame.area taken occupied.old))) }
+    ensures { count_by (λ s. occupancy_of frame.area s occupied.new) result ≡ after before (count (indirect_r 26 1 (inner_r (inner_of (ignored_in frame.rules) table.now (levels_in frame.rules)) allowed) (within bytes.now frame) at (occupancy_of frame.area taken occupied.old))) }
 {
     let found = locate(bytes, occupied, frame, taken, at, 26, 1)?;
     check_nested(
@@ -960,8 +1007,9 @@ fn check_dynamic(
 }
 
 // The dynamic group of `size` bytes at `start`, which are taken: it has their part of the scratch for
-// its own.
+// its own. Compiled into its callers, as `check_text` is.
 #[cycle(walk)]
+#[inline]
 fn check_nested(
     table: &[u8],
     index: &[u16],
@@ -975,7 +1023,7 @@ fn check_nested(
     before: usize,
 ) -> Result<Step, Fault>
     requires { (Ready table.now index.now bytes.now occupied.old frame) × (start + size ≤ length bytes.now) × (occupy start size (occupancy_of frame.area taken occupied.old) ≡ occupancy_of frame.area taken occupied.old) }
-    ensures { count_by (λ s. occupancy_of frame.area s occupied.new) result ≡ after before (and_then (count (inner_of frame.ignored table.now frame.levels allowed (frame.base + start) (part size start bytes.now))) (λ _. counted 0 (occupancy_of frame.area taken occupied.old))) }
+    ensures { count_by (λ s. occupancy_of frame.area s occupied.new) result ≡ after before (and_then (count (inner_of (ignored_in frame.rules) table.now (levels_in frame.rules) allowed (frame.base + start) (part size start bytes.now))) (λ _. counted 0 (occupancy_of frame.area taken occupied.old))) }
 {
     let end = start + size;
     let inner = Frame {
@@ -1014,7 +1062,7 @@ fn check_extension(
     before: usize,
 ) -> Result<Step, Fault>
     requires { (Ready table.now index.now bytes.now occupied.old frame) × (16 ≤ length bytes.now) }
-    ensures { count_by (λ s. occupancy_of frame.area s occupied.new) result ≡ after before (count (extension_r (schema table.now) (inner_of frame.ignored table.now frame.levels) (within bytes.now frame) 12 (occupancy_of frame.area taken occupied.old))) }
+    ensures { count_by (λ s. occupancy_of frame.area s occupied.new) result ≡ after before (count (extension_r (schema table.now) (inner_of (ignored_in frame.rules) table.now (levels_in frame.rules)) (within bytes.now frame) 12 (occupancy_of frame.area taken occupied.old))) }
 {
     if wire::read_u32(bytes, 12) == 0 {
         return Ok(Step {
@@ -1055,23 +1103,25 @@ fn check_groups(
     before: usize,
 ) -> Result<Step, Fault>
     requires { (Ready table.now index.now bytes.now occupied.old frame) × (at + total * 4 ≤ length bytes.now) }
-    ensures { count_by (λ s. occupancy_of frame.area s occupied.new) result ≡ after before (count (items_r 4 (indirect_r 26 1 (extending_r (schema table.now) (inner_of frame.ignored table.now frame.levels))) total (within bytes.now frame) at (occupancy_of frame.area taken occupied.old))) }
+    ensures { count_by (λ s. occupancy_of frame.area s occupied.new) result ≡ after before (count (items_r 4 (indirect_r 26 1 (extending_r (schema table.now) (inner_of (ignored_in frame.rules) table.now (levels_in frame.rules)))) total (within bytes.now frame) at (occupancy_of frame.area taken occupied.old))) }
 {
+    let mut place = at;
     let mut step = Step {
         length: before,
         taken,
     };
-    for i in 0..total {
+    for _ in 0..total {
         step = check_extending(
             table,
             index,
             bytes,
             occupied,
             frame,
-            at + i * 4,
+            place,
             step.taken,
             step.length,
         )?;
+        place += 4;
     }
     Ok(step)
 }
@@ -1089,7 +1139,7 @@ fn check_extending(
     before: usize,
 ) -> Result<Step, Fault>
     requires { (Ready table.now index.now bytes.now occupied.old frame) × (at + 4 ≤ length bytes.now) }
-    ensures { count_by (λ s. occupancy_of frame.area s occupied.new) result ≡ after before (count (indirect_r 26 1 (extending_r (schema table.now) (inner_of frame.ignored table.now frame.levels)) (within bytes.now frame) at (occupancy_of frame.area taken occupied.old))) }
+    ensures { count_by (λ s. occupancy_of frame.area s occupied.new) result ≡ after before (count (indirect_r 26 1 (extending_r (schema table.now) (inner_of (ignored_in frame.rules) table.now (levels_in frame.rules))) (within bytes.now frame) at (occupancy_of frame.area taken occupied.old))) }
 {
     let found = locate(bytes, occupied, frame, taken, at, 26, 1)?;
     if found.count < 12 {
@@ -1157,8 +1207,7 @@ fn check_sized(
     let frame = Frame {
         base: 0,
         area: 0,
-        levels: 8,
-        ignored,
+        rules: rules_of(ignored),
     };
     let group = check_group(
         table,

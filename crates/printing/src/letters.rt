@@ -1,53 +1,48 @@
 // Text for people. What cannot be seen, or changes how other letters look, is shown by its number, so that no two texts look alike.
+ghost use Rattle.std.specs.Prelude.{◌<◌, length};
+
 use crate::print;
 use crate::print::Page;
-use values::Kind;
+use std::fmt::Write;
+use values::{Kind, Piece};
 
-// A character's number, or that of a byte that begins none.
-fn print_code(page: &mut Page, mark: &[u8], code: u32) {
-    print::text(page, mark);
-    print::hex_number(page, code as u64, 1);
-    print::text(page, b"}");
-}
-
-// A character that is not printed as it is. Answers how many bytes it has.
-fn print_marked(page: &mut Page, text: &[u8], at: usize) -> usize {
-    let piece = values::piece_at(text, at);
-    let n = piece.length;
-    let kind = piece.kind;
-    match kind {
-        Kind::Plain => print::text(page, rows::part(text, at, n)),
+// A character that is not printed as it is, by its bytes; one that is shown as a number, or a byte that begins none, by its code.
+fn print_marked(page: &mut Page, bytes: &[u8], piece: Piece) {
+    let code = piece.code;
+    match piece.kind {
+        Kind::Plain => print::text(page, bytes),
         Kind::Quoted => {
             print::text(page, b"\\");
-            print::text(page, rows::part(text, at, n));
+            print::text(page, bytes);
         }
-        Kind::Numbered => print_code(page, b"\\u{", piece.code),
-        Kind::Broken => print_code(page, b"\\x{", piece.code),
+        Kind::Numbered => {
+            let _ = write!(page, "\\u{{{code:x}}}");
+        }
+        Kind::Broken => {
+            let _ = write!(page, "\\x{{{code:x}}}");
+        }
     }
-    n
 }
 
-// All that is printed as it is from here on, or the character that stands here. Answers how many bytes were printed.
-fn print_some(page: &mut Page, text: &[u8], at: usize) -> usize {
-    let n = values::plain_run(text, at);
-    if n == 0 {
-        return print_marked(page, text, at);
+// All that is printed as it is from the start on, or else the character that stands there. Answers what is left.
+fn print_first<'a>(page: &mut Page, text: &'a [u8]) -> &'a [u8]
+    requires { 0 < length text.now }
+    ensures { length result.now < length text.now }
+{
+    let plain = values::plain_run(text, 0);
+    if 0 < plain {
+        print::text(page, &text[..plain]);
+        return &text[plain..];
     }
-    print::text(page, rows::part(text, at, n));
-    n
+    let piece = values::piece_at(text, 0);
+    print_marked(page, &text[..piece.length], piece);
+    &text[piece.length..]
 }
 
 pub fn print_text(page: &mut Page, text: &[u8]) {
-    let mut at = 0;
-    while at < text.len() {
-        let n = print_some(page, text, at);
-        if n == 0 {
-            return;
-        }
-        if text.len() - at < n {
-            return;
-        }
-        at += n;
+    let mut left = text;
+    while !left.is_empty() {
+        left = print_first(page, left);
     }
 }
 

@@ -5,6 +5,6 @@
 pub mod around;
 pub mod letters;
 pub mod print;
-pub mod reason;
+mod reason;
 pub mod store;
 pub mod value;

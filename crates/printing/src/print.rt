@@ -1,132 +1,122 @@
 // Text on its way to a descriptor. It is gathered in a page, and written where the page is full or the text is whole.
-//
-// A page's text stands first in its bytes, and the last four say how long it is, where it goes, and whether some of it was lost. It has
-// the handles of what it is written to.
 ghost use Rattle.std.specs.Prelude.{◌≤◌};
 
 use crate::reason;
-use std::io::Write;
+use std::fmt::{Display, Write};
 use std::rt::{Stderr, Stdout};
+use std::{fmt, io};
 
-#[derive(Drop)]
-pub struct Page {
-    output: Stdout,
-    errors: Stderr,
-    bytes: [u8; 16388],
+// Where text goes.
+#[derive(Clone, Copy)]
+enum Target {
+    Output(Stdout),
+    Errors(Stderr),
 }
 
-// The most text, and behind it its length.
+impl Target {
+    fn name(self) -> &'static [u8] {
+        match self {
+            Target::Output(_) => b"standard output",
+            Target::Errors(_) => b"standard error",
+        }
+    }
+
+    fn write_all(self, words: &[u8]) -> io::Result<()> {
+        match self {
+            Target::Output(mut output) => io::Write::write_all(&mut output, words),
+            Target::Errors(mut errors) => io::Write::write_all(&mut errors, words),
+        }
+    }
+}
+
+// The most text that a page holds.
 const ROOM: usize = 16384;
 
-const TO_ERRORS: usize = 16386;
-
-const LOST: usize = 16387;
+// The first `used` bytes are text that is still to be written.
+#[derive(Drop)]
+pub struct Page {
+    target: Target,
+    errors: Stderr,
+    is_lost: bool,
+    bytes: [u8; ROOM],
+    used: usize,
+    ghost within: { used ≤ 16384 },
+}
 
 // A page for standard output.
 pub fn new_page(rt: &HostRuntime) -> Page {
     Page {
-        output: rt.stdout(),
+        target: Target::Output(rt.stdout()),
         errors: rt.stderr(),
-        bytes: [0u8; 16388],
+        is_lost: false,
+        bytes: [0; ROOM],
+        used: 0,
     }
 }
 
 // What follows goes to standard error, and so does what the page holds.
 pub fn redirect(page: &mut Page) {
-    page.bytes[TO_ERRORS] = 1;
-}
-
-fn goes_to_errors(page: &Page) -> bool {
-    page.bytes[TO_ERRORS] == 1
+    page.target = Target::Errors(page.errors);
 }
 
 // Whether some of the text could not be written.
 pub fn is_lost(page: &Page) -> bool {
-    page.bytes[LOST] == 1
-}
-
-fn send(
-    to_errors: bool,
-    mut output: Stdout,
-    mut errors: Stderr,
-    words: &[u8],
-) -> std::io::Result<()> {
-    if to_errors {
-        return errors.write_all(words);
-    }
-    output.write_all(words)
+    page.is_lost
 }
 
 // Nothing is written after a loss: text with a hole in it looks whole.
-fn lose(page: &mut Page, why: std::io::Error) {
-    page.bytes[LOST] = 1;
-    if goes_to_errors(page) {
-        reason::report(page.errors, b"standard error", why);
-    } else {
-        reason::report(page.errors, b"standard output", why);
+fn note(page: &mut Page, sent: io::Result<()>) {
+    if let Err(why) = sent {
+        page.is_lost = true;
+        let _ = reason::report(page.errors, page.target.name(), why);
     }
-}
-
-fn note(page: &mut Page, sent: std::io::Result<()>) {
-    match sent {
-        Ok(()) => {}
-        Err(why) => lose(page, why),
-    }
-}
-
-fn used(page: &Page) -> usize
-    ensures { result ≤ 16384 }
-{
-    let n = wire::read_u16(&page.bytes, ROOM);
-    if ROOM < n {
-        return ROOM;
-    }
-    n
 }
 
 // Writes what the page holds.
 pub fn flush(page: &mut Page) {
-    if is_lost(page) {
+    if page.is_lost {
         return;
     }
-    let n = used(page);
-    let sent = send(
-        goes_to_errors(page),
-        page.output,
-        page.errors,
-        &page.bytes[..n],
-    );
-    wire::write_u16(&mut page.bytes, ROOM, 0);
+    let sent = page.target.write_all(&page.bytes[..page.used]);
+    page.used = 0;
     note(page, sent);
 }
 
 // Writes text that no page has room for.
 fn pass(page: &mut Page, words: &[u8]) {
-    if is_lost(page) {
+    if page.is_lost {
         return;
     }
-    let sent = send(goes_to_errors(page), page.output, page.errors, words);
+    let sent = page.target.write_all(words);
     note(page, sent);
 }
 
 // Puts the text behind what the page holds, where there is room.
 fn add(page: &mut Page, words: &[u8]) {
-    let at = used(page);
-    if ROOM - at < words.len() {
+    let left = &mut page.bytes[page.used..];
+    if left.len() < words.len() {
         return;
     }
-    wire::copy(&mut page.bytes, at, words, 0, words.len());
-    wire::write_u16(&mut page.bytes, ROOM, at + words.len());
+    left[..words.len()].copy_from_slice(words);
+    page.used += words.len();
 }
 
 pub fn text(page: &mut Page, words: &[u8]) {
-    if ROOM - used(page) < words.len() {
+    if ROOM - page.used < words.len() {
         flush(page);
     }
     if ROOM < words.len() {
         pass(page, words);
     } else {
         add(page, words);
+    }
+}
+
+// A page notes a loss by itself, so that a `write!` to it has nothing to say.
+impl Write for Page {
+    fn write_str(&mut self, words: &str) -> fmt::Result {
+        text(self, words.as_bytes());
+        Ok(())
     }
 }
 
@@ -138,43 +128,18 @@ pub fn end_line(page: &mut Page) {
     text(page, b"\n");
 }
 
-pub fn wide(page: &mut Page, n: u64) {
-    let mut digits = [0u8; 20];
-    let k = io::decimal(n, &mut digits);
-    text(page, &digits[..k]);
-}
-
-pub fn number(page: &mut Page, n: usize) {
-    wide(page, n as u64);
-}
-
-// In hex, with at least `width` digits.
-pub fn hex_number(page: &mut Page, n: u64, width: usize) {
-    let mut digits = [0u8; 16];
-    let k = io::hex(n, width, &mut digits);
-    text(page, &digits[..k]);
-}
-
-pub fn hex_byte(page: &mut Page, b: u8) {
-    hex_number(page, b as u64, 2);
+pub fn number<N: Display + Drop>(page: &mut Page, n: N) {
+    let _ = write!(page, "{n}");
 }
 
 pub fn hex(page: &mut Page, bytes: &[u8]) {
-    let mut i = 0;
-    while i < bytes.len() {
-        hex_byte(page, bytes[i]);
-        i += 1;
+    for b in bytes {
+        let _ = write!(page, "{b:02x}");
     }
 }
 
-fn indent_once(page: &mut Page) {
-    text(page, b"  ");
-}
-
 pub fn indent(page: &mut Page, depth: usize) {
-    let mut i = 0;
-    while i < depth {
-        indent_once(page);
-        i += 1;
+    for _ in 0..depth {
+        text(page, b"  ");
     }
 }

@@ -28,13 +28,11 @@ fn write_line(errors: &mut Stderr, name: &[u8], words: &[u8]) -> io::Result<()> 
     errors.write_all(b"\n")
 }
 
-// `blink: NAME: REASON`, and whether it was written.
-pub fn report(mut errors: Stderr, name: &[u8], why: io::Error) -> bool {
+// `blink: NAME: REASON`.
+pub fn report(mut errors: Stderr, name: &[u8], why: io::Error) -> io::Result<()> {
     let mut room = Cursor::new([0u8; 256]);
-    if write!(room, "{why}").is_err() {
-        return false;
-    }
+    write!(room, "{why}")?;
     let text = room.into_inner();
     let n = words_of(&text);
-    write_line(&mut errors, name, &text[..n]).is_ok()
+    write_line(&mut errors, name, &text[..n])
 }

@@ -3,13 +3,16 @@
 // The store is one that passed, so records of nine bytes stand from its start on, and zeros behind them. Nothing here rests on it: where
 // a record is not one, the text stops.
 ghost use Rattle.std.specs.Prelude.{◌≡◌, ◌&&◌, ◌+◌, ◌*◌, ◌/◌, ◌≤◌, length, eqb};
+ghost use Rattle.std.specs.Option.{option_map_or};
 ghost use Rattle.settings.specs.Store.{customer_of, last_of, stands};
 
 use crate::print;
 use crate::print::Page;
+use std::fmt::Write;
 
 const CS: [u8; 2] = *b"CS";
 
+#[tactic(auto, unfolding(settings::specs::Store::stands))]
 fn is_record(store: &[u8], n: usize) -> bool
     requires { 9 * n + 9 ≤ length store.now }
     ensures { result ≡ stands store.now n }
@@ -22,36 +25,29 @@ fn is_of(store: &[u8], n: usize, customer: usize) -> bool
     requires { 9 * n + 9 ≤ length store.now }
     ensures { result ≡ stands store.now n && eqb (customer_of store.now n) customer }
 {
-    is_record(store, n) & (wire::read_u16(store, 9 * n + 2) == customer)
+    is_record(store, n) && wire::read_u16(store, 9 * n + 2) == customer
 }
 
-// The customer's last record, by its number plus 1.
-fn newest(store: &[u8], customer: usize) -> usize
-    ensures { result ≡ last_of (λ n. stands store.now n && eqb (customer_of store.now n) customer) (length store.now / 9) }
+// The customer's last record.
+fn newest(store: &[u8], customer: usize) -> Option<usize>
+    ensures { option_map_or (λ n. n + 1) result 0 ≡ last_of (λ n. stands store.now n && eqb (customer_of store.now n) customer) (length store.now / 9) }
 {
-    let mut n = store.len() / 9;
-    while 0 < n {
-        if is_of(store, n - 1, customer) {
-            return n;
+    for n in (0..store.len() / 9).rev() {
+        if is_of(store, n, customer) {
+            return Some(n);
         }
-        n -= 1;
     }
-    0
-}
-
-fn print_fault(page: &mut Page, number: usize, is_ignored: bool) {
-    if is_ignored {
-        print::space(page);
-        print::number(page, number);
-    }
+    None
 }
 
 // The faults that are ignored, by number.
 pub fn print_ignored(page: &mut Page, absent: bool, pads: bool, unused: bool) {
     print::text(page, b"ignores");
-    print_fault(page, 4, absent);
-    print_fault(page, 6, pads);
-    print_fault(page, 8, unused);
+    for (number, is_ignored) in [(4, absent), (6, pads), (8, unused)] {
+        if is_ignored {
+            let _ = write!(page, " {number}");
+        }
+    }
     if !absent && !pads && !unused {
         print::text(page, b" nothing");
     }
@@ -63,30 +59,25 @@ fn print_record(page: &mut Page, store: &[u8], n: usize)
 {
     let at = 9 * n;
     let customer = wire::read_u16(store, at + 2);
-    print::text(page, b"customer ");
-    print::number(page, customer);
-    print::text(page, b" version ");
-    print::number(page, wire::read_u16(store, at + 4));
-    print::space(page);
+    let version = wire::read_u16(store, at + 4);
+    let _ = write!(page, "customer {customer} version {version} ");
     print_ignored(
         page,
         store[at + 6] == 1,
         store[at + 7] == 1,
         store[at + 8] == 1,
     );
-    if newest(store, customer) == n + 1 {
+    if newest(store, customer) == Some(n) {
         print::text(page, b" (governs)");
     }
     print::end_line(page);
 }
 
 pub fn print_store(page: &mut Page, store: &[u8]) {
-    let mut n = 0;
-    while n < store.len() / 9 {
+    for n in 0..store.len() / 9 {
         if !is_record(store, n) {
             return;
         }
         print_record(page, store, n);
-        n += 1;
     }
 }

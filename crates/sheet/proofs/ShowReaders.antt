@@ -24,7 +24,7 @@ use Rattle.message.specs.Sheet.{Mark, VA, ST, SG, SQ, GB, XT, XU, mark_bytes, NO
 use Rattle.settings.specs.Store.{lax}
 use Rattle.message.specs.Walk.{Reading, refused, done, prefixed, next, Here, here, Reader, Inner, byte, word, Place, lost, locate, onward, marked_r, optional_r, plain_r, inline_r, indirect_r, text_r, inner_r, items_r, list_r, kind_r, value_r, field_r, extending_r, groups_r, extension_r, extension_in, behind_r, padded, body_r, head_r, group_r, walk}
 use Rattle.message.specs.Check.{item_r, marked_value_r, inner_of, width_of, static_of}
-use Rattle.message.proofs.Count.{length-mark}
+use Rattle.message.proofs.Count.{length-mark, items-one}
 use Rattle.message.proofs.CheckFields.{field-required, field-optional, field-there, value-one}
 use Rattle.message.specs.Scopes.{Lies}
 use Rattle.sheet.specs.Show.{Passage, passage, whole, just, then, extension_of, group_of, takes, head_of, number_of, id_of, end_of, Reads, Fits}
@@ -218,8 +218,8 @@ module _ (I : Inner) (sw : ℕ → ℕ) (S : ℕ → Reader) (f : Field) (b : Li
   field-always o = alike _ _ (λ base area m. field-required I sw S f (here lax b base area) at m o)
 
   module _ (x : Kind) (ix : x ≡ f.kind) where
-    pub value-item : f.sequence ≡ false → Opens (passage (marked_value_r I sw S f) b at) (passage (item_r I S x) b at)
-    value-item e = alike _ _ (λ base area m. value-one I sw S f (here lax b base area) at m x ix e)
+    pub value-item : f.sequence ≡ false → (w : ℕ) → Opens (passage (marked_value_r I sw S f) b at) (passage (items_r w (item_r I S x) 1) b at)
+    value-item e w = alike _ _ (λ base area m. let h = here lax b base area in value-one I sw S f h at m x ix e ∙ sym (items-one h at m w (item_r I S x)))
 
     module _ (e : f.sequence ≡ true) (w : ℕ) (iw : w ≡ kind_width sw x) where
       value-list : Opens (passage (marked_value_r I sw S f) b at) (passage (marked_r SQ (indirect_r 13 w (list_r w (item_r I S x)))) b at)

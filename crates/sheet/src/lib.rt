@@ -216,8 +216,9 @@ fn show_fields(
             next = show_bytes(VA, bytes, place, plain, out, next);
             place += plain;
         } else {
+            let width = schema::field_width(table, index, field);
             next = show_field(table, index, bytes, levels, deeper, field, place, out, next);
-            place += schema::field_width(table, index, field);
+            place += width;
         }
         field += 16;
     }
@@ -266,25 +267,18 @@ fn show_value(
     ensures { Shown (passage (value_of table.now levels depth field) bytes.now at) pos out.old out.new result }
 {
     let kind = schema::kind_at(table, field);
-    if !schema::is_sequence(table, field) {
-        return show_item(table, index, bytes, levels, depth, kind, at, out, pos);
-    }
-    let place = at + wire::read_u32(bytes, at);
-    let total = wire::read_u32(bytes, place);
     let width = schema::kind_width(index, kind);
-    let next = show_bytes(SQ, bytes, place, 4, out, pos);
+    // A single value is a row of one item, so that a level stays one call.
+    let (total, start, next) = if schema::is_sequence(table, field) {
+        let place = at + wire::read_u32(bytes, at);
+        let total = wire::read_u32(bytes, place);
+        let next = show_bytes(SQ, bytes, place, 4, out, pos);
+        (total, place + 4, next)
+    } else {
+        (1, at, pos)
+    };
     show_items(
-        table,
-        index,
-        bytes,
-        levels,
-        depth,
-        kind,
-        width,
-        total,
-        place + 4,
-        out,
-        next,
+        table, index, bytes, levels, depth, kind, width, total, start, out, next,
     )
 }
 

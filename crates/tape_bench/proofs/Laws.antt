@@ -1,5 +1,5 @@
 -- Counting step by step.
-use Rattle.schema.specs.Faults.{fault_at}
+use Rattle.schema.specs.declared.Fault.{Fault}
 use Rattle.std.proofs.Common.{Ok, Err, Some, None}
 use Prim.Native.Nat.{ℕ, ◌+◌, ◌<◌, ◌≤◌}
 use mathlib.Core.Path.{◌≡◌, ap}
@@ -39,7 +39,7 @@ module _ (t s : List ℕ) (u : Under) where
       record { few = omega (arith, c.few, r.past, one_at_most x.answer, e); rest = omega (arith, c.rest, a, e) }
 
 -- a refused table's one answer is 20
-pub none : (t s : List ℕ) (u : Under) (n q : ℕ) → Err (fault_at n q) ≡ table_verdict t → ◌≡◌ {A = ℕ} 0 (count_accepted (tape_answers t s u))
+pub none : (t s : List ℕ) (u : Under) (r : Fault) → Err r ≡ table_verdict t → ◌≡◌ {A = ℕ} 0 (count_accepted (tape_answers t s u))
 unfolding count_accepted
-none t [] u n q e = rw (answers-end t [] u 0 (omega arith))
-none t (x ∷ s) u n q e = let h : 0 < length (x ∷ s) = omega arith in rw (answers-last t (x ∷ s) u 0 _ h (step-20 t (x ∷ s) 0 u n q h e))
+none t [] u r e = rw (answers-end t [] u 0 (omega arith))
+none t (x ∷ s) u r e = let h : 0 < length (x ∷ s) = omega arith in rw (answers-last t (x ∷ s) u 0 _ h (step-20 t (x ∷ s) 0 u r h e))

@@ -8,16 +8,14 @@ ghost use Rattle.opening.specs.Opening.{under};
 ghost use Rattle.tape.specs.Tape.{tape_answers};
 ghost use Rattle.tape_bench.specs.Count.{one, count_accepted};
 
-use schema::Verdict;
-use tape::Answer;
+use tape::{Answer, Step};
 
 fn one_if_accepted(answer: Answer) -> usize
     ensures { result ≡ one answer }
 {
     match answer {
-        Answer::Ended => 0,
-        Answer::Accepted => 1,
-        Answer::Refused { number, place } => 0,
+        Some(Ok(())) => 1,
+        Some(Err(_)) | None => 0,
     }
 }
 
@@ -35,10 +33,11 @@ fn count_under(
     let mut accepted = 0;
     let mut at = 0;
     while at < tape.len() {
-        let step = tape::step_under(table, index, store, customer, tape, at, scratch);
-        let answer = step.answer;
-        accepted = accepted + one_if_accepted(answer);
-        at = step.next;
+        let Step { answer, next } = tape::step_under(
+            table, index, store, customer, tape, at, scratch,
+        );
+        accepted += one_if_accepted(answer);
+        at = next;
     }
     accepted
 }
@@ -54,9 +53,8 @@ pub extern "C" fn tape_count_accepted(
     ensures { result ≡ count_accepted (tape_answers table.now tape.now (under store.now customer (length scratch.old))) }
 {
     let mut index = [0u16; 322];
-    let v = table::index_table(table, &mut index);
-    match v {
-        Verdict::Accepted => count_under(table, &index, store, customer, tape, scratch),
-        Verdict::Refused { number, place } => 0,
-    }
+    let Ok(()) = table::index_table(table, &mut index) else {
+        return 0;
+    };
+    count_under(table, &index, store, customer, tape, scratch)
 }

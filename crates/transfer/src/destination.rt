@@ -89,7 +89,12 @@ fn is_spared(rt: &HostRuntime, out: Option<Identity>, of: Option<Identity>, reas
     false
 }
 
-fn is_table_or_store(rt: &HostRuntime, out: Option<Identity>, table: Option<Identity>, store: Option<Identity>) -> bool {
+fn is_table_or_store(
+    rt: &HostRuntime,
+    out: Option<Identity>,
+    table: Option<Identity>,
+    store: Option<Identity>,
+) -> bool {
     is_spared(rt, out, table, b"is the table, which stays")
         || is_spared(rt, out, store, b"is the settings store, which stays")
 }
@@ -120,7 +125,12 @@ pub fn is_taken(
 }
 
 // The same of a ledger, which is none of them.
-pub fn is_input(rt: &HostRuntime, table: Option<Identity>, store: Option<Identity>, tape: Option<Identity>) -> bool {
+pub fn is_input(
+    rt: &HostRuntime,
+    table: Option<Identity>,
+    store: Option<Identity>,
+    tape: Option<Identity>,
+) -> bool {
     let out = find(rt, arguments::plain(rt, command::OUT));
     is_table_or_store(rt, out, table, store) || is_read(rt, out, tape)
 }

@@ -1,11 +1,11 @@
 -- Writes in the two places where a message grows: bytes in place, and behind them the data area.
-use Prim.Native.Nat.{ℕ, ◌+◌, ◌-◌, ◌≤◌}
-use mathlib.Core.Path.{◌≡◌, refl, ap, ◌∙◌}
+use Prim.Native.Nat.{ℕ, ◌+◌, ◌-◌, ◌<◌, ◌≤◌}
+use mathlib.Core.Path.{◌≡◌, refl, sym, ap, ◌∙◌}
 use mathlib.Core.List.{List, [], ◌∷◌, ◌++◌, append_assoc}
 use native.Mathlib.Omega.{arith}
-use lib.ListN.{length, replicate, length-append}
+use lib.ListN.{length, replicate, set, length-append}
 use Rattle.wire.specs.Bytes.{part, splice}
-use Rattle.wire.proofs.Laws.{length-splice, splice-append, splice-commute, splice-before, splice-nil, splice-part}
+use Rattle.wire.proofs.Laws.{length-splice, splice-append, splice-commute, splice-before, splice-cons, splice-nil, splice-part}
 use Rattle.writing.specs.Write.{put}
 
 pub length-put : (at free : ℕ) (F D out : List ℕ) → at + length F ≤ free → free + length D ≤ length out → length (put at free F D out) ≡ length out
@@ -63,6 +63,10 @@ put-group w size id F D out mid last left ls li lF m l e h =
     l ∙ rw (q, m) (ap (splice (length D) (4 + (8 + n)) D) (splice-append 8 n 4 id F out li (omega (arith, lF, h))) ∙ splice-append (8 + n) (length D) 4 (id ++ F) D out lI (omega (arith, lF, h))) in
     let k : length (size ++ (id ++ (F ++ D))) ≡ 4 + (8 + n + length D) = simp length-append (omega (arith, ls, li)) in
     e ∙ ap (splice 4 0 size) b ∙ splice-before 4 (8 + n + length D) 0 4 size ((id ++ F) ++ D) out refl ls (omega (arith, lF, h)) ∙ rw (k, append_assoc id F D)
+
+-- one byte
+pub put-byte : (at y : ℕ) (out left : List ℕ) → left ≡ set out at y → at < length out → left ≡ splice 1 at (y ∷ []) out
+put-byte at y out left e h = e ∙ sym (splice-cons 0 at y [] out h ∙ splice-nil (at + 1) (set out at y))
 
 -- text in place: its count, its bytes, and zeros up to the capacity
 pub put-inline : (n c at : ℕ) (v out first mid left : List ℕ) → first ≡ splice 1 at (n ∷ []) out → mid ≡ splice n (at + 1) v first → left ≡ splice (c - n) (at + 1 + n) (replicate (c - n) 0) mid

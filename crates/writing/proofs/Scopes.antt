@@ -28,7 +28,7 @@ module _ (sc : Scope) (a : ℕ) (i : sc ≡ Whole a) (pos free : ℕ) (s out : L
   head-room l h = rw i at h
 
   pub whole-opens : (t : List ℕ) (l g p w : ℕ) (left : List ℕ) → g ≡ find (schema t) (le (part 8 pos s)) → p ≡ pos + 8 → w ≡ width_of t 5 g → left ≡ splice 8 4 (part 8 pos s) out
-      → ◌≡◌ {A = Opened} (record { group = g; levels = l - 1; pos = p; free = 16 + w }) (open_of t l sc pos free s) × (left ≡ head_of sc pos s out)
+      → ◌≡◌ {A = Opened} (record { group = g; levels = l - 1; ends = record { pos = p; free = 16 + w } }) (open_of t l sc pos free s) × (left ≡ head_of sc pos s out)
   unfolding open_of head_of
   whole-opens t l g p w left ig ip iw m = (rw (i, iw, ip, ig), rw i m)
 
@@ -55,7 +55,7 @@ module _ (sc : Scope) (a : ℕ) (i : sc ≡ Whole a) (pos free : ℕ) (s out : L
       whole-ends left m = rw i (mid, q, v, m, refl)
 
 module _ (sc : Scope) (g : ℕ) (i : sc ≡ Fields g) (t : List ℕ) (l pos free : ℕ) (s out : List ℕ) where
-  pub fields_open : ◌≡◌ {A = Opened} (record { group = g; levels = l; pos = pos; free = free }) (open_of t l sc pos free s) × (out ≡ head_of sc pos s out)
+  pub fields_open : ◌≡◌ {A = Opened} (record { group = g; levels = l; ends = record { pos = pos; free = free } }) (open_of t l sc pos free s) × (out ≡ head_of sc pos s out)
   unfolding open_of head_of
   fields_open = rw i (refl, refl)
 
@@ -80,9 +80,9 @@ module _ (t : List ℕ) (l d at free pos : ℕ) (s out : List ℕ) where
   pub record Goes (sc : Scope) (o : Opened) (mid : List ℕ) : Type 0 where
     pub inside : o.group < length (schema t)
     pub low : shallow (schema t) d o.group ≡ true
-    pub fits : Fits (static_of t o.levels d o.group at o.free (drop o.pos s)) at o.free mid
+    pub fits : Fits (static_of t o.levels d o.group at o.ends.free (drop o.ends.pos s)) at o.ends.free mid
     pub falls : (64 * o.levels + 10 * d < 64 * l + deep sc d + 1) × (64 * o.levels + 9 < 64 * l + deep sc d + 1)
-    pub ends : (last : List ℕ) (p e : ℕ) → Stands (static_of t o.levels d o.group at o.free (drop o.pos s)) at o.free s mid last p e
+    pub ends : (last : List ℕ) (p e : ℕ) → Stands (static_of t o.levels d o.group at o.ends.free (drop o.ends.pos s)) at o.ends.free s mid last p e
         → HasEnd t o.levels sc p e s last × ((left : List ℕ) (p' e' : ℕ) → Ended t o.levels sc p e s last left p' e' → Stands (group_of t l d sc at free (drop pos s)) (place_of sc at) (place_of sc free) s out left p' e')
 
   pub goes : (k : List ℕ) → Layout t k → (sc : Scope) → Scoped t d sc at → Fits (group_of t l d sc at free (drop pos s)) (place_of sc at) (place_of sc free) out

@@ -1,5 +1,5 @@
 -- What an allowed sheet's writers say without their tests: each is opened to fixed bytes and to the writers that it goes on with.
-use Prim.Native.Nat.{ℕ, suc, ◌+◌, ◌-◌, ◌*◌, ◌<◌, ◌≤◌}
+use Prim.Native.Nat.{ℕ, suc, ◌+◌, ◌-◌, ◌*◌, ◌≤◌}
 use mathlib.Core.Path.{◌≡◌, refl, sym, ap, ◌∙◌}
 use mathlib.Core.Bool.{Bool, true, false}
 use mathlib.Core.List.{List, [], ◌∷◌, ◌++◌, append-nil}
@@ -10,21 +10,19 @@ use borrow.Author.Tests.{leb-true}
 use Rattle.wire.specs.Bytes.{part, splice, bytes_of, le, same}
 use Rattle.wire.proofs.Laws.{length-bytes, length_part, part-add, splice-nil}
 use Rattle.schema.specs.Schema.{Test, Kind, any, Field, kind_width, value_width, field_width}
-use Rattle.schema.specs.Table.{field_at, fields_at}
 use Rattle.schema.specs.FieldKinds.{kind_from, tested_kind}
 use Rattle.schema.specs.declared.FieldKind.{FieldKind}
 use Rattle.schema.specs.declared.FieldKind.TheVariants.{Plain, Number, Inline, Indirect, Static, Dynamic}
 use Rattle.schema.specs.declared.Tested.{Tested}
-use Rattle.schema.proofs.Records.{fields-more, fields-none}
 use Rattle.schema.proofs.Types.{width-optional}
 use Rattle.message.specs.Sheet.{Mark, ST, SQ, mark_bytes, NO}
-use Rattle.sheet.specs.Written.{Writing, wrote, Writer, InnerW, headed, next_w, placed, grab, due, none_w, then_w, marked_w, plain_w, counted, inline_w, indirect_w, text_b, inner_b, items_w, list_b, kind_w, field_w, fields_w}
+use Rattle.sheet.specs.Written.{Writing, wrote, Writer, InnerW, headed, placed, grab, due, marked_w, plain_w, counted, inline_w, indirect_w, text_b, inner_b, items_w, list_b, kind_w, field_w}
 use Rattle.sheet.specs.Writers.{item_w, marked_value_w, text_of}
-use Rattle.sheet.proofs.Widths.{Wide, wide_is, wide-headed, Wides, wides-items, wides-field}
-use Rattle.sheet.proofs.Writers.{mark-inside, placed-wrote, items-one, field-required, field-absent, field-present, value-list, tested-plain}
+use Rattle.sheet.proofs.Widths.{Wide, wide_is, wide-headed, Wides, wides-items}
+use Rattle.sheet.proofs.Writers.{mark-inside, placed-wrote, field-required, field-absent, field-present, value-list, tested-plain}
 use Rattle.writing.specs.Write.{behind, put, Fits, Stands}
 use Rattle.writing.proofs.Laws.{put-part}
-use Rattle.writing.proofs.Left.{Opens, need-wrote, headed-wrote, behind-wrote, placed-is, one-writing, Left, begun, left-fits, first_fits, opened, finished, done, headed-left, behind-left, called}
+use Rattle.writing.proofs.Left.{Opens, need-wrote, headed-wrote, behind-wrote, placed-is, one-writing, Left, begun, left-fits, opened, finished, headed-left, behind-left}
 
 -- THE SHEET'S NEXT BYTES
 
@@ -258,51 +256,6 @@ module _ (x : Writing) (at₀ free₀ : ℕ) (out₀ : List ℕ) (least w : ℕ)
   list_left mid left p items end m l ip ii ie =
       let b = behind-left x at₀ free₀ out₀ list (4 + n * w) (at + 4) free mid (offset-left x at₀ free₀ out₀ list at free out list-opened mid m) list-wide in
       rw (ip, ii, ie) (headed-left x at₀ free₀ out₀ (part 4 pos s) _ 4 free (free + (4 + n * w)) mid left b (length_part 4 pos s list_inside) l)
-
--- ITEMS AND FIELDS, ONE BY ONE
-
-pub one_left : (x : Writing) (at₀ free₀ : ℕ) (out₀ : List ℕ) (w : ℕ) (W : Writer) (at free pos : ℕ) (s out : List ℕ) → Left x at₀ free₀ out₀ (W at free (drop pos s)) at free out
-    → (left : List ℕ) (n p items end : ℕ) → left ≡ out → n ≡ 1 → p ≡ pos → items ≡ at → end ≡ free → Left x at₀ free₀ out₀ (items_w w W n items end (drop p s)) items end left
-one_left x at₀ free₀ out₀ w W at free pos s out L left n p items end il in' ip ii ie = rw (il, in', ip, ii, ie) (opened x at₀ free₀ out₀ _ at free out L _ (same-opens _ _ (sym (items-one w W at free (drop pos s)))))
-
-module _ (x : Writing) (at₀ free₀ : ℕ) (out₀ : List ℕ) (n i at free pos : ℕ) (s out : List ℕ) where
-  module _ (w : ℕ) (W : Writer) (L : Left x at₀ free₀ out₀ (items_w w W (n - i) at free (drop pos s)) at free out) where
-    items-turn : i < n → Left x at₀ free₀ out₀ (next_w (W at free (drop pos s)) (λ D r. items_w w W (n - (i + 1)) (at + w) (free + length D) r)) at free out
-    unfolding items_w
-    items-turn l = let e : n - i ≡ suc (n - (i + 1)) = omega arith in rw e at L
-
-    pub item-fits : i < n → Fits (W at free (drop pos s)) at free out
-    item-fits l = first_fits x at₀ free₀ out₀ _ _ at free out (items-turn l)
-
-    pub items-next : i < n → Wides w W → (mid : List ℕ) (p e : ℕ) → Stands (W at free (drop pos s)) at free s out mid p e
-        → Left x at₀ free₀ out₀ (items_w w W (n - (i + 1)) (at + w) e (drop p s)) (at + w) e mid
-    items-next l u mid p e v = called x at₀ free₀ out₀ s at free w out mid p e _ v (λ k r. items_w w W (n - (i + 1)) (at + w) k r) (items-turn l) (u at free (drop pos s))
-
-    pub items-done : n ≤ i → Stands x at₀ free₀ s out₀ out pos free
-    unfolding items_w none_w
-    items-done l = let e : n - i ≡ 0 = omega arith in done x at₀ free₀ out₀ _ at free out (rw e at L) s pos refl
-
-  module _ (I : InnerW) (sw : ℕ → ℕ) (S : ℕ → Writer) (es : List (List ℕ)) (t : List ℕ) (q : ℕ) (L : Left x at₀ free₀ out₀ (fields_w I sw S (fields_at es (n - i) (drop q t)) at free (drop pos s)) at free out) where
-    abbrev field : Field
-    field = field_at es (drop q t)
-
-    abbrev rest : ℕ → ℕ → List ℕ → Writing
-    rest = fields_w I sw S (fields_at es (n - (i + 1)) (drop (q + 16) t))
-
-    fields-turn : i < n → Left x at₀ free₀ out₀ (next_w (field_w I sw S field at free (drop pos s)) (λ D r. rest (at + field_width sw field) (free + length D) r)) at free out
-    unfolding fields_w then_w
-    fields-turn l = rw (fields-more es t q n i l) at L
-
-    pub field_fits : i < n → Fits (field_w I sw S field at free (drop pos s)) at free out
-    field_fits l = first_fits x at₀ free₀ out₀ _ _ at free out (fields-turn l)
-
-    pub fields-next : i < n → ((g : ℕ) → Wides (sw g) (S g)) → (w : ℕ) → w ≡ field_width sw field → (mid : List ℕ) (p e : ℕ) → Stands (field_w I sw S field at free (drop pos s)) at free s out mid p e
-        → Left x at₀ free₀ out₀ (rest (at + w) e (drop p s)) (at + w) e mid
-    fields-next l u w iw mid p e v = rw iw (called x at₀ free₀ out₀ s at free (field_width sw field) out mid p e _ v (λ k r. rest (at + field_width sw field) k r) (fields-turn l) (wides-field I sw S u field at free (drop pos s)))
-
-    pub fields-done : n ≤ i → Stands x at₀ free₀ s out₀ out pos free
-    unfolding fields_w none_w
-    fields-done l = done x at₀ free₀ out₀ _ at free out (rw (fields-none es t q n i l) at L) s pos refl
 
 -- ONE FIELD
 

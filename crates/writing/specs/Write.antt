@@ -66,8 +66,8 @@ HasHead levels (Fields g) pos s out = Unit {0}
 unfoldable pub open_of : List ℕ → ℕ → Scope → ℕ → ℕ → List ℕ → Opened
 open_of t levels (Whole allowed) pos free s =
     let g = find (schema t) (le (part 8 pos s)) in
-    record { group = g; levels = levels - 1; pos = pos + 8; free = 16 + width_of t 5 g }
-open_of t levels (Fields g) pos free s = record { group = g; levels = levels; pos = pos; free = free }
+    record { group = g; levels = levels - 1; ends = record { pos = pos + 8; free = 16 + width_of t 5 g } }
+open_of t levels (Fields g) pos free s = record { group = g; levels = levels; ends = record { pos = pos; free = free } }
 
 unfoldable pub head_of : Scope → ℕ → List ℕ → List ℕ → List ℕ
 head_of (Whole allowed) pos s out = splice 8 4 (part 8 pos s) out

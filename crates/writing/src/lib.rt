@@ -2,8 +2,7 @@
 //
 // The sheet was checked and makes a message that fits, so nothing is tested here: every bound comes
 // from the writing that the caller has. A dynamic group is written into its own part of the output, so
-// that places count from its first byte: `at` is where bytes in place go, `free` is the first free place
-// of the data area, and `pos` is where the sheet goes on.
+// that places count from its first byte: `at` is where bytes in place go.
 #![tactic(auto)]
 
 ghost use Rattle.std.specs.Prelude.{◌≡◌, Bool, true, List, [], ◌∷◌, ◌++◌, ℕ, ◌+◌, ◌-◌, ◌*◌, ◌<◌, ◌≤◌, length, drop, replicate};
@@ -17,9 +16,10 @@ ghost use Rattle.sheet.specs.Written.{wrote, items_w, sheet_w};
 ghost use Rattle.sheet.specs.Writers.{static_of, plain_of, text_of, kind_of, item_of, value_of, field_of, nested_of, extension_of, extending_of};
 ghost use Rattle.writing.specs.Write.{Fits, Stands, group_of, place_of, Scoped, open_of, head_of, HasHead, HasEnd, Ended};
 
+use schema::{FieldKind, Scope};
 use sheet::{NO, XT, XU};
 
-// Where the sheet goes on, and where the data area does.
+// Where the sheet goes on, and the first free place of the data area.
 #[derive(Clone, Copy)]
 struct Ends {
     pos: usize,
@@ -44,53 +44,46 @@ fn write_inline(sheet: &[u8], pos: usize, capacity: usize, at: usize, out: &mut 
     ensures { (out.new ≡ splice (1 + capacity) at (le (part 4 pos sheet.now) ∷ (part (le (part 4 pos sheet.now)) (pos + 4) sheet.now ++ replicate (capacity - le (part 4 pos sheet.now)) 0)) out.old) × (result ≡ pos + (4 + le (part 4 pos sheet.now))) }
 {
     let count = wire::read_u32(sheet, pos);
-    wire::fill(out, at, 1, count as u8);
+    out[at] = count as u8;
     wire::copy(out, at + 1, sheet, pos + 4, count);
     wire::fill(out, at + 1 + count, capacity - count, 0);
     pos + (4 + count)
 }
 
-// A count and so many bytes behind an offset, as the sheet has them.
-fn write_text(sheet: &[u8], pos: usize, at: usize, free: usize, out: &mut [u8]) -> Ends
-    requires { (pos + 4 ≤ length sheet.now) × (pos + (4 + le (part 4 pos sheet.now)) ≤ length sheet.now) × (at + 4 ≤ free) × (free + (4 + le (part 4 pos sheet.now)) ≤ length out.old) }
-    ensures { (out.new ≡ splice (4 + le (part 4 pos sheet.now)) free (part (4 + le (part 4 pos sheet.now)) pos sheet.now) (splice 4 at (bytes_of 4 (free - at)) out.old)) × (result.pos ≡ pos + (4 + le (part 4 pos sheet.now))) × (result.free ≡ free + (4 + le (part 4 pos sheet.now))) }
+// An offset at `at`, which counts from its own first byte and leads to the first free place.
+fn write_offset(free: usize, at: usize, out: &mut [u8])
+    requires { (at + 4 ≤ free) × (free ≤ length out.old) }
+    ensures { out.new ≡ splice 4 at (bytes_of 4 (free - at)) out.old }
 {
-    let size = 4 + wire::read_u32(sheet, pos);
     wire::write_u32(out, at, free - at);
-    wire::copy(out, free, sheet, pos, size);
+}
+
+// A count and so many bytes behind an offset, as the sheet has them.
+fn write_text(sheet: &[u8], ends: Ends, at: usize, out: &mut [u8]) -> Ends
+    requires { (ends.pos + 4 ≤ length sheet.now) × (ends.pos + (4 + le (part 4 ends.pos sheet.now)) ≤ length sheet.now) × (at + 4 ≤ ends.free) × (ends.free + (4 + le (part 4 ends.pos sheet.now)) ≤ length out.old) }
+    ensures { (out.new ≡ splice (4 + le (part 4 ends.pos sheet.now)) ends.free (part (4 + le (part 4 ends.pos sheet.now)) ends.pos sheet.now) (splice 4 at (bytes_of 4 (ends.free - at)) out.old)) × (result.pos ≡ ends.pos + (4 + le (part 4 ends.pos sheet.now))) × (result.free ≡ ends.free + (4 + le (part 4 ends.pos sheet.now))) }
+{
+    let size = 4 + wire::read_u32(sheet, ends.pos);
+    write_offset(ends.free, at, out);
+    wire::copy(out, ends.free, sheet, ends.pos, size);
     Ends {
-        pos: pos + size,
-        free: free + size,
+        pos: ends.pos + size,
+        free: ends.free + size,
     }
 }
 
 // So many texts in a row, each behind its mark.
-fn write_texts(
-    sheet: &[u8],
-    pos: usize,
-    total: usize,
-    at: usize,
-    free: usize,
-    out: &mut [u8],
-) -> Ends
-    requires { (utf8 : Bool) × Fits (items_w 4 (text_of utf8) total at free (drop pos sheet.now)) at free out.old }
-    ensures { (utf8 : Bool) → Fits (items_w 4 (text_of utf8) total at free (drop pos sheet.now)) at free out.old → Stands (items_w 4 (text_of utf8) total at free (drop pos sheet.now)) at free sheet.now out.old out.new result.pos result.free }
+fn write_texts(sheet: &[u8], total: usize, mut ends: Ends, at: usize, out: &mut [u8]) -> Ends
+    requires { (utf8 : Bool) × Fits (items_w 4 (text_of utf8) total at ends.free (drop ends.pos sheet.now)) at ends.free out.old }
+    ensures { (utf8 : Bool) → Fits (items_w 4 (text_of utf8) total at ends.free (drop ends.pos sheet.now)) at ends.free out.old → Stands (items_w 4 (text_of utf8) total at ends.free (drop ends.pos sheet.now)) at ends.free sheet.now out.old out.new result.pos result.free }
 {
-    let mut i = 0;
     let mut place = at;
-    let mut next = pos;
-    let mut end = free;
-    while i < total {
-        let text = write_text(sheet, next + 2, place, end, out);
-        next = text.pos;
-        end = text.free;
+    for _ in 0..total {
+        ends.pos += 2;
+        ends = write_text(sheet, ends, place, out);
         place += 4;
-        i += 1;
     }
-    Ends {
-        pos: next,
-        free: end,
-    }
+    ends
 }
 
 // So many plain values in a row, each behind its mark.
@@ -105,60 +98,55 @@ fn write_plain(
     requires { (free : ℕ) × Fits (items_w width (plain_of width) total at free (drop pos sheet.now)) at free out.old }
     ensures { (free : ℕ) → Fits (items_w width (plain_of width) total at free (drop pos sheet.now)) at free out.old → Stands (items_w width (plain_of width) total at free (drop pos sheet.now)) at free sheet.now out.old out.new result free }
 {
-    let mut i = 0;
     let mut place = at;
     let mut next = pos;
-    while i < total {
+    for _ in 0..total {
         next = write_bytes(sheet, next + 2, width, place, out);
         place += width;
-        i += 1;
     }
     next
 }
 
 // GROUPS, FIELDS AND ITEMS
 
-// A group that is opened: its number, the levels left below it, where the sheet goes on, and where the
-// data area does.
+// A group that is opened: its number, the levels left below it, and where the sheet and the data area
+// go on.
 #[derive(Clone, Copy)]
 struct Opened {
     group: usize,
     levels: usize,
-    pos: usize,
-    free: usize,
+    ends: Ends,
 }
 
-// A dynamic group begins with its type id, which stands in the sheet at `pos`.
+// A dynamic group begins with its type id, where the sheet goes on.
 fn open_group(
     table: &[u8],
     index: &[u16],
     sheet: &[u8],
     levels: usize,
-    scope: schema::Scope,
-    pos: usize,
-    free: usize,
+    scope: Scope,
+    ends: Ends,
     out: &mut [u8],
 ) -> Opened
-    requires { (Layout table.now index.now) × (HasHead levels scope pos sheet.now out.old) }
-    ensures { (result ≡ open_of table.now levels scope pos free sheet.now) × (out.new ≡ head_of scope pos sheet.now out.old) }
+    requires { (Layout table.now index.now) × (HasHead levels scope ends.pos sheet.now out.old) }
+    ensures { (result ≡ open_of table.now levels scope ends.pos ends.free sheet.now) × (out.new ≡ head_of scope ends.pos sheet.now out.old) }
 {
     match scope {
-        schema::Scope::Whole { allowed } => {
+        Scope::Whole { .. } => {
             let total = schema::group_total(index);
-            let group = schema::find(table, index, total, wire::read_u64(sheet, pos));
-            let next = write_bytes(sheet, pos, 8, 4, out);
+            let group = schema::find(table, index, total, wire::read_u64(sheet, ends.pos));
+            let pos = write_bytes(sheet, ends.pos, 8, 4, out);
+            let free = 16 + schema::group_width(index, group);
             Opened {
                 group,
                 levels: levels - 1,
-                pos: next,
-                free: 16 + schema::group_width(index, group),
+                ends: Ends { pos, free },
             }
         }
-        schema::Scope::Fields { group } => Opened {
+        Scope::Fields { group } => Opened {
             group,
             levels,
-            pos,
-            free,
+            ends,
         },
     }
 }
@@ -173,16 +161,15 @@ fn write_group(
     sheet: &[u8],
     levels: usize,
     depth: usize,
-    scope: schema::Scope,
-    pos: usize,
+    scope: Scope,
+    ends: Ends,
     at: usize,
-    free: usize,
     out: &mut [u8],
 ) -> Ends
-    requires { (Layout table.now index.now) × (Scoped table.now depth scope at) × (Fits (group_of table.now levels depth scope at free (drop pos sheet.now)) (place_of scope at) (place_of scope free) out.old) }
-    ensures { Stands (group_of table.now levels depth scope at free (drop pos sheet.now)) (place_of scope at) (place_of scope free) sheet.now out.old out.new result.pos result.free }
+    requires { (Layout table.now index.now) × (Scoped table.now depth scope at) × (Fits (group_of table.now levels depth scope at ends.free (drop ends.pos sheet.now)) (place_of scope at) (place_of scope ends.free) out.old) }
+    ensures { Stands (group_of table.now levels depth scope at ends.free (drop ends.pos sheet.now)) (place_of scope at) (place_of scope ends.free) sheet.now out.old out.new result.pos result.free }
 {
-    let open = open_group(table, index, sheet, levels, scope, pos, free, out);
+    let open = open_group(table, index, sheet, levels, scope, ends, out);
     let fields = write_fields(
         table,
         index,
@@ -190,21 +177,11 @@ fn write_group(
         open.levels,
         depth,
         open.group,
-        open.pos,
+        open.ends,
         at,
-        open.free,
         out,
     );
-    close_group(
-        table,
-        index,
-        sheet,
-        open.levels,
-        scope,
-        fields.pos,
-        fields.free,
-        out,
-    )
+    close_group(table, index, sheet, open.levels, scope, fields, out)
 }
 
 // A dynamic group ends with its extension, and then its size is known.
@@ -214,24 +191,23 @@ fn close_group(
     index: &[u16],
     sheet: &[u8],
     levels: usize,
-    scope: schema::Scope,
-    pos: usize,
-    free: usize,
+    scope: Scope,
+    ends: Ends,
     out: &mut [u8],
 ) -> Ends
-    requires { (Layout table.now index.now) × (HasEnd table.now levels scope pos free sheet.now out.old) }
-    ensures { Ended table.now levels scope pos free sheet.now out.old out.new result.pos result.free }
+    requires { (Layout table.now index.now) × (HasEnd table.now levels scope ends.pos ends.free sheet.now out.old) }
+    ensures { Ended table.now levels scope ends.pos ends.free sheet.now out.old out.new result.pos result.free }
 {
     match scope {
-        schema::Scope::Whole { allowed } => {
-            let ends = write_extension(table, index, sheet, levels, pos, free, out);
+        Scope::Whole { .. } => {
+            let ends = write_extension(table, index, sheet, levels, ends, out);
             wire::write_u32(out, 0, ends.free - 4);
             Ends {
                 pos: ends.pos + 2,
-                free: ends.free,
+                ..ends
             }
         }
-        schema::Scope::Fields { group } => Ends { pos, free },
+        Scope::Fields { .. } => ends,
     }
 }
 
@@ -245,45 +221,31 @@ fn write_fields(
     levels: usize,
     depth: usize,
     group: usize,
-    pos: usize,
+    mut ends: Ends,
     at: usize,
-    free: usize,
     out: &mut [u8],
 ) -> Ends
-    requires { (Layout table.now index.now) × (group < length (schema table.now)) × (shallow (schema table.now) depth group ≡ true) × (Fits (static_of table.now levels depth group at free (drop pos sheet.now)) at free out.old) }
-    ensures { Stands (static_of table.now levels depth group at free (drop pos sheet.now)) at free sheet.now out.old out.new result.pos result.free }
+    requires { (Layout table.now index.now) × (group < length (schema table.now)) × (shallow (schema table.now) depth group ≡ true) × (Fits (static_of table.now levels depth group at ends.free (drop ends.pos sheet.now)) at ends.free out.old) }
+    ensures { Stands (static_of table.now levels depth group at ends.free (drop ends.pos sheet.now)) at ends.free sheet.now out.old out.new result.pos result.free }
 {
     let start = schema::group_place(index, group);
     let total = schema::field_count(table, start);
     let deeper = depth - 1;
-    let mut i = 0;
     let mut field = start + 16;
     let mut place = at;
-    let mut next = pos;
-    let mut end = free;
-    while i < total {
+    for _ in 0..total {
         let plain = schema::plain_width(table, field);
         if plain != 0 {
-            next = write_bytes(sheet, next + 2, plain, place, out);
+            ends.pos = write_bytes(sheet, ends.pos + 2, plain, place, out);
             place += plain;
-            field += 16;
-            i += 1;
-            continue;
+        } else {
+            let width = schema::field_width(table, index, field);
+            ends = write_field(table, index, sheet, levels, deeper, field, ends, place, out);
+            place += width;
         }
-        let width = schema::field_width(table, index, field);
-        let ends = write_field(
-            table, index, sheet, levels, deeper, field, next, place, end, out,
-        );
-        next = ends.pos;
-        end = ends.free;
-        place += width;
         field += 16;
-        i += 1;
     }
-    Ends {
-        pos: next,
-        free: end,
-    }
+    ends
 }
 
 // The field whose record stands at `field` of the table.
@@ -295,27 +257,27 @@ fn write_field(
     levels: usize,
     depth: usize,
     field: usize,
-    pos: usize,
+    ends: Ends,
     at: usize,
-    free: usize,
     out: &mut [u8],
 ) -> Ends
-    requires { (Layout table.now index.now) × (field + 16 ≤ length table.now) × (shallow_kind (shallow (schema table.now) depth) (width_of table.now depth) (field_at (enums table.now) (drop field table.now)).kind ≡ true) × (Fits (field_of table.now levels depth field at free (drop pos sheet.now)) at free out.old) }
-    ensures { Stands (field_of table.now levels depth field at free (drop pos sheet.now)) at free sheet.now out.old out.new result.pos result.free }
+    requires { (Layout table.now index.now) × (field + 16 ≤ length table.now) × (shallow_kind (shallow (schema table.now) depth) (width_of table.now depth) (field_at (enums table.now) (drop field table.now)).kind ≡ true) × (Fits (field_of table.now levels depth field at ends.free (drop ends.pos sheet.now)) at ends.free out.old) }
+    ensures { Stands (field_of table.now levels depth field at ends.free (drop ends.pos sheet.now)) at ends.free sheet.now out.old out.new result.pos result.free }
 {
     let mut place = at;
     if schema::is_optional(table, field) {
-        if wire::has_mark(sheet, pos, NO) {
+        if wire::has_mark(sheet, ends.pos, NO) {
             let width = schema::field_width(table, index, field);
             wire::fill(out, at, width, 0);
-            return Ends { pos: pos + 2, free };
+            return Ends {
+                pos: ends.pos + 2,
+                ..ends
+            };
         }
-        wire::fill(out, at, 1, 1);
+        out[at] = 1;
         place += 1;
     }
-    write_value(
-        table, index, sheet, levels, depth, field, pos, place, free, out,
-    )
+    write_value(table, index, sheet, levels, depth, field, ends, place, out)
 }
 
 // Its value, with the mark: the items of a sequence, or one.
@@ -327,29 +289,27 @@ fn write_value(
     levels: usize,
     depth: usize,
     field: usize,
-    pos: usize,
+    ends: Ends,
     at: usize,
-    free: usize,
     out: &mut [u8],
 ) -> Ends
-    requires { (Layout table.now index.now) × (field + 16 ≤ length table.now) × (shallow_kind (shallow (schema table.now) depth) (width_of table.now depth) (field_at (enums table.now) (drop field table.now)).kind ≡ true) × (Fits (value_of table.now levels depth field at free (drop pos sheet.now)) at free out.old) }
-    ensures { Stands (value_of table.now levels depth field at free (drop pos sheet.now)) at free sheet.now out.old out.new result.pos result.free }
+    requires { (Layout table.now index.now) × (field + 16 ≤ length table.now) × (shallow_kind (shallow (schema table.now) depth) (width_of table.now depth) (field_at (enums table.now) (drop field table.now)).kind ≡ true) × (Fits (value_of table.now levels depth field at ends.free (drop ends.pos sheet.now)) at ends.free out.old) }
+    ensures { Stands (value_of table.now levels depth field at ends.free (drop ends.pos sheet.now)) at ends.free sheet.now out.old out.new result.pos result.free }
 {
     let kind = schema::kind_at(table, field);
     let width = schema::kind_width(index, kind);
-    let mut total = 1;
-    let mut next = pos;
-    let mut items = at;
-    let mut end = free;
-    if schema::is_sequence(table, field) {
-        total = wire::read_u32(sheet, pos + 2);
-        wire::write_u32(out, at, free - at);
-        next = write_bytes(sheet, pos + 2, 4, free, out);
-        items = free + 4;
-        end = free + (4 + total * width);
-    }
+    // A single value is a row of one item, so that a level stays one call.
+    let (total, items, ends) = if schema::is_sequence(table, field) {
+        let total = wire::read_u32(sheet, ends.pos + 2);
+        write_offset(ends.free, at, out);
+        let pos = write_bytes(sheet, ends.pos + 2, 4, ends.free, out);
+        let free = ends.free + (4 + total * width);
+        (total, ends.free + 4, Ends { pos, free })
+    } else {
+        (1, at, ends)
+    };
     write_items(
-        table, index, sheet, levels, depth, kind, width, total, next, items, end, out,
+        table, index, sheet, levels, depth, kind, width, total, ends, items, out,
     )
 }
 
@@ -361,42 +321,30 @@ fn write_items(
     sheet: &[u8],
     levels: usize,
     depth: usize,
-    kind: schema::FieldKind,
+    kind: FieldKind,
     width: usize,
     total: usize,
-    pos: usize,
+    mut ends: Ends,
     at: usize,
-    free: usize,
     out: &mut [u8],
 ) -> Ends
-    requires { (Layout table.now index.now) × (width ≡ kind_width (width_of table.now depth) (kind_from (enums table.now) kind)) × (shallow_kind (shallow (schema table.now) depth) (width_of table.now depth) (kind_from (enums table.now) kind) ≡ true) × (Fits (items_w width (item_of table.now levels depth kind) total at free (drop pos sheet.now)) at free out.old) }
-    ensures { Stands (items_w width (item_of table.now levels depth kind) total at free (drop pos sheet.now)) at free sheet.now out.old out.new result.pos result.free }
+    requires { (Layout table.now index.now) × (width ≡ kind_width (width_of table.now depth) (kind_from (enums table.now) kind)) × (shallow_kind (shallow (schema table.now) depth) (width_of table.now depth) (kind_from (enums table.now) kind) ≡ true) × (Fits (items_w width (item_of table.now levels depth kind) total at ends.free (drop ends.pos sheet.now)) at ends.free out.old) }
+    ensures { Stands (items_w width (item_of table.now levels depth kind) total at ends.free (drop ends.pos sheet.now)) at ends.free sheet.now out.old out.new result.pos result.free }
 {
-    if let schema::FieldKind::Plain { width: plain } = kind {
-        let last = write_plain(sheet, pos, wire::wide(plain), total, at, out);
-        return Ends { pos: last, free };
+    if let FieldKind::Plain { width: plain } = kind {
+        let pos = write_plain(sheet, ends.pos, usize::from(plain), total, at, out);
+        return Ends { pos, ..ends };
     }
-    if let schema::FieldKind::Indirect { utf8 } = kind {
-        return write_texts(sheet, pos, total, at, free, out);
+    if let FieldKind::Indirect { .. } = kind {
+        return write_texts(sheet, total, ends, at, out);
     }
-    let mut i = 0;
     let mut place = at;
-    let mut next = pos;
-    let mut end = free;
-    while i < total {
-        let behind = next + 2;
-        let item = write_item(
-            table, index, sheet, levels, depth, kind, behind, place, end, out,
-        );
-        next = item.pos;
-        end = item.free;
+    for _ in 0..total {
+        ends.pos += 2;
+        ends = write_item(table, index, sheet, levels, depth, kind, ends, place, out);
         place += width;
-        i += 1;
     }
-    Ends {
-        pos: next,
-        free: end,
-    }
+    ends
 }
 
 // A value of this kind, behind its mark.
@@ -407,44 +355,42 @@ fn write_item(
     sheet: &[u8],
     levels: usize,
     depth: usize,
-    kind: schema::FieldKind,
-    pos: usize,
+    kind: FieldKind,
+    ends: Ends,
     at: usize,
-    free: usize,
     out: &mut [u8],
 ) -> Ends
-    requires { (Layout table.now index.now) × (shallow_kind (shallow (schema table.now) depth) (width_of table.now depth) (kind_from (enums table.now) kind) ≡ true) × (pos ≤ length sheet.now) × (Fits (kind_of table.now levels depth kind at free (drop pos sheet.now)) at free out.old) }
-    ensures { Stands (kind_of table.now levels depth kind at free (drop pos sheet.now)) at free sheet.now out.old out.new result.pos result.free }
+    requires { (Layout table.now index.now) × (shallow_kind (shallow (schema table.now) depth) (width_of table.now depth) (kind_from (enums table.now) kind) ≡ true) × (ends.pos ≤ length sheet.now) × (Fits (kind_of table.now levels depth kind at ends.free (drop ends.pos sheet.now)) at ends.free out.old) }
+    ensures { Stands (kind_of table.now levels depth kind at ends.free (drop ends.pos sheet.now)) at ends.free sheet.now out.old out.new result.pos result.free }
 {
     match kind {
-        schema::FieldKind::Plain { width } => {
-            let next = write_bytes(sheet, pos, wire::wide(width), at, out);
-            Ends { pos: next, free }
+        FieldKind::Plain { width } => {
+            let pos = write_bytes(sheet, ends.pos, usize::from(width), at, out);
+            Ends { pos, ..ends }
         }
-        schema::FieldKind::Number { tested } => {
-            let width = wire::wide(schema::tested_width(tested));
-            let next = write_bytes(sheet, pos, width, at, out);
-            Ends { pos: next, free }
+        FieldKind::Number { tested } => {
+            let width = usize::from(schema::tested_width(tested));
+            let pos = write_bytes(sheet, ends.pos, width, at, out);
+            Ends { pos, ..ends }
         }
-        schema::FieldKind::Inline { utf8, capacity } => {
-            let next = write_inline(sheet, pos, wire::wide(capacity), at, out);
-            Ends { pos: next, free }
+        FieldKind::Inline { capacity, .. } => {
+            let pos = write_inline(sheet, ends.pos, usize::from(capacity), at, out);
+            Ends { pos, ..ends }
         }
-        schema::FieldKind::Indirect { utf8 } => write_text(sheet, pos, at, free, out),
-        schema::FieldKind::Static { group } => write_group(
+        FieldKind::Indirect { .. } => write_text(sheet, ends, at, out),
+        FieldKind::Static { group } => write_group(
             table,
             index,
             sheet,
             levels,
             depth,
-            schema::Scope::Fields { group },
-            pos,
+            Scope::Fields { group },
+            ends,
             at,
-            free,
             out,
         ),
-        schema::FieldKind::Dynamic { allowed } => write_nested(
-            table, index, sheet, levels, allowed, pos, at, free, out,
+        FieldKind::Dynamic { allowed } => write_nested(
+            table, index, sheet, levels, allowed, ends, at, out,
         ),
     }
 }
@@ -457,31 +403,28 @@ fn write_nested(
     sheet: &[u8],
     levels: usize,
     allowed: usize,
-    pos: usize,
+    ends: Ends,
     at: usize,
-    free: usize,
     out: &mut [u8],
 ) -> Ends
-    requires { (Layout table.now index.now) × (Fits (nested_of table.now levels allowed at free (drop pos sheet.now)) at free out.old) }
-    ensures { Stands (nested_of table.now levels allowed at free (drop pos sheet.now)) at free sheet.now out.old out.new result.pos result.free }
+    requires { (Layout table.now index.now) × (Fits (nested_of table.now levels allowed at ends.free (drop ends.pos sheet.now)) at ends.free out.old) }
+    ensures { Stands (nested_of table.now levels allowed at ends.free (drop ends.pos sheet.now)) at ends.free sheet.now out.old out.new result.pos result.free }
 {
-    wire::write_u32(out, at, free - at);
-    let whole = out.len();
-    let ends = write_group(
+    write_offset(ends.free, at, out);
+    let group = write_group(
         table,
         index,
         sheet,
         levels,
         5,
-        schema::Scope::Whole { allowed },
-        pos,
+        Scope::Whole { allowed },
+        Ends { free: 0, ..ends },
         16,
-        0,
-        &mut out[free..whole],
+        &mut out[ends.free..],
     );
     Ends {
-        pos: ends.pos,
-        free: free + ends.free,
+        pos: group.pos,
+        free: ends.free + group.free,
     }
 }
 
@@ -492,23 +435,31 @@ fn write_extension(
     index: &[u16],
     sheet: &[u8],
     levels: usize,
-    pos: usize,
-    free: usize,
+    ends: Ends,
     out: &mut [u8],
 ) -> Ends
-    requires { (Layout table.now index.now) × (pos + 2 ≤ length sheet.now) × (Fits (extension_of table.now levels 12 free (drop pos sheet.now)) 12 free out.old) }
-    ensures { Stands (extension_of table.now levels 12 free (drop pos sheet.now)) 12 free sheet.now out.old out.new result.pos result.free }
+    requires { (Layout table.now index.now) × (ends.pos + 2 ≤ length sheet.now) × (Fits (extension_of table.now levels 12 ends.free (drop ends.pos sheet.now)) 12 ends.free out.old) }
+    ensures { Stands (extension_of table.now levels 12 ends.free (drop ends.pos sheet.now)) 12 ends.free sheet.now out.old out.new result.pos result.free }
 {
-    if wire::has_mark(sheet, pos, XT) {
-        let total = wire::read_u32(sheet, pos + 2);
-        wire::write_u32(out, 12, free - 12);
-        let next = write_bytes(sheet, pos + 2, 4, free, out);
-        let items = free + 4;
-        let end = free + (4 + total * 4);
-        return write_groups(table, index, sheet, levels, total, next, items, end, out);
+    if !wire::has_mark(sheet, ends.pos, XT) {
+        wire::write_u32(out, 12, 0);
+        return ends;
     }
-    wire::write_u32(out, 12, 0);
-    Ends { pos, free }
+    let total = wire::read_u32(sheet, ends.pos + 2);
+    write_offset(ends.free, 12, out);
+    let pos = write_bytes(sheet, ends.pos + 2, 4, ends.free, out);
+    let free = ends.free + (4 + total * 4);
+    let items = ends.free + 4;
+    write_groups(
+        table,
+        index,
+        sheet,
+        levels,
+        total,
+        Ends { pos, free },
+        items,
+        out,
+    )
 }
 
 #[cycle(write)]
@@ -518,29 +469,19 @@ fn write_groups(
     sheet: &[u8],
     levels: usize,
     total: usize,
-    pos: usize,
+    mut ends: Ends,
     at: usize,
-    free: usize,
     out: &mut [u8],
 ) -> Ends
-    requires { (Layout table.now index.now) × (Fits (items_w 4 (extending_of table.now levels) total at free (drop pos sheet.now)) at free out.old) }
-    ensures { Stands (items_w 4 (extending_of table.now levels) total at free (drop pos sheet.now)) at free sheet.now out.old out.new result.pos result.free }
+    requires { (Layout table.now index.now) × (Fits (items_w 4 (extending_of table.now levels) total at ends.free (drop ends.pos sheet.now)) at ends.free out.old) }
+    ensures { Stands (items_w 4 (extending_of table.now levels) total at ends.free (drop ends.pos sheet.now)) at ends.free sheet.now out.old out.new result.pos result.free }
 {
-    let mut i = 0;
     let mut place = at;
-    let mut next = pos;
-    let mut end = free;
-    while i < total {
-        let group = write_extending(table, index, sheet, levels, next, place, end, out);
-        next = group.pos;
-        end = group.free;
+    for _ in 0..total {
+        ends = write_extending(table, index, sheet, levels, ends, place, out);
         place += 4;
-        i += 1;
     }
-    Ends {
-        pos: next,
-        free: end,
-    }
+    ends
 }
 
 // A group of the extension; one of unknown type was kept as bytes.
@@ -550,19 +491,21 @@ fn write_extending(
     index: &[u16],
     sheet: &[u8],
     levels: usize,
-    pos: usize,
+    ends: Ends,
     at: usize,
-    free: usize,
     out: &mut [u8],
 ) -> Ends
-    requires { (Layout table.now index.now) × (Fits (extending_of table.now levels at free (drop pos sheet.now)) at free out.old) }
-    ensures { Stands (extending_of table.now levels at free (drop pos sheet.now)) at free sheet.now out.old out.new result.pos result.free }
+    requires { (Layout table.now index.now) × (Fits (extending_of table.now levels at ends.free (drop ends.pos sheet.now)) at ends.free out.old) }
+    ensures { Stands (extending_of table.now levels at ends.free (drop ends.pos sheet.now)) at ends.free sheet.now out.old out.new result.pos result.free }
 {
-    let next = pos + 2;
-    if wire::has_mark(sheet, pos, XU) {
-        return write_text(sheet, next, at, free, out);
+    let behind = Ends {
+        pos: ends.pos + 2,
+        ..ends
+    };
+    if wire::has_mark(sheet, ends.pos, XU) {
+        return write_text(sheet, behind, at, out);
     }
-    write_nested(table, index, sheet, levels, 0, next, at, free, out)
+    write_nested(table, index, sheet, levels, 0, behind, at, out)
 }
 
 // THE MESSAGE
@@ -579,10 +522,9 @@ pub fn write_message(table: &[u8], index: &[u16], sheet: &[u8], output: &mut [u8
         sheet,
         8,
         5,
-        schema::Scope::Whole { allowed: 0 },
-        2,
+        Scope::Whole { allowed: 0 },
+        Ends { pos: 2, free: 0 },
         16,
-        0,
         output,
     );
     ends.free

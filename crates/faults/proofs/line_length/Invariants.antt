@@ -1,13 +1,10 @@
-use Prim.Native.Nat.{◌+◌, ◌-◌, ◌≤◌}
+use Prim.Native.Nat.{◌+◌}
 use mathlib.Core.Path.{◌≡◌}
 use mathlib.Core.List.{◌++◌}
-use lib.ListN.{length, drop}
+use lib.ListN.{drop}
 use Rattle.wire.specs.Bytes.{part}
 use Rattle.faults.specs.Words.{line}
 use Rattle.faults.proofs.line_length.Given as goal
 
 abbrev pub invariant-loop-n : goal.invariant-loop-n
-invariant-loop-n l = (l.at + l.n ≤ length l.text) × (line (drop l.at l.text) ≡ part l.n l.at l.text ++ line (drop (l.at + l.n) l.text))
-
-abbrev pub decreases-loop-n : goal.decreases-loop-n
-decreases-loop-n l = length l.text - l.at - l.n
+invariant-loop-n l = line (drop l.at l.text) ≡ part l.n l.at l.text ++ line (drop (l.at + l.n) l.text)

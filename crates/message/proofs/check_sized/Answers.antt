@@ -18,7 +18,7 @@ returns-then-message-lt4 c = let a = c.args in elim c.then-message-lt4.branch [
 ]
 
 pub returns-in_err-group : goal.returns-in_err-group
-returns-in_err-group c = rw (exits _ _ c.from_residual.ensures.1) (check-stops _ _ _ (c.in_err-group.ensures ∙ sym (begun (goal.at.returns-in_err-group c).After-check_group)))
+returns-in_err-group c = rw (exits _ _ c.from_residual.ensures.1) (check-stops _ _ _ (rw (c.rules_of.ensures.0, c.rules_of.ensures.1) at c.in_err-group.ensures ∙ sym (begun (goal.at.returns-in_err-group c).After-check_group)))
 
 pub returns : goal.returns
-returns c = check-accepts _ _ _ (c.in_ok-group.ensures ∙ sym (begun (goal.at.returns c).After-check_group))
+returns c = check-accepts _ _ _ (rw (c.rules_of.ensures.0, c.rules_of.ensures.1) at c.in_ok-group.ensures ∙ sym (begun (goal.at.returns c).After-check_group))

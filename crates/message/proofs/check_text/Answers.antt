@@ -1,13 +1,12 @@
 use Rattle.std.proofs.Common.{sym, refl, ◌∙◌}
-use Rattle.std.proofs.lemmas.Result.{err_from_is_err_and}
 use Rattle.message.specs.Check.{occupancy_of}
-use Rattle.message.proofs.CheckAnswers.{refuses, counts}
+use Rattle.message.proofs.CheckAnswers.{exits, refuses, counts}
 use Rattle.message.proofs.CheckValues.{text-lost, text-bad, text-counts}
 use Rattle.message.proofs.check_text.Goals as goal
 
 pub returns-in_err-found : goal.returns-in_err-found
-returns-in_err-found c = let a = c.args in let p = err_from_is_err_and c.from_residual.result c.from_residual.ensures.1 in
-    rw (p.1, p.2) (refuses _ _ _ _ (text-lost _ a.utf8 a.bytes.now a.frame.base a.frame.area a.at (occupancy_of a.frame.area a.taken a.occupied.now) _ _ c.in_err-found.ensures.0))
+returns-in_err-found c = let a = c.args in
+    rw (exits _ _ c.from_residual.ensures.1) (refuses _ _ _ _ (text-lost _ a.utf8 a.bytes.now a.frame.base a.frame.area a.at (occupancy_of a.frame.area a.taken a.occupied.now) _ _ c.in_err-found.ensures.0))
 
 pub returns-then-not-is_text : goal.returns-then-not-is_text
 returns-then-not-is_text c = let a = c.args in refuses _ _ _ _ (text-bad _ a.utf8 a.bytes.now a.frame.base a.frame.area a.at (occupancy_of a.frame.area a.taken a.occupied.now) _ _ c.in_ok-found.ensures.0 (sym c.is_text.ensures ∙ c.if-not-is_text.true))

@@ -4,7 +4,7 @@ use native.Mathlib.Nat.{add-sub_cancel_left}
 use mathlib.Core.Path.{◌≡◌, sym, ◌∙◌, refl, ap}
 use mathlib.Core.Bool.{true, false}
 use mathlib.Core.Logic.{◌⊎◌, inl, inr}
-use mathlib.Core.List.{List, ◌++◌}
+use mathlib.Core.List.{List, [], ◌∷◌, ◌++◌}
 use lib.ListN.{length, drop}
 use lib.Dec.{leb}
 use Rattle.schema.specs.FieldKinds.{kind_from, plain_width}
@@ -30,7 +30,7 @@ use Rattle.sheet.proofs.ShowReaders.{is-VA, is-ST, is-SG, is-SQ, is-GB, is-XT, i
 use Prim.Native.Nat.{ℕ}
 use borrow.Author.Rules.{rules}
 use Rattle.sheet.proofs.Loops.{items-start, item-inside, item-fits, items-next, items-done, FieldsLeft, fields-start, field-listed, field-inside, field-flat, field_fits, fields-next, fields-done}
-use Rattle.sheet.proofs.+show.Goals.{show_field-then-is_optional+else-bytes-at-ne1, show_field-else-is_optional, show_fields-then-plain-ne0, show_fields-else-plain-ne0}
+use Rattle.sheet.proofs.+show.Goals.{show_field-then-is_optional+else-bytes-at-ne1, show_field-else-is_optional, show_fields-then-plain-ne0, show_fields-else-plain-ne0, show_value-then-is_sequence, show_value-else-is_sequence}
 use Rattle.sheet.proofs.+show.Goals as goal
 
 -- where a field's value stands: an optional one's behind the byte that says that it is there
@@ -47,12 +47,18 @@ module _ {t b : List ℕ} {l d g at pos : ℕ} {out₀ : List ℕ} {n i field pl
       let e = plain-is _ _ _ q z in
       (omega (arith, plain-wide (width_of t (d - 1)) _ _ _ e, field-inside L h), fits-opens _ _ _ _ (field_plain (inner_of lax t l) (width_of t (d - 1)) (static_of lax t l (d - 1)) _ b place _ _ e) (field_fits L h))
 
--- a sequence's count and its items lie inside the message, and its count's record stands before them in the sheet
-value-left : (t b : List ℕ) (l d field at : ℕ) (kind : FieldKind) (p n w : ℕ) → kind_from (enums t) kind ≡ (field_at (enums t) (drop field t)).kind → (field_at (enums t) (drop field t)).sequence ≡ true
-    → p ≡ at + word at b → n ≡ word p b → w ≡ kind_width (width_of t d) (kind_from (enums t) kind) → (pos : ℕ) (out : List ℕ) → Fits (passage (value_of t l d field) b at) pos out
-    → (p + (4 + n * w) ≤ length b) × Left (passage (value_of t l d field) b at) pos out (then (just (mark_bytes SQ ++ part 4 p b)) (passage (items_r w (item_of t l d kind) n) b (p + 4))) pos out
-value-left t b l d field at kind p n w k o ip in' iw pos out f = let I = inner_of lax t l in let sw = width_of t d in let S = static_of lax t l d in
-    (sequence-inside I sw S _ b at _ k o w iw p n ip in' _ f.reads, opened _ _ _ _ _ _ _ (sequence-opens I sw S _ b at _ k o w iw p n ip in') (begun _ _ _ f))
+-- what is left of a value: so many items from where they start, and where the sheet goes on, which is behind the count of a sequence
+value-items : (t b : List ℕ) (l d field at : ℕ) (kind : FieldKind) (width pos : ℕ) (j : ℕ × ℕ × ℕ) (out mid : List ℕ)
+    → kind_from (enums t) kind ≡ (field_at (enums t) (drop field t)).kind → width ≡ kind_width (width_of t d) (kind_from (enums t) kind)
+    → at + value_width (width_of t d) (field_at (enums t) (drop field t)) ≤ length b → Fits (passage (value_of t l d field) b at) pos out
+    → (((field_at (enums t) (drop field t)).sequence ≡ true) × (p : ℕ) × (n : ℕ) × (next : ℕ) × (p ≡ at + word at b) × (n ≡ word p b) × (mid ≡ splice 6 pos ((83 ∷ (81 ∷ [])) ++ part 4 p b) out) × (next ≡ pos + 6) × (j ≡ (n, p + 4, next)))
+    ⊎ (((field_at (enums t) (drop field t)).sequence ≡ false) × (mid ≡ out) × (j ≡ (1, at, pos)))
+    → (j.1 + j.0 * width ≤ length b) × Left (passage (value_of t l d field) b at) pos out (passage (items_r width (item_of t l d kind) j.0) b j.1) j.2 mid
+value-items t b l d field at kind width pos j out mid k iw h f (inl w) = let I = inner_of lax t l in let sw = width_of t d in let S = static_of lax t l d in
+    let q = sequence-inside I sw S _ b at _ k w.0 _ iw w.1 w.2 w.4 w.5 _ f.reads in let o = opened _ _ _ _ _ _ _ (sequence-opens I sw S _ b at _ k w.0 _ iw w.1 w.2 w.4 w.5) (begun _ _ _ f) in
+    rw w.8 (omega (arith, q), called _ _ _ _ _ _ _ o _ _ (shown-bytes SQ _ is-SQ _ _ _ _ 4 w.1 b (omega (arith, q)) w.6 w.7))
+value-items t b l d field at kind width pos j out mid k iw h f (inr w) =
+    rw (w.2, w.1) (omega (arith, width_one (width_of t d) (field_at (enums t) (drop field t)) w.0, ap (kind_width (width_of t d)) k, iw, h), opened _ _ _ _ _ _ _ (value-item (inner_of lax t l) (width_of t d) (static_of lax t l d) _ b at _ k w.0 _) (begun _ _ _ f))
 
 -- what is left of a group behind its head, and what is asked for its fields
 group-opened : (t k b : List ℕ) (l d at pos g n p : ℕ) (scope : Scope) (out mid : List ℕ) → Layout t k → Lies t d scope b at → Fits (group_of t l d scope b at) pos out
@@ -291,13 +297,13 @@ show_fields-show_field-next-requires t c = let R = c.requires in let L = c.loop.
 
 pub show_fields-loop-preserved : goal.show_fields-loop-preserved
 show_fields-loop-preserved t c = let a = c.args in let L = c.loop.invariant in let l = c.loop-test.true in let es = enums a.table.now in let sw = width_of a.table.now (a.depth - 1) in elim c.if-plain-ne0.branch [
-    | show_fields-then-plain-ne0 w ↦
-        let q = c.plain_width-plain.ensures.0 es in let z = w.if-plain-ne0.true in let e = plain-is es _ _ q z in let v = w.show_bytes-next.ensures in
-        rw (w.place-is, w.next-is, w.out-is) (fields-next L l (sym (plain-wide sw _ _ _ e))
-          (shown-opens _ _ _ _ _ _ (field_plain (inner_of lax a.table.now a.levels) sw (static_of lax a.table.now a.levels (a.depth - 1)) _ a.bytes.now c.loop.place _ _ e) (shown-bytes VA _ is-VA _ _ _ _ _ _ _ (plain-left L l q z).0 v.0 v.1)))
-    | show_fields-else-plain-ne0 w ↦
-        rw (w.place-is, w.next-is, w.out-is) (fields-next L l (w.field_width-place.ensures.0 es ∙ wide-field a.table.now a.index.now c.requires.0 (a.depth - 1) _ (field-flat L l)) w.show_field-next.ensures)
-  ]
+  | show_fields-then-plain-ne0 w ↦
+      let q = c.plain_width-plain.ensures.0 es in let z = w.if-plain-ne0.true in let e = plain-is es _ _ q z in let v = w.show_bytes-next.ensures in
+      rw (w.place-is, w.next-is, w.out-is) (fields-next L l (sym (plain-wide sw _ _ _ e))
+      (shown-opens _ _ _ _ _ _ (field_plain (inner_of lax a.table.now a.levels) sw (static_of lax a.table.now a.levels (a.depth - 1)) _ a.bytes.now c.loop.place _ _ e) (shown-bytes VA _ is-VA _ _ _ _ _ _ _ (plain-left L l q z).0 v.0 v.1)))
+  | show_fields-else-plain-ne0 w ↦
+      rw (w.place-is, w.next-is, w.out-is) (fields-next L l (w.field_width-width.ensures.0 es ∙ wide-field a.table.now a.index.now c.requires.0 (a.depth - 1) _ (field-flat L l)) w.show_field-next.ensures)
+]
 
 pub show_fields-returns : goal.show_fields-returns
 show_fields-returns t c = fields-done c.loop.invariant c.loop-test.false
@@ -331,33 +337,33 @@ show_items-loop-preserved t c = items-next c.loop.invariant c.loop-test.true c.s
 pub show_items-returns : goal.show_items-returns
 show_items-returns t c = items-done c.loop.invariant c.loop-test.false
 
-pub show_value-show_item-requires : goal.show_value-show_item-requires
-show_value-show_item-requires t c = let a = c.args in let R = c.requires in let t = a.table.now in let es = enums t in let k = c.kind_at-kind.ensures es in let f = field_at es (drop a.field t) in let o = sym (c.is_sequence.ensures es) ∙ c.if-not-is_sequence.true in
-    (search rules, (R.0, R.1, omega (arith, width_one (width_of t a.depth) f o, ap (kind_width (width_of t a.depth)) k, R.3), rw (sym k) at R.4, fits-opens _ _ _ _ (value-item (inner_of lax t a.levels) (width_of t a.depth) (static_of lax t a.levels a.depth) f a.bytes.now a.at _ k o) R.5))
-
-pub show_value-returns-then-not-is_sequence : goal.show_value-returns-then-not-is_sequence
-show_value-returns-then-not-is_sequence t c = let a = c.args in let t = a.table.now in let es = enums t in
-    shown-opens _ _ _ _ _ _ (value-item (inner_of lax t a.levels) (width_of t a.depth) (static_of lax t a.levels a.depth) (field_at es (drop a.field t)) a.bytes.now a.at _ (c.kind_at-kind.ensures es) (sym (c.is_sequence.ensures es) ∙ c.if-not-is_sequence.true)) c.show_item.ensures
-
 pub show_value-read_u32-requires : goal.show_value-read_u32-requires
 show_value-read_u32-requires t c = let a = c.args in let t = a.table.now in let es = enums t in
-    omega (arith, width-sequence (width_of t a.depth) (field_at es (drop a.field t)) (sym (c.is_sequence.ensures es) ∙ c.if-not-is_sequence.false), c.requires.3)
+    omega (arith, width-sequence (width_of t a.depth) (field_at es (drop a.field t)) (sym (c.is_sequence.ensures es) ∙ c.if-is_sequence.true), c.requires.3)
 
 pub show_value-read_u32-total-requires : goal.show_value-read_u32-total-requires
-show_value-read_u32-total-requires t c = let a = c.args in let R = c.requires in let es = enums a.table.now in let k = c.kind_at-kind.ensures es in let o = sym (c.is_sequence.ensures es) ∙ c.if-not-is_sequence.false in let ip = ap (λ (n : ℕ). a.at + n) c.read_u32.ensures.0 in
-    omega (arith, (value-left a.table.now a.bytes.now a.levels a.depth a.field a.at _ _ _ _ k o ip refl refl a.pos a.out.now R.5).0)
+show_value-read_u32-total-requires t c = let a = c.args in let R = c.requires in let t = a.table.now in let b = a.bytes.now in let I = inner_of lax t a.levels in let es = enums t in let sw = width_of t a.depth in let S = static_of lax t a.levels a.depth in let f = field_at es (drop a.field t) in let k = c.kind_at-kind.ensures es in let o = sym (c.is_sequence.ensures es) ∙ c.if-is_sequence.true in
+    let iw = c.kind_width-width.ensures.0 es ∙ wide-kind t a.index.now R.0 a.depth _ (rw (sym k) at R.4) in let ip = ap (λ (n : ℕ). a.at + n) c.read_u32.ensures.0 in
+    omega (arith, sequence-inside I sw S f b a.at _ k o _ iw _ _ ip refl _ R.5.reads)
 
 pub show_value-show_bytes-next-requires : goal.show_value-show_bytes-next-requires
-show_value-show_bytes-next-requires t c = let a = c.args in let R = c.requires in let es = enums a.table.now in let k = c.kind_at-kind.ensures es in let o = sym (c.is_sequence.ensures es) ∙ c.if-not-is_sequence.false in let ip = ap (λ (n : ℕ). a.at + n) c.read_u32.ensures.0 in let d = rw (sym k) at R.4 in
-    let iw = c.kind_width-width.ensures.0 es ∙ wide-kind a.table.now a.index.now R.0 a.depth _ d in let q = value-left a.table.now a.bytes.now a.levels a.depth a.field a.at _ _ _ _ k o ip c.read_u32-total.ensures.0 iw a.pos a.out.now R.5 in let h : a.at + c.read_u32.result + 4 ≤ length a.bytes.now = omega (arith, q.0) in
-    (h, bytes-room SQ _ _ 4 _ _ h (first_fits _ _ _ _ _ _ _ q.1))
+show_value-show_bytes-next-requires t c = let a = c.args in let R = c.requires in let t = a.table.now in let b = a.bytes.now in let I = inner_of lax t a.levels in let es = enums t in let sw = width_of t a.depth in let S = static_of lax t a.levels a.depth in let f = field_at es (drop a.field t) in let k = c.kind_at-kind.ensures es in let o = sym (c.is_sequence.ensures es) ∙ c.if-is_sequence.true in
+    let iw = c.kind_width-width.ensures.0 es ∙ wide-kind t a.index.now R.0 a.depth _ (rw (sym k) at R.4) in let ip = ap (λ (n : ℕ). a.at + n) c.read_u32.ensures.0 in let n = c.read_u32-total.ensures.0 in
+    let h : a.at + c.read_u32.result + 4 ≤ length b = omega (arith, sequence-inside I sw S f b a.at _ k o _ iw _ _ ip n _ R.5.reads) in
+    (omega (arith, h), bytes-room SQ _ _ 4 _ b h (first_fits _ _ _ _ _ _ _ (opened _ _ _ _ _ _ _ (sequence-opens I sw S f b a.at _ k o _ iw _ _ ip n) (begun _ _ _ R.5))))
 
 pub show_value-show_items-requires : goal.show_value-show_items-requires
-show_value-show_items-requires t c = let a = c.args in let R = c.requires in let es = enums a.table.now in let k = c.kind_at-kind.ensures es in let o = sym (c.is_sequence.ensures es) ∙ c.if-not-is_sequence.false in let ip = ap (λ (n : ℕ). a.at + n) c.read_u32.ensures.0 in let d = rw (sym k) at R.4 in
-    let iw = c.kind_width-width.ensures.0 es ∙ wide-kind a.table.now a.index.now R.0 a.depth _ d in let q = value-left a.table.now a.bytes.now a.levels a.depth a.field a.at _ _ _ _ k o ip c.read_u32-total.ensures.0 iw a.pos a.out.now R.5 in let h : a.at + c.read_u32.result + 4 ≤ length a.bytes.now = omega (arith, q.0) in
-    (search rules, (R.0, R.1, omega (arith, q.0), iw, d, (called _ _ _ _ _ _ _ q.1 _ _ (shown-bytes SQ _ is-SQ _ _ _ _ 4 _ _ h c.show_bytes-next.ensures.0 c.show_bytes-next.ensures.1)).fits))
+show_value-show_items-requires t c = let a = c.args in let R = c.requires in let t = a.table.now in let es = enums t in let k = c.kind_at-kind.ensures es in let d = rw (sym k) at R.4 in let iw = c.kind_width-width.ensures.0 es ∙ wide-kind t a.index.now R.0 a.depth _ d in let o = sym (c.is_sequence.ensures es) in
+    let v = value-items t a.bytes.now a.levels a.depth a.field a.at c.kind_at-kind.result c.kind_width-width.result a.pos c.if-is_sequence.total a.out.now c.if-is_sequence.out k iw R.3 R.5 (elim c.if-is_sequence.branch [
+      | show_value-then-is_sequence w ↦ inl (o ∙ w.if-is_sequence.true, _, _, _, ap (λ (n : ℕ). a.at + n) w.read_u32.ensures.0, w.read_u32-total.ensures.0, w.out-is ∙ w.show_bytes-next.ensures.0, w.show_bytes-next.ensures.1, w.total-is)
+      | show_value-else-is_sequence w ↦ inr (o ∙ w.if-is_sequence.false, w.out-is, w.total-is)
+    ]) in
+    (search rules, (R.0, R.1, v.0, iw, d, v.1.fits))
 
 pub show_value-returns : goal.show_value-returns
-show_value-returns t c = let a = c.args in let R = c.requires in let es = enums a.table.now in let k = c.kind_at-kind.ensures es in let o = sym (c.is_sequence.ensures es) ∙ c.if-not-is_sequence.false in let ip = ap (λ (n : ℕ). a.at + n) c.read_u32.ensures.0 in let d = rw (sym k) at R.4 in
-    let iw = c.kind_width-width.ensures.0 es ∙ wide-kind a.table.now a.index.now R.0 a.depth _ d in let q = value-left a.table.now a.bytes.now a.levels a.depth a.field a.at _ _ _ _ k o ip c.read_u32-total.ensures.0 iw a.pos a.out.now R.5 in let h : a.at + c.read_u32.result + 4 ≤ length a.bytes.now = omega (arith, q.0) in
-    (called _ _ _ _ _ _ _ q.1 _ _ (shown-bytes SQ _ is-SQ _ _ _ _ 4 _ _ h c.show_bytes-next.ensures.0 c.show_bytes-next.ensures.1)).whole _ _ c.show_items.ensures
+show_value-returns t c = let a = c.args in let R = c.requires in let t = a.table.now in let es = enums t in let k = c.kind_at-kind.ensures es in let d = rw (sym k) at R.4 in let iw = c.kind_width-width.ensures.0 es ∙ wide-kind t a.index.now R.0 a.depth _ d in let o = sym (c.is_sequence.ensures es) in
+    let v = value-items t a.bytes.now a.levels a.depth a.field a.at c.kind_at-kind.result c.kind_width-width.result a.pos c.if-is_sequence.total a.out.now c.if-is_sequence.out k iw R.3 R.5 (elim c.if-is_sequence.branch [
+      | show_value-then-is_sequence w ↦ inl (o ∙ w.if-is_sequence.true, _, _, _, ap (λ (n : ℕ). a.at + n) w.read_u32.ensures.0, w.read_u32-total.ensures.0, w.out-is ∙ w.show_bytes-next.ensures.0, w.show_bytes-next.ensures.1, w.total-is)
+      | show_value-else-is_sequence w ↦ inr (o ∙ w.if-is_sequence.false, w.out-is, w.total-is)
+    ]) in
+    v.1.whole _ _ c.show_items.ensures

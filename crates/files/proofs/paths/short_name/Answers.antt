@@ -1,11 +1,12 @@
-use mathlib.Core.Path.{◌≡◌}
-use native.Mathlib.Omega.{arith}
-use Rattle.std.specs.String.{string_bytes}
-use Rattle.std.proofs.lemmas.Fmt.{length-decimal-le}
-use Rattle.files.proofs.Laws.{short-is}
+use borrow.Author.Rules.{rules}
+use Rattle.files.proofs.Laws.{short-none, short-lent}
 use Rattle.files.proofs.paths.short_name.Goals as goal
+
+pub returns-then-number-gt20 : goal.returns-then-number-gt20
+returns-then-number-gt20 c = (short-none _ _ c.if-number-gt20.true, search rules)
 
 pub returns : goal.returns
 returns c =
-    let start : c.into_bytes-name.result.items ≡ string_bytes c.in_ok-format.field-0 = cc (c.into_bytes-name.ensures.value) in
-    short-is _ _ _ _ _ (length-decimal-le 20 c.args.process (omega arith) (omega arith) (omega arith)) (cc (start, c.in_ok-format.ensures.ok)) c.in_ok-push.ensures.items c.in_ok-extend_from_slice.ensures.items
+    let a = c.append-behind in
+    let b = c.append-behind-2 in
+    (short-lent _ _ _ _ _ _ _ _ c.told-room a.auto.room b.auto.room c.if-number-gt20.false a.ensures.0 b.ensures.0 c.append.ensures.0, c.append.ensures.1)

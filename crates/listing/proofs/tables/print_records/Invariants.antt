@@ -1,10 +1,5 @@
-use Prim.Native.Nat.{◌≤◌, ◌-◌, ◌/◌}
-use lib.ListN.{length}
-use Rattle.listing.specs.Seen.{Within}
+use Rattle.std.proofs.Common.{◌≤◌}
 use Rattle.listing.proofs.tables.print_records.Given as goal
 
-abbrev pub invariant-loop-i : goal.invariant-loop-i
-invariant-loop-i l = (l.i ≤ length l.table / 16) × (Within l.i l.seen)
-
-abbrev pub decreases-loop-i : goal.decreases-loop-i
-decreases-loop-i l = length l.table / 16 - l.i
+abbrev pub invariant-loop-row : goal.invariant-loop-row
+invariant-loop-row l = (l.enumerations ≤ l.row-index) × (l.groups ≤ l.row-index) × (l.fields ≤ l.row-index)

@@ -1,4 +1,0 @@
-use Rattle.conformance.proofs.record.parse.Goals as goal
-
-pub returns : goal.returns
-returns c = cc

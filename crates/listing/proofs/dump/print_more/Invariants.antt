@@ -1,8 +1,0 @@
-use Prim.Native.Nat.{◌+◌, ◌≤◌, ◌-◌}
-use Rattle.listing.proofs.dump.print_more.Given as goal
-
-abbrev pub invariant-loop-i : goal.invariant-loop-i
-invariant-loop-i l = l.i ≤ l.n + 16
-
-abbrev pub decreases-loop-i : goal.decreases-loop-i
-decreases-loop-i l = l.n + 16 - l.i

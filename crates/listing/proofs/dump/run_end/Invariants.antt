@@ -1,8 +1,0 @@
-use Prim.Native.Nat.{◌<◌, ◌≤◌, ◌-◌}
-use Rattle.listing.proofs.dump.run_end.Given as goal
-
-abbrev pub invariant-loop-i : goal.invariant-loop-i
-invariant-loop-i l = (l.at < l.i) × (l.i ≤ l.end)
-
-abbrev pub decreases-loop-i : goal.decreases-loop-i
-decreases-loop-i l = l.end - l.i

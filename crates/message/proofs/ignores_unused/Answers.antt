@@ -1,0 +1,7 @@
+use Rattle.std.proofs.Common.{refl}
+use Rattle.message.specs.Check.{ignored_in}
+use Rattle.message.proofs.ignores_unused.Goals as goal
+
+pub returns : goal.returns
+unfolding ignored_in
+returns c = refl

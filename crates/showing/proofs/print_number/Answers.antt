@@ -1,6 +1,0 @@
-use native.Mathlib.Omega.{arith}
-use Rattle.printing.proofs.Widths.{at-most-nine}
-use Rattle.showing.proofs.print_number.Goals as goal
-
-pub number_at-requires : goal.number_at-requires
-number_at-requires c = omega (arith, at-most-nine c.args.number)

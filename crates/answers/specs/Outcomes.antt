@@ -1,6 +1,6 @@
 -- What the exit status says of an answer.
 use Rattle.schema.specs.Faults.{Verdict}
-use Rattle.std.specs.Prelude.{Ok, Err, List, ℕ, ℤ, pos}
+use Rattle.std.specs.Prelude.{Ok, Err, ℤ, pos}
 use Rattle.answers.specs.declared.outcome.Outcome.{Outcome}
 use Rattle.answers.specs.declared.outcome.Outcome.TheVariants.{Answered, Refused, Failed}
 

@@ -4,6 +4,7 @@ ghost use Rattle.opening.specs.Opening.{under};
 ghost use Rattle.codec.specs.Answers.{bytes_verdict};
 ghost use Rattle.answers.specs.Faults.{field_verdict};
 
+use crate::context::Context;
 use codec::{Fault, Number};
 use printing::print::Page;
 use printing::{print, value};
@@ -12,28 +13,26 @@ use printing::{print, value};
 #[tactic(auto, unfolding(crate::specs::Faults::or_bytes))]
 pub fn print_field(
     page: &mut Page,
-    table: &[u8],
-    store: &[u8],
-    customer: u16,
+    context: Context,
     message: &[u8],
     scratch: &mut [u8],
     field: usize,
     item: usize,
 ) -> Result<(), Fault>
-    ensures { result ≡ field_verdict table.now message.now (under store.now customer (length scratch.old)) field item }
+    ensures { result ≡ field_verdict context.entry.table.now message.now (under context.entry.store.now context.entry.customer (length scratch.old)) field item }
 {
+    let Context {
+        table,
+        store,
+        customer,
+    } = context;
     match codec::read_number(table, store, customer, message, scratch, field, item) {
         Ok(n) => {
             print_number(page, rows::message_type(table, message, field), n);
             Ok(())
         }
         // The field is no number: "48 other kind".
-        Err(
-            Fault {
-                number: 48,
-                place: _,
-            },
-        ) => print_bytes(page, table, store, customer, message, scratch, field, item),
+        Err(Fault { number: 48, .. }) => print_bytes(page, context, message, scratch, field, item),
         Err(fault) => Err(fault),
     }
 }
@@ -47,16 +46,19 @@ fn print_number(page: &mut Page, number: u8, n: Number) {
 
 fn print_bytes(
     page: &mut Page,
-    table: &[u8],
-    store: &[u8],
-    customer: u16,
+    context: Context,
     message: &[u8],
     scratch: &mut [u8],
     field: usize,
     item: usize,
 ) -> Result<(), Fault>
-    ensures { result ≡ bytes_verdict table.now message.now (under store.now customer (length scratch.old)) field item }
+    ensures { result ≡ bytes_verdict context.entry.table.now message.now (under context.entry.store.now context.entry.customer (length scratch.old)) field item }
 {
+    let Context {
+        table,
+        store,
+        customer,
+    } = context;
     let part = codec::find_bytes(table, store, customer, message, scratch, field, item)?;
     let number = rows::message_type(table, message, field);
     value::print_type(page, number);

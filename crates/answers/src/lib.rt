@@ -2,6 +2,7 @@
 // printed has no contract.
 #![tactic(auto)]
 
+pub mod context;
 pub mod field;
 pub mod outcome;
 pub mod questions;

@@ -5,6 +5,7 @@ ghost use Rattle.opening.specs.Opening.{under, message_verdict};
 ghost use Rattle.answers.specs.Outcomes.{outcome_of};
 ghost use Rattle.answers.specs.Faults.{field_verdict};
 
+use crate::context::Context;
 use crate::outcome::Outcome;
 use crate::{field, refusal};
 use codec::Fault;
@@ -30,16 +31,14 @@ pub fn list_table(page: &mut Page, table: &[u8]) -> Outcome
     outcome
 }
 
-pub fn check(
-    page: &mut Page,
-    table: &[u8],
-    store: &[u8],
-    customer: u16,
-    message: &[u8],
-    scratch: &mut [u8],
-) -> Outcome
-    ensures { result ≡ outcome_of (message_verdict table.now message.now (under store.now customer (length scratch.old))) }
+pub fn check(page: &mut Page, context: Context, message: &[u8], scratch: &mut [u8]) -> Outcome
+    ensures { result ≡ outcome_of (message_verdict context.entry.table.now message.now (under context.entry.store.now context.entry.customer (length scratch.old))) }
 {
+    let Context {
+        table,
+        store,
+        customer,
+    } = context;
     let verdict = codec::check_message(table, store, customer, message, scratch);
     refusal::say(page, verdict, table, store, message)
 }
@@ -47,14 +46,17 @@ pub fn check(
 // The answer's line alone, for one of several messages.
 pub fn check_briefly(
     page: &mut Page,
-    table: &[u8],
-    store: &[u8],
-    customer: u16,
+    context: Context,
     message: &[u8],
     scratch: &mut [u8],
 ) -> Outcome
-    ensures { result ≡ outcome_of (message_verdict table.now message.now (under store.now customer (length scratch.old))) }
+    ensures { result ≡ outcome_of (message_verdict context.entry.table.now message.now (under context.entry.store.now context.entry.customer (length scratch.old))) }
 {
+    let Context {
+        table,
+        store,
+        customer,
+    } = context;
     let verdict = codec::check_message(table, store, customer, message, scratch);
     refusal::print_verdict(page, verdict)
 }
@@ -62,31 +64,32 @@ pub fn check_briefly(
 #[tactic(auto, unfolding(crate::specs::Outcomes::outcome_of))]
 pub fn read(
     page: &mut Page,
-    table: &[u8],
-    store: &[u8],
-    customer: u16,
+    context: Context,
     message: &[u8],
     scratch: &mut [u8],
     field: usize,
     item: usize,
 ) -> Outcome
-    ensures { result ≡ outcome_of (field_verdict table.now message.now (under store.now customer (length scratch.old)) field item) }
+    ensures { result ≡ outcome_of (field_verdict context.entry.table.now message.now (under context.entry.store.now context.entry.customer (length scratch.old)) field item) }
 {
-    match field::print_field(page, table, store, customer, message, scratch, field, item) {
+    match field::print_field(page, context, message, scratch, field, item) {
         Ok(()) => Outcome::Answered,
-        Err(fault) => refusal::refuse(page, fault, table, store, message),
+        Err(fault) => refusal::refuse(page, fault, context.table, context.store, message),
     }
 }
 
 pub fn show(
     page: &mut Page,
-    table: &[u8],
-    store: &[u8],
-    customer: u16,
+    context: Context,
     message: &[u8],
     scratch: &mut [u8],
     sheet: &mut [u8],
 ) -> Outcome {
+    let Context {
+        table,
+        store,
+        customer,
+    } = context;
     match codec::message_to_sheet(table, store, customer, message, scratch, sheet) {
         Ok(length) => {
             print::text(page, b"accepted\n");
@@ -100,15 +103,18 @@ pub fn show(
 // The message byte by byte. Of a refused one as far as the fault, where it has a place in the message.
 pub fn dump(
     page: &mut Page,
-    table: &[u8],
-    store: &[u8],
-    customer: u16,
+    context: Context,
     message: &[u8],
     scratch: &mut [u8],
     labels: &mut [u64],
 ) -> Outcome
-    ensures { result ≡ outcome_of (message_verdict table.now message.now (under store.now customer (length scratch.old))) }
+    ensures { result ≡ outcome_of (message_verdict context.entry.table.now message.now (under context.entry.store.now context.entry.customer (length scratch.old))) }
 {
+    let Context {
+        table,
+        store,
+        customer,
+    } = context;
     let verdict = codec::check_message(table, store, customer, message, scratch);
     let outcome = refusal::say(page, verdict, table, store, message);
     match verdict {

@@ -12,7 +12,7 @@ use Rattle.wire.specs.Bytes.{splice}
 use Rattle.schema.specs.Faults.{Verdict, fault_at, need}
 use Rattle.schema.specs.Table.{table_verdict}
 use Rattle.opening.specs.Opening.{Under, message_verdict}
-use Rattle.tape.specs.Tape.{Answer, whole, message_at, answer_of, tape_step, handed}
+use Rattle.tape.specs.Tape.{Answer, whole, message_at, tape_step, handed}
 use Rattle.tape.proofs.Laws.{step-ended, step-20, step_cut, step-whole, handed-some}
 use Rattle.answers.specs.declared.outcome.Outcome.{Outcome}
 use Rattle.answers.specs.declared.outcome.Outcome.TheVariants.{Answered, Refused as Rejected, Failed}
@@ -27,10 +27,9 @@ is_accepted (Some (Ok _)) = true
 is_accepted (Some (Err f)) = false
 
 other : {X : Type 0} → false ≡ true → X
-other e = let z : ◌≡◌ {A = ℕ} 0 1 = cc in absurd (omega arith)
+other e = absurd (cc)
 
-verdict-of : (v : Verdict) → is_accepted (answer_of v) ≡ true → v ≡ Ok tt
-unfolding answer_of
+verdict-of : (v : Verdict) → is_accepted (Some v) ≡ true → v ≡ Ok tt
 verdict-of (Ok _) e = refl
 verdict-of (Err f) e = other e
 
@@ -66,7 +65,7 @@ module _ (t s : List ℕ) (u : Under) (id : ℕ) where
     where
       by_place : (b : Bool) (v : Verdict) (w : Bool) → leb (length s) p ≡ b → table_verdict t ≡ v → whole s p ≡ w → message_verdict t (handed s p (Some (Ok tt))) u ≡ Ok tt
       by_place true v w f g h = other (ap (λ x. is_accepted x.answer) (sym (step-ended t s p u (leb-true _ _ f))) ∙ ap is_accepted e)
-      by_place false (Err f) w f g h = other (ap (λ x. is_accepted x.answer) (sym (step-20 t s p u f.number f.place (leb-false _ _ f) (sym g))) ∙ ap is_accepted e)
+      by_place false (Err r) w f g h = other (ap (λ x. is_accepted x.answer) (sym (step-20 t s p u r (leb-false _ _ f) (sym g))) ∙ ap is_accepted e)
       by_place false (Ok _) false f g h = other (ap (λ x. is_accepted x.answer) (sym (step_cut t s p u (leb-false _ _ f) g h)) ∙ ap is_accepted e)
       by_place false (Ok _) true f g h =
           rw (sym (handed-some s p h)) (verdict-of (message_verdict t (message_at s p) u) (ap (λ x. is_accepted x.answer) (sym (step-whole t s p u g h)) ∙ ap is_accepted e))

@@ -27,7 +27,7 @@ use Rattle.ledgers.specs.declared.Filled.{Filled}
 use Rattle.ledgers.specs.Entries.{call_before, calls_from, calls_at, entry_of, ledger_after, fill_of, entry_outcome, turn_outcome, run_outcome, ledger_outcome, Fills}
 
 no_end : {X : Type 0} → true ≡ false → X
-no_end e = let z : ◌≡◌ {A = ℕ} 0 1 = cc in absurd (omega arith)
+no_end e = absurd (cc)
 
 -- THE CALLS
 
@@ -58,11 +58,11 @@ module _ (t s : List ℕ) (u : Under) (id : ℕ) where
   calls-on p = enough (length s) (suc (length s)) p (omega arith) (omega arith)
 
 -- a refused table has none
-pub calls-20 : (t s : List ℕ) (u : Under) (id n q : ℕ) → Err (fault_at n q) ≡ table_verdict t → calls_at t s u id 0 ≡ []
+pub calls-20 : (t s : List ℕ) (u : Under) (id : ℕ) (f : Fault) → Err f ≡ table_verdict t → calls_at t s u id 0 ≡ []
 unfolding call_before
-calls-20 t [] u id n q e = calls-end t [] u id 0 (omega arith)
-calls-20 t (x ∷ s) u id n q e =
-    calls-on t (x ∷ s) u id 0 ∙ rw (step-20 t (x ∷ s) 0 u n q (omega arith) e) (calls-end t (x ∷ s) u id (length (x ∷ s)) (omega arith))
+calls-20 t [] u id f e = calls-end t [] u id 0 (omega arith)
+calls-20 t (x ∷ s) u id f e =
+    calls-on t (x ∷ s) u id 0 ∙ rw (step-20 t (x ∷ s) 0 u f (omega arith) e) (calls-end t (x ∷ s) u id (length (x ∷ s)) (omega arith))
 
 -- ONE MESSAGE
 
@@ -181,9 +181,9 @@ turn-under t s store customer room k k' id p x w w' o m L L' f f' e hk hk' h q h
     (hL ∙ ap (λ (n : ℕ). (ledger_after x.answer (lines L f) (call t m (under store customer n) id)).bytes) hk') ho hw hf
 
 -- A refused table: one refusal where a byte is left, and no call.
-pub fills-20 : (t s : List ℕ) (u : Under) (id n q : ℕ) (l : Ledger) (r : Filled) → Err (fault_at n q) ≡ table_verdict t
+pub fills-20 : (t s : List ℕ) (u : Under) (id : ℕ) (f : Fault) (l : Ledger) (r : Filled) → Err f ≡ table_verdict t
     → r.fill ≡ l.fill → r.outcome ≡ cond (eqb (length s) 0) Answered Refused → Fills l (answers_at t s u 0) (calls_at t s u id 0) r l.bytes
 unfolding run ledger_outcome run_outcome
-fills-20 t s u id n q l r e f o =
-    let none = calls-20 t s u id n q e in
-    record { bytes = rw none; fill = rw none f; outcome = rw none (o ∙ tape-20 t s u n q e ∙ sym (worse-none (tape_outcome (answers_at t s u 0)))) }
+fills-20 t s u id f l r e h o =
+    let none = calls-20 t s u id f e in
+    record { bytes = rw none; fill = rw none h; outcome = rw none (o ∙ tape-20 t s u f e ∙ sym (worse-none (tape_outcome (answers_at t s u 0)))) }

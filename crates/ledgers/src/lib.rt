@@ -1,7 +1,7 @@
 // The lines of a tape's messages, entered in a ledger, and the messages that make none.
 #![tactic(auto)]
 
-ghost use Rattle.std.specs.Prelude.{Ok, ◌≡◌, ◌≤◌, cond, length, eqb};
+ghost use Rattle.std.specs.Prelude.{Ok, ◌≡◌, cond, length, eqb};
 ghost use Rattle.table.specs.Index.{Checked};
 ghost use Rattle.opening.specs.Opening.{under};
 ghost use Rattle.tape.specs.Tape.{tape_answers};
@@ -9,16 +9,16 @@ ghost use Rattle.ledger.specs.Ledger.{call, lines};
 ghost use Rattle.answers.specs.declared.outcome.Outcome.TheVariants.{Answered, Refused};
 ghost use Rattle.ledgers.specs.Entries.{fill_of, entry_of, ledger_after, entry_outcome, turn_outcome, calls, Fills};
 
+use answers::context::Context;
 use answers::outcome::Outcome;
-use answers::{outcome, refusal};
-use ledger::Entered;
-use printing::print;
+use answers::refusal;
 use printing::print::Page;
-use schema::Verdict;
+use schema::Fault;
 use tape::Answer;
+use tapes::Totals;
 
 // How far a tape has filled the ledger, and what came of its messages: Failed where a line found no room.
-#[derive(Clone, Copy)]
+#[derive(Clone, Copy, Debug, PartialEq, Eq)]
 pub struct Filled {
     pub fill: usize,
     pub outcome: Outcome,
@@ -27,10 +27,9 @@ pub struct Filled {
 // ONE MESSAGE
 
 // A message that the tape refuses makes no line.
+#[tactic(auto, unfolding(crate::specs::Entries::entry_of, crate::specs::Entries::ledger_after))]
 fn enter(
-    table: &[u8],
-    store: &[u8],
-    customer: u16,
+    context: Context,
     message: &[u8],
     answer: Answer,
     scratch: &mut [u8],
@@ -38,55 +37,50 @@ fn enter(
     ledger: &mut [u8],
     fill: usize,
 ) -> Result<usize, Fault>
-    ensures value { result ≡ entry_of answer (lines ledger.old fill) (call table.now message.now (under store.now customer (length scratch.old)) id) }
-    ensures ledger_after { ledger.new ≡ (ledger_after answer (lines ledger.old fill) (call table.now message.now (under store.now customer (length scratch.old)) id)).bytes }
+    ensures value { result ≡ entry_of answer (lines ledger.old fill) (call context.entry.table.now message.now (under context.entry.store.now context.entry.customer (length scratch.old)) id) }
+    ensures ledger_after { ledger.new ≡ (ledger_after answer (lines ledger.old fill) (call context.entry.table.now message.now (under context.entry.store.now context.entry.customer (length scratch.old)) id)).bytes }
 {
+    let Context {
+        table,
+        store,
+        customer,
+    } = context;
     match answer {
-        Answer::Ended => Entered::Fill(fill),
-        Answer::Accepted => ledger::add_line(
+        None => Ok(fill),
+        Some(Ok(())) => ledger::add_line(
             table, store, customer, message, scratch, id, ledger, fill,
         ),
-        Answer::Refused { number, place } => Entered::Refused { number, place },
+        Some(Err(fault)) => Err(fault),
     }
 }
 
 // The fill with one entry more.
+#[tactic(auto, unfolding(crate::specs::Entries::fill_of))]
 fn fill_of(fill: usize, entered: Result<usize, Fault>) -> usize
     ensures { result ≡ fill_of fill entered }
 {
-    match entered {
-        Entered::Fill(fill) => fill,
-        Entered::Refused {
-            number: _,
-            place: _,
-        } => fill,
-    }
+    entered.unwrap_or(fill)
 }
 
+#[tactic(auto, unfolding(crate::specs::Entries::entry_outcome))]
 fn outcome_of(entered: Result<usize, Fault>) -> Outcome
     ensures { result ≡ entry_outcome entered }
 {
     match entered {
-        Entered::Fill(_) => Outcome::Answered,
-        Entered::Refused { number, place: _ } => {
-            if number == 56 {
-                return Outcome::Failed;
-            }
-            Outcome::Refused
-        }
+        Ok(_) => Outcome::Answered,
+        Err(Fault { number: 56, .. }) => Outcome::Failed,
+        Err(_) => Outcome::Refused,
     }
 }
 
+#[tactic(auto, unfolding(crate::specs::Entries::turn_outcome))]
 fn turn_outcome(answer: Answer, entered: Result<usize, Fault>) -> Outcome
     ensures { result ≡ turn_outcome answer entered }
 {
     match answer {
-        Answer::Ended => Outcome::Answered,
-        Answer::Accepted => outcome_of(entered),
-        Answer::Refused {
-            number: _,
-            place: _,
-        } => Outcome::Refused,
+        None => Outcome::Answered,
+        Some(Ok(())) => outcome_of(entered),
+        Some(Err(_)) => Outcome::Refused,
     }
 }
 
@@ -94,34 +88,34 @@ fn turn_outcome(answer: Answer, entered: Result<usize, Fault>) -> Outcome
 
 // Under an accepted table, which is indexed once.
 fn enter_under(
-    table: &[u8],
+    context: Context,
     index: &[u16],
-    store: &[u8],
-    customer: u16,
     tape: &[u8],
     scratch: &mut [u8],
     id: u64,
     ledger: &mut [u8],
     start: usize,
 ) -> Filled
-    requires { Checked table.now index.now (Ok tt) }
-    ensures { Fills (lines ledger.old start) (tape_answers table.now tape.now (under store.now customer (length scratch.old))) (calls table.now tape.now (under store.now customer (length scratch.old)) id) result ledger.new }
+    requires { Checked context.table.now index.now (Ok tt) }
+    ensures { Fills (lines ledger.old start) (tape_answers context.entry.table.now tape.now (under context.entry.store.now context.entry.customer (length scratch.old))) (calls context.entry.table.now tape.now (under context.entry.store.now context.entry.customer (length scratch.old)) id) result ledger.new }
 {
+    let Context {
+        table,
+        store,
+        customer,
+    } = context;
     let mut worst = Outcome::Answered;
     let mut fill = start;
     let mut at = 0;
+    // By places: `TapeReader` would index the table anew for each message.
     while at < tape.len() {
         let step = tape::step_under(table, index, store, customer, tape, at, scratch);
-        let answer = step.answer;
-        let next = step.next;
-        let message = tape::part_at(tape, at, answer);
-        let entered = enter(
-            table, store, customer, message, answer, scratch, id, ledger, fill,
-        );
-        let outcome = turn_outcome(answer, entered);
-        worst = outcome::worse(worst, outcome);
+        let message = tape::part_at(tape, at, step.answer);
+        let entered = enter(context, message, step.answer, scratch, id, ledger, fill);
+        let outcome = turn_outcome(step.answer, entered);
+        worst = worst.max(outcome);
         fill = fill_of(fill, entered);
-        at = next;
+        at = step.next;
     }
     Filled {
         fill,
@@ -133,169 +127,99 @@ fn enter_under(
 fn refuse_all(tape: &[u8], start: usize) -> Filled
     ensures { (result.fill ≡ start) × (result.outcome ≡ cond (eqb (length tape.now) 0) Answered Refused) }
 {
-    if tape.len() == 0 {
-        return Filled {
-            fill: start,
-            outcome: Outcome::Answered,
-        };
-    }
     Filled {
         fill: start,
-        outcome: Outcome::Refused,
+        outcome: if tape.is_empty() {
+            Outcome::Answered
+        } else {
+            Outcome::Refused
+        },
     }
 }
 
 // The lines of a tape's messages of the type `id`, behind the first `start` bytes of the ledger.
 pub fn enter_tape(
-    table: &[u8],
-    store: &[u8],
-    customer: u16,
+    context: Context,
     tape: &[u8],
     scratch: &mut [u8],
     id: u64,
     ledger: &mut [u8],
     start: usize,
 ) -> Filled
-    ensures { Fills (lines ledger.old start) (tape_answers table.now tape.now (under store.now customer (length scratch.old))) (calls table.now tape.now (under store.now customer (length scratch.old)) id) result ledger.new }
+    ensures { Fills (lines ledger.old start) (tape_answers context.entry.table.now tape.now (under context.entry.store.now context.entry.customer (length scratch.old))) (calls context.entry.table.now tape.now (under context.entry.store.now context.entry.customer (length scratch.old)) id) result ledger.new }
 {
     let mut index = [0u16; 322];
-    let v = table::index_table(table, &mut index);
-    match v {
-        Verdict::Accepted => enter_under(
-            table, &index, store, customer, tape, scratch, id, ledger, start,
-        ),
-        Verdict::Refused {
-            number: _,
-            place: _,
-        } => refuse_all(tape, start),
-    }
+    let Ok(()) = table::index_table(context.table, &mut index) else {
+        return refuse_all(tape, start);
+    };
+    enter_under(context, &index, tape, scratch, id, ledger, start)
 }
 
 // WHAT IS PRINTED
 
 // The line of the message at `at`, which was refused. A whole message is never refused by 22.
-fn print_refused(page: &mut Page, tape: &[u8], at: usize, number: u8, place: usize) {
+fn print_refused(page: &mut Page, tape: &[u8], at: usize, fault: Fault) {
     tapes::print_place(page, at);
-    refusal::print_with_words(page, number, place);
-    if number == 22 {
+    refusal::print_with_words(page, fault);
+    if fault.number == 22 {
         tapes::print_cut(page, rows::rest(tape, at));
     }
 }
 
-// What came of the message at `at`, asked with no room: 56 where it makes a line. Answers 1 for a refusal.
-fn say(page: &mut Page, tape: &[u8], at: usize, entered: Result<usize, Fault>) -> usize
-    ensures { result ≤ 1 }
-{
-    match entered {
-        Entered::Fill(_) => 0,
-        Entered::Refused { number, place } => {
-            if number == 56 {
-                return 0;
-            }
-            print_refused(page, tape, at, number, place);
-            1
-        }
-    }
-}
-
-// The last line.
-fn print_totals(page: &mut Page, messages: usize, refused: usize)
-    requires { refused ≤ messages }
-{
-    print::number(page, messages);
-    if messages == 1 {
-        print::text(page, b" message: ");
-    } else {
-        print::text(page, b" messages: ");
-    }
-    print::number(page, messages - refused);
-    print::text(page, b" entered, ");
-    print::number(page, refused);
-    print::text(page, b" refused\n");
-}
-
-// The line of the message at `at`, if it is refused, which is asked with no room.
+// The line of the message at `at`, if it is refused; whether it is. It is asked with no room: 56 where it makes a line.
 fn list_at(
     page: &mut Page,
-    table: &[u8],
-    store: &[u8],
-    customer: u16,
+    context: Context,
     tape: &[u8],
     at: usize,
     answer: Answer,
     scratch: &mut [u8],
     id: u64,
-) -> usize
-    ensures { result ≤ 1 }
-{
+) -> bool {
     let message = tape::part_at(tape, at, answer);
-    let entered = enter(
-        table,
-        store,
-        customer,
-        message,
-        answer,
-        scratch,
-        id,
-        &mut [0u8; 0],
-        0,
-    );
-    say(page, tape, at, entered)
+    let room = &mut [0u8; 0];
+    match enter(context, message, answer, scratch, id, room, 0) {
+        Ok(_) | Err(Fault { number: 56, .. }) => false,
+        Err(fault) => {
+            print_refused(page, tape, at, fault);
+            true
+        }
+    }
 }
 
 fn list_under(
     page: &mut Page,
-    table: &[u8],
+    context: Context,
     index: &[u16],
-    store: &[u8],
-    customer: u16,
     tape: &[u8],
     scratch: &mut [u8],
     id: u64,
 )
-    requires { Checked table.now index.now (Ok tt) }
+    requires { Checked context.table.now index.now (Ok tt) }
 {
-    let mut messages = 0;
-    let mut refused = 0;
+    let Context {
+        table,
+        store,
+        customer,
+    } = context;
+    let mut totals = Totals::default();
     let mut at = 0;
+    // By places: `TapeReader` would index the table anew for each message.
     while at < tape.len() {
         let step = tape::step_under(table, index, store, customer, tape, at, scratch);
-        let answer = step.answer;
-        let next = step.next;
-        refused += list_at(page, table, store, customer, tape, at, answer, scratch, id);
-        messages += 1;
-        at = next;
+        totals.count(list_at(page, context, tape, at, step.answer, scratch, id));
+        at = step.next;
     }
-    print_totals(page, messages, refused);
-}
-
-fn list_table(page: &mut Page, table: &[u8], store: &[u8], tape: &[u8]) {
-    if tape.len() == 0 {
-        print_totals(page, 0, 0);
-        return;
-    }
-    tapes::print_place(page, 0);
-    refusal::refuse(page, 20, 0, table, store, tape);
-    print_totals(page, 1, 1);
+    totals.print(page, b" entered, ");
 }
 
 // A line for each message of a tape that makes none, and how many there are.
-pub fn list_refused(
-    page: &mut Page,
-    table: &[u8],
-    store: &[u8],
-    customer: u16,
-    tape: &[u8],
-    scratch: &mut [u8],
-    id: u64,
-) {
+pub fn list_refused(page: &mut Page, context: Context, tape: &[u8], scratch: &mut [u8], id: u64) {
     let mut index = [0u16; 322];
-    let v = table::index_table(table, &mut index);
-    match v {
-        Verdict::Accepted => list_under(page, table, &index, store, customer, tape, scratch, id),
-        Verdict::Refused {
-            number: _,
-            place: _,
-        } => list_table(page, table, store, tape),
+    match table::index_table(context.table, &mut index) {
+        Ok(()) => list_under(page, context, &index, tape, scratch, id),
+        Err(_) => {
+            tapes::refuse_table(page, context.table, context.store, tape, b" entered, ");
+        }
     }
 }

@@ -1,8 +1,8 @@
 -- Laws of the worst of several outcomes, and of a tape's.
-use Rattle.schema.specs.Faults.{fault_at}
+use Rattle.schema.specs.declared.Fault.{Fault}
 use Rattle.std.proofs.Common.{Err}
 use Prim.Native.Nat.{ℕ, ◌<◌, ◌≤◌}
-use mathlib.Core.Path.{◌≡◌, refl, sym, ap, ◌∙◌}
+use mathlib.Core.Path.{◌≡◌, refl}
 use mathlib.Core.Bool.{cond}
 use mathlib.Core.List.{List, [], ◌∷◌}
 use native.Mathlib.Omega.{arith}
@@ -54,9 +54,9 @@ module _ (t s : List ℕ) (u : Under) where
   outcome-end w p h = rw (answers-end t s u p h) (worse-none w)
 
 -- a refused table is one refusal, where a byte is left
-pub outcome-20 : (t s : List ℕ) (u : Under) (n p : ℕ) → Err (fault_at n p) ≡ table_verdict t → cond (eqb (length s) 0) Answered Refused ≡ tape_outcome (answers_at t s u 0)
+pub outcome-20 : (t s : List ℕ) (u : Under) (f : Fault) → Err f ≡ table_verdict t → cond (eqb (length s) 0) Answered Refused ≡ tape_outcome (answers_at t s u 0)
 unfolding tape_outcome answer_outcome worse_of
-outcome-20 t [] u n p e = rw (answers-end t [] u 0 (omega arith))
-outcome-20 t (x ∷ s) u n p e =
+outcome-20 t [] u f e = rw (answers-end t [] u 0 (omega arith))
+outcome-20 t (x ∷ s) u f e =
     let h : 0 < length (x ∷ s) = omega arith in
-    rw (ne_eqb (length (x ∷ s)) 0 (omega arith), answers-last t (x ∷ s) u 0 _ h (step-20 t (x ∷ s) 0 u n p h e))
+    rw (ne_eqb (length (x ∷ s)) 0 (omega arith), answers-last t (x ∷ s) u 0 _ h (step-20 t (x ∷ s) 0 u f h e))

@@ -4,8 +4,5 @@ use Rattle.opening.specs.Opening.{under}
 use Rattle.tapes.proofs.Laws.{outcome-20}
 use Rattle.tapes.proofs.check_tape.Goals as goal
 
-pub check_under-requires : goal.check_under-requires
-check_under-requires c = rw c.in-Accepted.is at c.index_table-v.ensures
-
-pub returns-in-Refused : goal.returns-in-Refused
-returns-in-Refused c = let a = c.args in c.refuse_table.ensures ∙ outcome-20 a.table.now a.tape.now (under a.store.now a.customer (length a.scratch.now)) _ _ (sym c.in-Refused.is ∙ c.index_table-v.ensures.verdict)
+pub returns-in_default : goal.returns-in_default
+returns-in_default c = let a = c.args in c.refuse_table.ensures ∙ outcome-20 a.context.table.now a.tape.now (under a.context.store.now a.context.customer (length a.scratch.now)) _ (sym c.in_default.is ∙ c.index_table.ensures.verdict)

@@ -1,11 +1,11 @@
--- One turn of each loop over a lent buffer, and that a tape's reader moves on.
+-- One turn of each loop over a lent buffer, what a load leaves, and that a tape's reader moves on.
 use Prim.Native.Nat.{ℕ, suc, ◌+◌, ◌-◌, ◌*◌, ◌%◌, ◌<◌, ◌≤◌}
-use mathlib.Core.Path.{◌≡◌, sym}
-use mathlib.Core.List.{List, append-nil}
+use mathlib.Core.Path.{◌≡◌}
+use mathlib.Core.List.{List, ◌++◌}
 use native.Mathlib.Omega.{arith}
-use native.Mathlib.Nat.{sub-zero}
-use lib.ListN.{length, get_or, set, drop}
+use lib.ListN.{length, get_or, set, take, drop, replicate}
 use lib.Seq.{drop-length}
+use Rattle.std.proofs.lemmas.List.{take_at, drop-replicate}
 use Rattle.wire.specs.Bytes.{splice}
 use Rattle.wire.proofs.Laws.{drop_more, splice-cons, splice-nil}
 use Rattle.opening.specs.Opening.{Under}
@@ -15,9 +15,6 @@ use Rattle.tape.proofs.Whole.{step_past}
 use Rattle.conformance.specs.Room.{filled, adler_from}
 
 -- FILLING
-
-pub fill-all : (room : List ℕ) → filled 0 (length room) ≡ splice (length room - 0) 0 (filled 0 (length room - 0)) room
-fill-all room = rw (sub-zero, drop-length room) (sym (append-nil _))
 
 module _ (n i : ℕ) (room : List ℕ) where
   pub fill-turn : i < n → length room ≡ n
@@ -42,6 +39,13 @@ module _ (a b i : ℕ) (s : List ℕ) where
   pub adler-end : i ≡ length s → adler_from a b (drop i s) ≡ 65536 * b + a
   unfolding adler_from
   adler-end h = rw (h, drop-length s)
+
+-- LOADING
+
+-- what a load leaves behind the first k bytes of a buffer of n zeros
+pub loaded : (k n m : ℕ) (new old rest : List ℕ) → drop k new ≡ drop k old → old ≡ replicate n 0 → length new ≡ m
+    → drop k (take m (new ++ rest)) ≡ replicate (n - k) 0
+loaded k n m new old rest e z l = rw (take_at new rest m l, e, z) (drop-replicate k n 0)
 
 -- A TAPE'S READER
 

@@ -1,11 +1,8 @@
 use mathlib.Core.Path.{sym, ◌∙◌}
 use native.Mathlib.Omega.{arith}
 use lib.ListN.{length}
-use Rattle.conformance.proofs.Laws.{fill-all, fill-turn, fill_end}
+use Rattle.conformance.proofs.Laws.{fill-turn, fill_end}
 use Rattle.conformance.proofs.room.fill.Goals as goal
-
-pub loop-i-init : goal.loop-i-init
-loop-i-init c = fill-all c.args.room.now
 
 pub loop-i-preserved : goal.loop-i-preserved
 loop-i-preserved c = c.loop-i.invariant ∙ fill-turn (length c.args.room.now) c.loop-i.i c.loop-i.room (omega arith) (omega arith)

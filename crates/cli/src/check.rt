@@ -20,10 +20,10 @@ fn check_one(
     room: &mut [u8],
     scratch: &mut [u8],
 ) -> Outcome {
-    let read = loaded::read_most(rt, arguments::plain(rt, command::INPUT), room, ROOM);
-    if !read.is_read {
+    let i = arguments::plain(rt, command::INPUT);
+    let Some(read) = loaded::read_most(rt, i, room, ROOM) else {
         return refusal::fail(page);
-    }
+    };
     let message = rows::part(room, 0, read.length);
     questions::check(page, context, message, scratch)
 }
@@ -45,9 +45,9 @@ fn check_at(
 ) -> Outcome {
     let read = loaded::read_most(rt, i, room, ROOM);
     print_name(rt, page, i);
-    if !read.is_read {
+    let Some(read) = read else {
         return refusal::fail(page);
-    }
+    };
     let message = rows::part(room, 0, read.length);
     questions::check_briefly(page, context, message, scratch)
 }
@@ -98,18 +98,13 @@ fn holds(rt: &HostRuntime, room: &[u8], i: usize, length: usize) -> bool {
     true
 }
 
-fn read_tape(rt: &HostRuntime, room: &mut [u8]) -> Input {
+fn read_tape(rt: &HostRuntime, room: &mut [u8]) -> Option<Input> {
     let i = arguments::plain(rt, command::INPUT);
-    let read = loaded::read(rt, i, room);
-    let of = read.of;
-    if !read.is_read {
-        return read;
+    let tape = loaded::read(rt, i, room)?;
+    if !holds(rt, room, i, tape.length) {
+        return None;
     }
-    Input {
-        is_read: holds(rt, room, i, read.length),
-        length: read.length,
-        of,
-    }
+    Some(tape)
 }
 
 pub fn check_tape(
@@ -131,10 +126,9 @@ fn check_tape_in(
     room: &mut [u8],
     scratch: &mut [u8],
 ) -> Outcome {
-    let read = read_tape(rt, room);
-    if !read.is_read {
+    let Some(read) = read_tape(rt, room) else {
         return refusal::fail(page);
-    }
+    };
     let tape = rows::part(room, 0, read.length);
     tapes::check_tape(page, context, tape, scratch)
 }

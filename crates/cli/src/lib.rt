@@ -58,37 +58,33 @@ fn print_fault(rt: &HostRuntime, page: &mut Page, number: u8) -> Outcome {
 
 // FILES
 
-fn read_table(rt: &HostRuntime, room: &mut [u8]) -> Input {
+fn read_table(rt: &HostRuntime, room: &mut [u8]) -> Option<Input> {
     loaded::read(rt, arguments::plain(rt, command::TABLE), room)
 }
 
 // The store that the options name. None is an empty one, which has no settings.
-fn read_store(rt: &HostRuntime, room: &mut [u8]) -> Input {
+fn read_store(rt: &HostRuntime, room: &mut [u8]) -> Option<Input> {
     let Some(i) = options::store(rt) else {
-        return loaded::none();
+        return Some(loaded::none());
     };
-    let read = loaded::read(rt, i, room);
-    let of = read.of;
-    Input {
-        is_read: read.is_read && settings_store::fits(rt, i, read.length),
-        length: read.length,
-        of,
+    let store = loaded::read(rt, i, room)?;
+    if !settings_store::fits(rt, i, store.length) {
+        return None;
     }
+    Some(store)
 }
 
 fn check_table(rt: &HostRuntime, page: &mut Page, room: &mut [u8]) -> Outcome {
-    let table = read_table(rt, room);
-    if !table.is_read {
+    let Some(table) = read_table(rt, room) else {
         return refusal::fail(page);
-    }
+    };
     questions::check_table(page, rows::part(room, 0, table.length))
 }
 
 fn list_table(rt: &HostRuntime, page: &mut Page, room: &mut [u8]) -> Outcome {
-    let table = read_table(rt, room);
-    if !table.is_read {
+    let Some(table) = read_table(rt, room) else {
         return refusal::fail(page);
-    }
+    };
     questions::list_table(page, rows::part(room, 0, table.length))
 }
 
@@ -103,14 +99,12 @@ fn check_messages(
     messages: &mut [u8],
     scratch: &mut [u8],
 ) -> Outcome {
-    let table = read_table(rt, tables);
-    if !table.is_read {
+    let Some(table) = read_table(rt, tables) else {
         return refusal::fail(page);
-    }
-    let store = read_store(rt, stores);
-    if !store.is_read {
+    };
+    let Some(store) = read_store(rt, stores) else {
         return refusal::fail(page);
-    }
+    };
     let context = Context {
         table: rows::part(tables, 0, table.length),
         store: rows::part(stores, 0, store.length),
@@ -170,9 +164,7 @@ fn answer_in_bytes(
     match question {
         Question::Sheet => output::sheet(rt, page, context, input, scratch, sheet),
         Question::Write => output::write(rt, page, context.table, input, output),
-        _ => output::rewrite(
-            rt, page, context, input, scratch, sheet, output,
-        ),
+        _ => output::rewrite(rt, page, context, input, scratch, sheet, output),
     }
 }
 
@@ -188,31 +180,17 @@ fn answer_with(
     labels: &mut [u64],
 ) -> Outcome {
     if destination::writes(question) {
-        return answer_in_bytes(
-            rt, page, question, context, input, scratch, sheet, output,
-        );
+        return answer_in_bytes(rt, page, question, context, input, scratch, sheet, output);
     }
-    answer_in_text(
-        page, question, context, input, scratch, sheet, labels,
-    )
+    answer_in_text(page, question, context, input, scratch, sheet, labels)
 }
 
 // How long the files of a question are, which stand at the start of their rooms.
 #[derive(Clone, Copy)]
 struct Lengths {
-    are_read: bool,
     table: usize,
     store: usize,
     input: usize,
-}
-
-fn unread() -> Lengths {
-    Lengths {
-        are_read: false,
-        table: 0,
-        store: 0,
-        input: 0,
-    }
 }
 
 // Reads them all. Where one cannot be read, or would be written over, standard error says so.
@@ -222,30 +200,23 @@ fn read_all(
     tables: &mut [u8],
     stores: &mut [u8],
     messages: &mut [u8],
-) -> Lengths {
-    let table = read_table(rt, tables);
-    if !table.is_read {
-        return unread();
-    }
-    let store = read_store(rt, stores);
-    if !store.is_read {
-        return unread();
-    }
+) -> Option<Lengths> {
+    let table = read_table(rt, tables)?;
+    let store = read_store(rt, stores)?;
     let input = loaded::read_most(
         rt,
         arguments::plain(rt, command::INPUT),
         messages,
         room_of(question),
-    );
-    if !input.is_read {
-        return unread();
+    )?;
+    if destination::is_taken(rt, question, table.of, store.of, input.of) {
+        return None;
     }
-    Lengths {
-        are_read: !destination::is_taken(rt, question, table.of, store.of, input.of),
+    Some(Lengths {
         table: table.length,
         store: store.length,
         input: input.length,
-    }
+    })
 }
 
 // The answer's lines are on standard error where standard output takes the bytes.
@@ -272,10 +243,9 @@ fn ask(
     labels: &mut [u64],
 ) -> Outcome {
     direct(rt, page, question);
-    let files = read_all(rt, question, tables, stores, messages);
-    if !files.are_read {
+    let Some(files) = read_all(rt, question, tables, stores, messages) else {
         return refusal::fail(page);
-    }
+    };
     answer_with(
         rt,
         page,

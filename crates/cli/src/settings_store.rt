@@ -38,10 +38,9 @@ fn place(question: StoreQuestion) -> usize
 
 pub fn ask(rt: &HostRuntime, page: &mut Page, question: StoreQuestion, room: &mut [u8]) -> Outcome {
     let i = arguments::plain(rt, place(question));
-    let read = loaded::read(rt, i, room);
-    if !read.is_read {
+    let Some(read) = loaded::read(rt, i, room) else {
         return refusal::fail(page);
-    }
+    };
     let length = read.length;
     if !fits(rt, i, length) {
         return refusal::fail(page);

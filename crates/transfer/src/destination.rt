@@ -60,20 +60,20 @@ pub fn is_output(rt: &HostRuntime) -> bool {
 }
 
 // What OUT holds, at the start of the room: nothing where it is not there yet, or is no regular file, as standard output is none to read.
-pub fn read_old(rt: &HostRuntime, room: &mut [u8]) -> Input {
+pub fn read_old(rt: &HostRuntime, room: &mut [u8]) -> Option<Input> {
     if is_output(rt) {
-        return loaded::none();
+        return Some(loaded::none());
     }
     let i = arguments::plain(rt, command::OUT);
     match identify(rt, i) {
         Ok(out) => {
             if !identity::is_regular(out) {
-                return loaded::none();
+                return Some(loaded::none());
             }
         }
         Err(error) => {
             if error.kind() == ErrorKind::NotFound {
-                return loaded::none();
+                return Some(loaded::none());
             }
         }
     }

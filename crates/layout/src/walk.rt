@@ -470,13 +470,11 @@ pub fn lay_out(table: &[u8], message: &[u8], labels: &mut [u64]) -> u64 {
         return 0;
     }
     let mut index = [0u16; 322];
-    match table::index_table(table, &mut index) {
-        schema::Verdict::Accepted => {
-            // `at_fault` of crate `listing` takes 0 for no obstacle.
-            lay_message(table, &index, message, &mut labels[..n])
-                .err()
-                .unwrap_or(0)
-        }
-        schema::Verdict::Refused { .. } => 0,
-    }
+    let Ok(()) = table::index_table(table, &mut index) else {
+        return 0;
+    };
+    // `at_fault` of crate `listing` takes 0 for no obstacle.
+    lay_message(table, &index, message, &mut labels[..n])
+        .err()
+        .unwrap_or(0)
 }

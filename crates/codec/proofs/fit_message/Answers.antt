@@ -7,7 +7,7 @@ use Rattle.codec.proofs.fit_message.Goals.{then-output-size-via-then-output-size
 
 pub returns-then-output-size : goal.returns-then-output-size
 returns-then-output-size c = let a = c.args in writes_nothing _ (fault_at 47 0) _ (elim c.then-output-size.branch [
-  short w ↦ written-47-room (schema a.table.now) a.sheet.now (length a.output.now) _ c.requires.1 w.if-output-size.true
+  | short w ↦ written-47-room (schema a.table.now) a.sheet.now (length a.output.now) _ c.requires.1 w.if-output-size.true
   | long w ↦ written-47-most (schema a.table.now) a.sheet.now (length a.output.now) _ c.requires.1 w.if-size-gt65536.true
 ])
 

@@ -12,12 +12,12 @@ use lib.Dec.{leb, eqb}
 use borrow.Author.Tests.{leb-true, leb-false, le-leb, lt-leb, eqb-true, eq-eqb}
 use Rattle.wire.specs.Bytes.{part, le, splice}
 use Rattle.wire.proofs.Laws.{length-bytes, length_part, same-eq}
-use Rattle.schema.specs.Faults.{Verdict, fault_at, need}
+use Rattle.schema.specs.Faults.{Verdict, fault_at, need, also}
 use Rattle.schema.specs.Schema.{fields_of, find, known}
 use Rattle.schema.specs.Table.{enums, schema, table_verdict}
 use Rattle.schema.specs.Forms.{Alike}
 use Rattle.schema.proofs.Depth.{and_both}
-use Rattle.schema.proofs.Numbered.{in-need}
+use Rattle.schema.proofs.Numbered.{Numbered, accepts, in-need, not-zero, refuses}
 use Rattle.fields.specs.Fields.{signature_of, has_under, has_after, has_fields}
 use Rattle.fields.proofs.Claims.{fields-claims}
 use Rattle.message.specs.Walk.{done}
@@ -35,7 +35,7 @@ use Rattle.ledger.proofs.Own.{blank-fields, own-values}
 -- A LINE THAT IS MADE
 
 unfit-line : {X : Type 0} {n p : ℕ} {x : List ℕ} → unfit n p ≡ line x → X
-unfit-line e = let z : ◌≡◌ {A = ℕ} 0 1 = cc in absurd (omega arith)
+unfit-line e = absurd (cc)
 
 need-line : (c : Bool) (n p : ℕ) (r : Line) (x : List ℕ) → need c (unfit n p) r ≡ line x → (c ≡ true) × (r ≡ line x)
 unfolding need
@@ -76,7 +76,7 @@ line-64 c x e = let m = made c x e in ap length m.is ∙ long-line (barcode_of c
 type-by : (v : Verdict) (b : List ℕ) (id : ℕ) → also v (Ok (type_id b)) ≡ Ok id → (v ≡ Ok tt) × (id ≡ type_id b)
 unfolding also
 type-by (Ok _) b id e = let q : type_id b ≡ id = cc in (refl, sym q)
-type-by (Err f) b id e = let z : ◌≡◌ {A = ℕ} 0 1 = cc in absurd (omega arith)
+type-by (Err f) b id e = absurd (cc)
 
 fit : (c : Call) (x : List ℕ) → line_of c ≡ line x → Fit c
 unfolding message_type
@@ -147,28 +147,23 @@ by-sheet b s x O =
 
 -- ONE CALL
 
-abbrev NumberedE : Result ℕ Fault → Type 0
-NumberedE (Ok n) = Unit
-NumberedE (Err f) = 1 ≤ f.number
-
 abbrev NumberedL : Line → Type 0
 NumberedL (unfit n p) = 1 ≤ n
 NumberedL (line x) = Unit
 
 line-numbered : (c : Call) (a : Result ℕ Fault) → ((p : ℕ) → a ≡ Err (fault_at 0 p) → ⊥) → NumberedL (line_under c a)
 unfolding line_under line_from
-line-numbered c (Err f) h = absurd (h f.place refl)
-line-numbered c (Err f) h = omega arith
+line-numbered c (Err f) h = let g : f.number ≡ 0 → ⊥ = λ e. h f.place (ap (λ (k : ℕ). Err (fault_at k f.place)) e) in omega (arith, g)
 line-numbered c (Ok id) h = in-need NumberedL (eqb id c.blank && has_fields c.table c.blank Blank) (omega arith) (in-need NumberedL (leb 1 (length (barcode_of c)) && leb (length (barcode_of c)) 40) (omega arith) tt)
 
-enters-numbered : (s : Ledger) (l : Line) → NumberedL l → NumberedE (enters s l)
+enters-numbered : (s : Ledger) (l : Line) → NumberedL l → Numbered (enters s l)
 unfolding enters
-enters-numbered s (unfit n p) h = h
-enters-numbered s (line x) h = in-need NumberedE (leb (s.fill + 64) (length s.bytes)) (omega arith) tt
+enters-numbered s (unfit n p) h = refuses (fault_at n p) h
+enters-numbered s (line x) h = in-need Numbered (leb (s.fill + 64) (length s.bytes)) (refuses (fault_at 56 0) (omega arith)) (accepts (s.fill + 64))
 
 numbered : (c : Call) (s : Ledger) (p : ℕ) → enters s (line_of c) ≡ Err (fault_at 0 p) → ⊥
 unfolding line_of
-numbered c s p e = omega (arith, subst NumberedE e (enters-numbered s _ (line-numbered c (message_type c.table c.message c.reads) (demands.first c.table c.message [] c.reads).numbered.type)))
+numbered c s = not-zero (enters-numbered s _ (line-numbered c (message_type c.table c.message c.reads) (demands.first c.table c.message [] c.reads).numbered.type))
 
 unchanged : (s : Ledger) (l : Line) (n p : ℕ) → enters s l ≡ Err (fault_at n p) → entered s l ≡ s
 unfolding enters entered
@@ -176,12 +171,12 @@ unchanged s (unfit k q) n p e = refl
 unchanged s (line x) n p e = go (leb (s.fill + 64) (length s.bytes)) e
   where
     go : (v : Bool) → need v (Err (fault_at 56 0)) (Ok (s.fill + 64)) ≡ Err (fault_at n p) → need v s (lines (splice 64 s.fill x s.bytes) (s.fill + 64)) ≡ s
-    go true e = unfold need in let z : ◌≡◌ {A = ℕ} 0 1 = cc in absurd (omega arith)
+    go true e = unfold need in absurd (cc)
     go false e = unfold need in refl
 
 stands : (s : Ledger) (l : Line) (n : ℕ) → enters s l ≡ Ok n → (x : List ℕ) × (l ≡ line x) × (n ≡ s.fill + 64) × (n ≤ length s.bytes) × (entered s l ≡ lines (take s.fill s.bytes ++ (x ++ drop n s.bytes)) n)
 unfolding enters entered
-stands s (unfit k q) n e = let z : ◌≡◌ {A = ℕ} 0 1 = cc in absurd (omega arith)
+stands s (unfit k q) n e = absurd (cc)
 stands s (line x) n e = go (leb (s.fill + 64) (length s.bytes)) refl e
   where
     go : (v : Bool) → leb (s.fill + 64) (length s.bytes) ≡ v → need v (Err (fault_at 56 0)) (Ok (s.fill + 64)) ≡ Ok n
@@ -190,7 +185,7 @@ stands s (line x) n e = go (leb (s.fill + 64) (length s.bytes)) refl e
         let q : s.fill + 64 ≡ n = cc in
         let l = leb-true (s.fill + 64) (length s.bytes) f in
         (x, refl, sym q, omega (arith, q, l), ap (λ z. lines (take s.fill s.bytes ++ (x ++ z)) (s.fill + 64)) (drop-drop 64 s.fill s.bytes) ∙ ap (λ k. lines (take s.fill s.bytes ++ (x ++ drop k s.bytes)) k) q)
-    go false f e = unfold need in let z : ◌≡◌ {A = ℕ} 0 1 = cc in absurd (omega arith)
+    go false f e = unfold need in absurd (cc)
 
 -- two tables of which every answer is the same
 same_lines : (t u b : List ℕ) (x : Under) (k : ℕ) → SameAnswers t u → (a : Result ℕ Fault) → line_under (call t b x k) a ≡ line_under (call u b x k) a

@@ -1,11 +1,12 @@
--- One turn of each loop over a lent buffer, what a load leaves, and that a tape's reader moves on.
-use Prim.Native.Nat.{ℕ, suc, ◌+◌, ◌-◌, ◌*◌, ◌%◌, ◌<◌, ◌≤◌}
+-- One turn of each loop over a lent buffer, what a load leaves in a room, and that a tape's reader moves on.
+use Prim.Native.Nat.{ℕ, zero, suc, ◌+◌, ◌-◌, ◌*◌, ◌%◌, ◌<◌, ◌≤◌}
 use mathlib.Core.Path.{◌≡◌}
 use mathlib.Core.List.{List, ◌++◌}
 use native.Mathlib.Omega.{arith}
-use lib.ListN.{length, get_or, set, take, drop, replicate}
-use lib.Seq.{drop-length}
-use Rattle.std.proofs.lemmas.List.{take_at, drop-replicate}
+use native.Mathlib.Nat.{sub-zero}
+use lib.ListN.{length, get_or, set, drop, replicate}
+use lib.Seq.{drop-length, drop_at}
+use borrow.Author.Tests.{le-leb}
 use Rattle.wire.specs.Bytes.{splice}
 use Rattle.wire.proofs.Laws.{drop_more, splice-cons, splice-nil}
 use Rattle.opening.specs.Opening.{Under}
@@ -13,6 +14,7 @@ use Rattle.tape.specs.declared.Step.{Step}
 use Rattle.tape.specs.Tape.{tape_step}
 use Rattle.tape.proofs.Whole.{step_past}
 use Rattle.conformance.specs.Room.{filled, adler_from}
+use Rattle.conformance.specs.Vectors.{behind}
 
 -- FILLING
 
@@ -42,10 +44,17 @@ module _ (a b i : ℕ) (s : List ℕ) where
 
 -- LOADING
 
--- what a load leaves behind the first k bytes of a buffer of n zeros
-pub loaded : (k n m : ℕ) (new old rest : List ℕ) → drop k new ≡ drop k old → old ≡ replicate n 0 → length new ≡ m
-    → drop k (take m (new ++ rest)) ≡ replicate (n - k) 0
-loaded k n m new old rest e z l = rw (take_at new rest m l, e, z) (drop-replicate k n 0)
+drop-zeros : (k n : ℕ) (t : List ℕ) → k ≤ n → drop k (replicate n 0 ++ t) ≡ replicate (n - k) 0 ++ t
+drop-zeros zero n t h = rw sub-zero
+drop-zeros (suc k) zero t h = absurd (omega arith)
+drop-zeros (suc k) (suc n) t h = let e : suc n - suc k ≡ n - k = omega arith in rw e (drop-zeros k n t (omega arith))
+
+-- the stored bytes `got`, read over the zeros
+pub loaded : (k n : ℕ) (got room : List ℕ) → length got ≡ k → k ≤ n → n ≤ length room
+    → drop k (got ++ drop k (replicate n 0 ++ drop n room)) ≡ behind k n room
+unfolding behind
+loaded k n got room e h l =
+    rw (le-leb n (length room) l, le-leb k n h, drop_at got (drop k (replicate n 0 ++ drop n room)) k e) (drop-zeros k n (drop n room) h)
 
 -- A TAPE'S READER
 

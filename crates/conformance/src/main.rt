@@ -3,6 +3,7 @@
 #![tactic(auto)]
 
 mod held;
+mod input;
 mod print;
 mod record;
 mod room;
@@ -10,7 +11,8 @@ mod room;
 ghost use Rattle.std.specs.Prelude.{◌≡◌, ◌%◌, ◌^◌};
 
 use codec::{Ignored, Part};
-use held::Held;
+use held::{Context, Held};
+use input::Input;
 use print::{Answer, Verdict, Words};
 use record::Record;
 use room::adler32;
@@ -20,6 +22,9 @@ use std::os::fd::AsRawFd;
 
 // A file has fewer records than this.
 const MOST: usize = 100000;
+
+// No input of a question is longer.
+const LONGEST: usize = 1048592;
 
 const FILES: [&str; 10] = [
     "table.vec",
@@ -50,15 +55,15 @@ fn low_one(x: u64) -> u8
 
 fn answer_check(
     alloc: Global,
-    held: &Held,
+    context: Context,
     record: &Record,
     message: &[u8],
 ) -> Result<String, AllocError> {
     let mut scratch = room::lent(alloc, record.scratch)?;
     let checked = codec::check_message(
-        &held.table,
-        &held.store,
-        held.customer,
+        context.table,
+        context.store,
+        context.customer,
         message,
         &mut scratch,
     );
@@ -67,16 +72,16 @@ fn answer_check(
 
 fn answer_sheet(
     alloc: Global,
-    held: &Held,
+    context: Context,
     record: &Record,
     message: &[u8],
 ) -> Result<String, AllocError> {
     let mut scratch = room::lent(alloc, record.scratch)?;
     let mut sheet = room::lent(alloc, record.sheet)?;
     let written = codec::message_to_sheet(
-        &held.table,
-        &held.store,
-        held.customer,
+        context.table,
+        context.store,
+        context.customer,
         message,
         &mut scratch,
         &mut sheet,
@@ -92,12 +97,12 @@ fn answer_sheet(
 
 fn answer_write(
     alloc: Global,
-    held: &Held,
+    context: Context,
     record: &Record,
     sheet: &[u8],
 ) -> Result<String, AllocError> {
     let mut output = room::lent(alloc, record.output)?;
-    let written = codec::sheet_to_message(&held.table, sheet, &mut output);
+    let written = codec::sheet_to_message(context.table, sheet, &mut output);
     format!(in alloc;
         "{} {} {}",
         Verdict(written.err()),
@@ -108,7 +113,7 @@ fn answer_write(
 
 fn answer_rewrite(
     alloc: Global,
-    held: &Held,
+    context: Context,
     record: &Record,
     message: &[u8],
 ) -> Result<String, AllocError> {
@@ -116,9 +121,9 @@ fn answer_rewrite(
     let mut sheet = room::lent(alloc, record.sheet)?;
     let mut output = room::lent(alloc, record.output)?;
     let written = codec::rewrite(
-        &held.table,
-        &held.store,
-        held.customer,
+        context.table,
+        context.store,
+        context.customer,
         message,
         &mut scratch,
         &mut sheet,
@@ -136,15 +141,15 @@ fn answer_rewrite(
 
 fn answer_number(
     alloc: Global,
-    held: &Held,
+    context: Context,
     record: &Record,
     message: &[u8],
 ) -> Result<String, AllocError> {
     let mut scratch = room::lent(alloc, record.scratch)?;
     let number = codec::read_number(
-        &held.table,
-        &held.store,
-        held.customer,
+        context.table,
+        context.store,
+        context.customer,
         message,
         &mut scratch,
         record.field as usize,
@@ -161,22 +166,22 @@ fn answer_number(
 // The part, its twin question, and where it lies.
 fn answer_bytes(
     alloc: Global,
-    held: &Held,
+    context: Context,
     record: &Record,
     message: &[u8],
 ) -> Result<String, AllocError> {
-    let Held {
+    let Context {
         table,
         store,
         customer,
-    } = held;
+    } = context;
     let field = record.field as usize;
     let item = record.item as usize;
     let mut scratch = room::lent(alloc, record.scratch)?;
     let read = codec::read_bytes_verdict(
         table,
         store,
-        *customer,
+        customer,
         message,
         &mut scratch,
         field,
@@ -186,7 +191,7 @@ fn answer_bytes(
     let Part { start, length } = codec::find_bytes(
         table,
         store,
-        *customer,
+        customer,
         message,
         &mut scratch,
         field,
@@ -196,7 +201,7 @@ fn answer_bytes(
         length: 0,
     });
     room::fill(&mut scratch);
-    let part = codec::read_bytes(table, store, *customer, message, &mut scratch, field, item);
+    let part = codec::read_bytes(table, store, customer, message, &mut scratch, field, item);
     format!(in alloc;
         "{} {start} {length} {} {}",
         Verdict(read.err()),
@@ -243,7 +248,7 @@ fn answer_addition(alloc: Global, record: &Record, store: &mut [u8]) -> Result<S
 // All steps from a place on; the last finds that the tape has ended. The first ones may be left out.
 fn answer_tape(
     alloc: Global,
-    held: &Held,
+    context: Context,
     record: &Record,
     tape: &[u8],
 ) -> Result<String, AllocError> {
@@ -253,9 +258,9 @@ fn answer_tape(
     let mut left_out = record.item as usize;
     while at < tape.len() {
         let step = tape::step_at(
-            &held.table,
-            &held.store,
-            held.customer,
+            context.table,
+            context.store,
+            context.customer,
             tape,
             at,
             &mut scratch,
@@ -278,9 +283,9 @@ fn answer_tape(
         room::fill(&mut scratch);
     }
     let step = tape::step_at(
-        &held.table,
-        &held.store,
-        held.customer,
+        context.table,
+        context.store,
+        context.customer,
         tape,
         at,
         &mut scratch,
@@ -298,42 +303,72 @@ fn answer_tape(
     Ok(line)
 }
 
-// The answer to a question, by its kind.
+// The answer to a question, by its kind; empty where a buffer to lend is too long.
 fn answer(
     alloc: Global,
-    held: &Held,
+    context: Context,
     record: &Record,
     input: &mut [u8],
 ) -> Result<String, AllocError> {
+    if !record.is_lendable() {
+        return Ok(String::new(alloc));
+    }
     match record.kind {
-        1 => format!(in alloc; "{}", Verdict(codec::check_table(input).err())),
-        2 => answer_check(alloc, held, record, input),
-        3 => answer_sheet(alloc, held, record, input),
-        4 => answer_write(alloc, held, record, input),
-        5 => answer_rewrite(alloc, held, record, input),
-        6 => answer_number(alloc, held, record, input),
-        7 => answer_bytes(alloc, held, record, input),
+        2 => answer_check(alloc, context, record, input),
+        3 => answer_sheet(alloc, context, record, input),
+        4 => answer_write(alloc, context, record, input),
+        5 => answer_rewrite(alloc, context, record, input),
+        6 => answer_number(alloc, context, record, input),
+        7 => answer_bytes(alloc, context, record, input),
         9 => format!(in alloc; "{}", Verdict(codec::check_store(input).err())),
         10 => answer_settings(alloc, record, input),
-        12 => answer_tape(alloc, held, record, input),
+        12 => answer_tape(alloc, context, record, input),
         _ => answer_addition(alloc, record, input),
     }
+}
+
+// The line for the table in force, none where it is longer than its room.
+fn ask_table(alloc: Global, held: &Held) -> Result<(), AllocError> {
+    if let Some(table) = held.table.get() {
+        print::line(&format!(in alloc; "{}", Verdict(codec::check_table(table).err()))?);
+    }
+    Ok(())
+}
+
+// The line for any other question, none where the input, or what is in force, is longer than its room.
+fn ask(alloc: Global, held: &Held, record: &Record, input: &mut Input) -> Result<(), AllocError> {
+    let Some(context) = held.context() else {
+        return Ok(());
+    };
+    let length = input.length;
+    if input.room.len() < length {
+        return Ok(());
+    }
+    print::line(&answer(alloc, context, record, &mut input.room[..length])?);
+    Ok(())
 }
 
 fn answer_file(rt: &HostRuntime, name: &str) -> std::io::Result<()> {
     let alloc = rt.alloc();
     let file = File::open(rt, name)?;
     let fd = file.as_raw_fd();
-    let mut held = Held::new(alloc);
+    let mut held = Held::new(alloc)?;
+    let mut input = Input::new(alloc, LONGEST)?;
     for _ in 0..MOST {
         let Some(record) = record::next(fd) else {
             break;
         };
-        let mut input = record.input(alloc, fd)?;
-        if record.is_question() {
-            print::line(&answer(alloc, &held, &record, &mut input)?);
+        match record.kind {
+            0 | 8 => held.hold(fd, &record),
+            1 => {
+                held.hold(fd, &record);
+                ask_table(alloc, &held)?;
+            }
+            _ => {
+                input.load(fd, &record);
+                ask(alloc, &held, &record, &mut input)?;
+            }
         }
-        held.hold(&record, input);
     }
     Ok(())
 }

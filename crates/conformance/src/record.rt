@@ -1,8 +1,14 @@
 // The records of a file of questions: a header of 40 bytes, then what is stored of the input.
-ghost use Rattle.std.specs.Prelude.{IfOk, ◌≡◌, drop, vec_len};
-ghost use Rattle.conformance.specs.Vectors.{record_of, behind, asks};
+ghost use Rattle.std.specs.Prelude.{◌≡◌};
+ghost use Rattle.conformance.specs.Vectors.{record_of, writes, lendable};
 
-use std::alloc::{AllocError, Global};
+// The longest buffers that are lent.
+
+const SCRATCH: usize = 65600;
+
+const SHEET: usize = 786432;
+
+const OUTPUT: usize = 65600;
 
 #[derive(Clone, Copy)]
 pub struct Record {
@@ -18,21 +24,19 @@ pub struct Record {
 }
 
 impl Record {
-    // Whether it has an answer: all but a table and a store that are only put in force.
-    pub fn is_question(&self) -> bool
-        ensures { result ≡ asks self.now.kind }
+    // Whether it writes a sheet or a message.
+    fn is_writing(&self) -> bool
+        ensures { result ≡ writes self.now.kind }
     {
-        self.kind != 0 && self.kind != 8
+        3 <= self.kind && self.kind <= 5
     }
 
-    // The input: the stored bytes, then zeros.
-    pub fn input(&self, alloc: Global, fd: i32) -> Result<Vec<u8>, AllocError>
-        ensures long { IfOk result (λ input. vec_len input ≡ self.now.length) }
-        ensures zeros { IfOk result (λ input. drop self.now.stored input.items ≡ behind self.now.stored self.now.length) }
+    // Whether no buffer that it lends is longer than README.md says.
+    pub fn is_lendable(&self) -> bool
+        ensures { result ≡ lendable self.now }
     {
-        let mut input = vec![in alloc; 0; self.length]?;
-        load(fd, &mut input, self.stored);
-        Ok(input)
+        self.scratch <= SCRATCH
+            && (!self.is_writing() || self.sheet <= SHEET && self.output <= OUTPUT)
     }
 }
 
@@ -57,14 +61,5 @@ fn parse(header: &[u8; 40]) -> Record
         output: wire::read_u32(header, 20),
         field: wire::read_u64(header, 24),
         item: wire::read_u64(header, 32),
-    }
-}
-
-// Reads the stored bytes, which no contract knows, to the start of `room`, where they fit.
-fn load(fd: i32, room: &mut [u8], stored: usize)
-    ensures { drop stored room.new ≡ drop stored room.old }
-{
-    if stored <= room.len() {
-        io::read_full(fd, &mut room[..stored]);
     }
 }

@@ -24,27 +24,27 @@ use Rattle.blink_native.specs.Claims.{VerdictTold, WrittenTold, SettingTold, Num
 verdict : (v : Verdict) → ((p : ℕ) → v ≡ Err (fault_at 0 p) → ⊥) → VerdictTold v
 unfolding exported
 verdict (Ok _) h = (λ e n p q. (cc), λ f. refl)
-verdict (Err f) h = (λ e. absurd (h f.place (ap (λ (k : ℕ). Err (fault_at k f.place)) e)), λ f. absurd (f f.number f.place refl))
+verdict (Err f) h = (λ e. absurd (h f.place (ap (λ (k : ℕ). Err (fault_at k f.place)) e)), λ g. absurd (g f.number f.place refl))
 
 span : (x : Result Part Fault) → ((p : ℕ) → x ≡ Err (fault_at 0 p) → ⊥) → SpanTold x
 unfolding exported_span
 span (Ok x) h = (λ e n p q. (cc), λ f. refl)
-span (Err f) h = (λ e. absurd (h f.place (ap (λ (k : ℕ). Err (fault_at k f.place)) e)), λ f. absurd (f f.number f.place refl))
+span (Err f) h = (λ e. absurd (h f.place (ap (λ (k : ℕ). Err (fault_at k f.place)) e)), λ g. absurd (g f.number f.place refl))
 
 setting : (x : Result Ignored Fault) → ((p : ℕ) → x ≡ Err (fault_at 0 p) → ⊥) → SettingTold x
 unfolding exported_settings
 setting (Ok i) h = (λ e n p q. (cc), λ f. refl)
-setting (Err f) h = (λ e. absurd (h f.place (ap (λ (k : ℕ). Err (fault_at k f.place)) e)), λ f. absurd (f f.number f.place refl))
+setting (Err f) h = (λ e. absurd (h f.place (ap (λ (k : ℕ). Err (fault_at k f.place)) e)), λ g. absurd (g f.number f.place refl))
 
 shape : (x : Result FieldShape Fault) → ((p : ℕ) → x ≡ Err (fault_at 0 p) → ⊥) → ShapeTold x
 unfolding exported_shape
 shape (Ok x) h = (λ e n p q. (cc), λ f. refl)
-shape (Err f) h = (λ e. absurd (h f.place (ap (λ (k : ℕ). Err (fault_at k f.place)) e)), λ f. absurd (f f.number f.place refl))
+shape (Err f) h = (λ e. absurd (h f.place (ap (λ (k : ℕ). Err (fault_at k f.place)) e)), λ g. absurd (g f.number f.place refl))
 
 written : (x : Result ℕ Fault) → ((p : ℕ) → x ≡ Err (fault_at 0 p) → ⊥) → WrittenTold x
 unfolding exported_written
 written (Ok k) h = (λ e n p q. (cc), λ f. refl)
-written (Err f) h = (λ e. absurd (h f.place (ap (λ (k : ℕ). Err (fault_at k f.place)) e)), λ f'. absurd (f' f.number f.place refl))
+written (Err f) h = (λ e. absurd (h f.place (ap (λ (k : ℕ). Err (fault_at k f.place)) e)), λ g. absurd (g f.number f.place refl))
 
 written-of : (x : Writing) → ((p : ℕ) → x ≡ stopped 0 p → ⊥) → WrittenTold (written_of x)
 unfolding exported_written written_of
@@ -53,13 +53,13 @@ written-of (wrote X D r) h = (λ e n p q. (cc), λ f. refl)
 
 number : (x : Result Number Fault) → ((p : ℕ) → x ≡ Err (fault_at 0 p) → ⊥) → NumberTold x
 unfolding exported_number
-number (Signed x) h = (λ e n p q. (cc), λ f. refl)
-number (Unsigned x) h = (λ e n p q. (cc), λ f. refl)
-number (Flag x) h = (λ e n p q. (cc), λ f. refl)
-number (Decimal y x) h = (λ e n p q. (cc), λ f. refl)
-number (Float x) h = (λ e n p q. (cc), λ f. refl)
-number (NanBits x) h = (λ e n p q. (cc), λ f. refl)
-number (Err f) h = (λ e. absurd (h f.place (ap (λ (k : ℕ). Err (fault_at k f.place)) e)), λ f. absurd (f f.number f.place refl))
+number (Ok (Signed x)) h = (λ e n p q. (cc), λ f. refl)
+number (Ok (Unsigned x)) h = (λ e n p q. (cc), λ f. refl)
+number (Ok (Flag x)) h = (λ e n p q. (cc), λ f. refl)
+number (Ok (Decimal y x)) h = (λ e n p q. (cc), λ f. refl)
+number (Ok (Float x)) h = (λ e n p q. (cc), λ f. refl)
+number (Ok (NanBits x)) h = (λ e n p q. (cc), λ f. refl)
+number (Err f) h = (λ e. absurd (h f.place (ap (λ (k : ℕ). Err (fault_at k f.place)) e)), λ g. absurd (g f.number f.place refl))
 
 numbered : (t b s : List ℕ) (u : Under) → Numbered t b s u
 numbered t b s u = (demands.first t b s u).numbered

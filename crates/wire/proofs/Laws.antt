@@ -7,7 +7,7 @@ use native.Mathlib.Omega.{arith}
 use native.Mathlib.Numerals.{add-one}
 use native.Mathlib.Nat.{zero-add, suc-add, add_assoc, pow-succ', mul_assoc, div-div-eq-div-mul, div-one}
 use lib.ListN.{length, get_or, set, take, drop, length-append, length-take, length-drop, take-append-drop}
-use lib.Seq.{drop-cons, drop-drop, take-add, take-take, take-nil, take_at, drop_at, take-suc-set, drop-set-lt}
+use lib.Seq.{drop-cons, drop-drop, take-add, take-take, take_all, take-nil, take_at, drop_at, take-suc-set, drop-set-lt}
 use lib.Dec.{eqb}
 use borrow.Author.Tests.{eq-eqb, eqb-true}
 use Rattle.wire.specs.Bytes.{part, splice, le, bytes_of, same}
@@ -179,3 +179,6 @@ le-bound (x ∷ s) h = let x< : x < 256 = h 0 in let l = le-bound s (λ i. h (su
 
 pub two : (at : ℕ) (s : List ℕ) → at + 2 ≤ length s → part 2 at s ≡ get_or s at 0 ∷ (get_or s (at + 1) 0 ∷ [])
 two at s h = rw (drop_more s at (omega arith), drop_more s (at + 1) (omega arith))
+
+pub two-of : (s : List ℕ) → length s ≡ 2 → s ≡ get_or s 0 0 ∷ (get_or s 1 0 ∷ [])
+two-of s h = sym (take_all 2 s (omega arith)) ∙ two 0 s (omega arith)

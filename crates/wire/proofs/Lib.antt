@@ -1,3 +1,4 @@
+pub mod Copies
 pub mod Laws
 pub mod Turns
 pub mod Signed

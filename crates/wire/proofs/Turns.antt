@@ -1,14 +1,14 @@
 -- Tests of bytes as equations: a turn of the loops without early exit, the first byte that is not zero, and sameness by `==`.
 use Prim.Native.Nat.{ℕ, zero, suc, ◌+◌, ◌<◌, ◌≤◌}
-use mathlib.Core.Path.{◌≡◌, refl, sym, ap}
+use mathlib.Core.Path.{◌≡◌, refl, sym, ap, ◌∙◌}
 use mathlib.Core.Bool.{Bool, true, ◌&&◌, and-true, and_assoc}
 use mathlib.Core.List.{List, [], ◌∷◌}
 use lib.ListN.{length, get_or, drop, drop_of_length-le}
 use lib.Dec.{eqb}
 use lib.Pointwise.{pointwise}
 use native.Mathlib.Omega.{arith}
-use Rattle.wire.specs.Bytes.{same, zeros}
-use Rattle.wire.proofs.Laws.{drop_more}
+use Rattle.wire.specs.Bytes.{part, same, zeros}
+use Rattle.wire.proofs.Laws.{drop_more, two, two-of}
 
 -- f tests every byte by p, as `all_zero` and `all_ascii` do; z is what the loop found of the first i
 module _ (f : List ℕ → Bool) (p : ℕ → Bool) (none : f [] ≡ true) (more : (x : ℕ) (xs : List ℕ) → f (x ∷ xs) ≡ p x && f xs) (s : List ℕ) (i : ℕ) (z : Bool) where
@@ -40,3 +40,8 @@ pointwise-same [] [] = refl
 pointwise-same [] (y ∷ ys) = refl
 pointwise-same (x ∷ xs) [] = refl
 pointwise-same (x ∷ xs) (y ∷ ys) = ap (λ (b : Bool). eqb x y && b) (pointwise-same xs ys)
+
+-- two bytes, one by one
+pub same-two : (at : ℕ) (s m : List ℕ) → at + 2 ≤ length s → length m ≡ 2 → same (part 2 at s) m ≡ eqb (get_or s at 0) (get_or m 0 0) && eqb (get_or s (at + 1) 0) (get_or m 1 0)
+unfolding same
+same-two at s m h e = ap (same (part 2 at s)) (two-of m e) ∙ rw (two at s h) (ap (λ (b : Bool). eqb (get_or s at 0) (get_or m 0 0) && b) (and-true _))

@@ -136,11 +136,13 @@ pub fn f64_from_bits(bits: u64) -> f64
 
 // Two-byte marks.
 
+// A byte at a time, so that what the first one says holds on: by `==` on arrays the check of a table's symbols takes half as
+// many instructions more.
 pub fn has_mark(s: &[u8], at: usize, mark: [u8; 2]) -> bool
     requires { at + 2 ≤ length s.now }
     ensures { result ≡ same (part 2 at s.now) mark }
 {
-    [s[at], s[at + 1]] == mark
+    s[at] == mark[0] && s[at + 1] == mark[1]
 }
 
 pub fn write_mark(out: &mut [u8], at: usize, mark: [u8; 2])
@@ -188,12 +190,90 @@ pub fn fill(out: &mut [u8], at: usize, n: usize, value: u8)
 
 // COPIES
 
-// The n bytes of `s` from `from` on go to `at`.
+// The n bytes of `s` from `from` on go to `at`. Blocks are copied from the last to the first: mostly a check has just read
+// all of them in order, and the last are still in the cache. `copy_from_slice` of as many bytes as are only known at run time
+// would be a call of `memmove`, which whoever links the library would have to bring, and so would a loop that moves as much
+// in a turn as it goes on. It is not inlined, so that the loops that copy values stay small.
+#[inline(never)]
 pub fn copy(out: &mut [u8], at: usize, s: &[u8], from: usize, n: usize)
     requires { (from + n ≤ length s.now) × (at + n ≤ length out.old) }
     ensures { out.new ≡ splice n at (part n from s.now) out.old }
 {
-    out[at..at + n].copy_from_slice(&s[from..from + n]);
+    let mut left = n;
+    while 64 <= left {
+        left -= 64;
+        copy_64(out, at + left, s, from + left);
+    }
+    copy_words(out, at, s, from, left);
+}
+
+fn copy_32(out: &mut [u8], at: usize, s: &[u8], from: usize)
+    requires { (from + 32 ≤ length s.now) × (at + 32 ≤ length out.old) }
+    ensures { out.new ≡ splice 32 at (part 32 from s.now) out.old }
+{
+    copy_bytes::<16>(out, at, s, from);
+    copy_bytes::<16>(out, at + 16, s, from + 16);
+}
+
+fn copy_64(out: &mut [u8], at: usize, s: &[u8], from: usize)
+    requires { (from + 64 ≤ length s.now) × (at + 64 ≤ length out.old) }
+    ensures { out.new ≡ splice 64 at (part 64 from s.now) out.old }
+{
+    copy_32(out, at, s, from);
+    copy_32(out, at + 32, s, from + 32);
+}
+
+// Two words at a time, and the last one.
+fn copy_words(out: &mut [u8], at: usize, s: &[u8], from: usize, n: usize)
+    requires { (from + n ≤ length s.now) × (at + n ≤ length out.old) }
+    ensures { out.new ≡ splice n at (part n from s.now) out.old }
+{
+    let mut i = 0;
+    while 16 <= n - i {
+        copy_two(out, at + i, s, from + i);
+        i += 16;
+    }
+    copy_word(out, at + i, s, from + i, n - i);
+}
+
+fn copy_two(out: &mut [u8], at: usize, s: &[u8], from: usize)
+    requires { (from + 16 ≤ length s.now) × (at + 16 ≤ length out.old) }
+    ensures { out.new ≡ splice 16 at (part 16 from s.now) out.old }
+{
+    copy_bytes::<8>(out, at, s, from);
+    copy_bytes::<8>(out, at + 8, s, from + 8);
+}
+
+// Fewer than sixteen bytes.
+fn copy_word(out: &mut [u8], at: usize, s: &[u8], from: usize, n: usize)
+    requires { (n < 16) × (from + n ≤ length s.now) × (at + n ≤ length out.old) }
+    ensures { out.new ≡ splice n at (part n from s.now) out.old }
+{
+    if n < 8 {
+        copy_rest(out, at, s, from, n);
+        return;
+    }
+    copy_bytes::<8>(out, at, s, from);
+    copy_rest(out, at + 8, s, from + 8, n - 8);
+}
+
+// Fewer than eight bytes.
+fn copy_rest(out: &mut [u8], at: usize, s: &[u8], from: usize, n: usize)
+    requires { (n < 8) × (from + n ≤ length s.now) × (at + n ≤ length out.old) }
+    ensures { out.new ≡ splice n at (part n from s.now) out.old }
+{
+    let mut i = 0;
+    if 4 <= n {
+        copy_bytes::<4>(out, at, s, from);
+        i = 4;
+    }
+    if 2 <= n - i {
+        copy_bytes::<2>(out, at + i, s, from + i);
+        i += 2;
+    }
+    if i < n {
+        out[at + i] = s[from + i];
+    }
 }
 
 // The same of a value in place: most have the width of a number.

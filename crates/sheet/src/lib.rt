@@ -11,7 +11,8 @@ ghost use Rattle.wire.specs.Bytes.{part, splice, bytes_of};
 ghost use Rattle.schema.specs.Schema.{kind_width, value_width, field_width, shallow_kind, shallow};
 ghost use Rattle.schema.specs.Table.{field_at, enums, schema};
 ghost use Rattle.schema.specs.Layout.{Layout};
-ghost use Rattle.schema.specs.FieldKinds.{kind_from};
+ghost use Rattle.schema.specs.FieldKinds.{kind_from, tested_kind};
+ghost use Rattle.schema.specs.declared.FieldKind.TheVariants.{Number};
 ghost use Rattle.message.specs.Sheet.{ST as StringMark, mark_bytes};
 ghost use Rattle.settings.specs.Store.{lax};
 ghost use Rattle.message.specs.Walk.{done, byte, word, items_r, walk};
@@ -19,7 +20,7 @@ ghost use Rattle.message.specs.Check.{width_of, static_of};
 ghost use Rattle.message.specs.Scopes.{Lies};
 ghost use Rattle.sheet.specs.Show.{passage, takes, head_of, id_of, number_of, end_of, group_of, plain_of, item_of, value_of, field_of, nested_of, extension_of, extending_of, Fits, Shown};
 
-use schema::{FieldKind, Scope};
+use schema::{FieldKind, Scope, Tested};
 
 // "a two-byte mark before each record"
 pub const VA: [u8; 2] = *b"VA";
@@ -84,6 +85,31 @@ fn show_plain(
 ) -> usize
     requires { (at + total * width ≤ length bytes.now) × (Fits (passage (items_r width (plain_of width) total) bytes.now at) pos out.old) }
     ensures { Shown (passage (items_r width (plain_of width) total) bytes.now at) pos out.old out.new result }
+{
+    let mut place = at;
+    let mut next = pos;
+    for _ in 0..total {
+        next = show_bytes(VA, bytes, place, width, out, next);
+        place += width;
+    }
+    next
+}
+
+// The same of numbers that the check has tested: a loop of its own, which need not look at the kind of each.
+fn show_numbers(
+    table: &[u8],
+    bytes: &[u8],
+    levels: usize,
+    depth: usize,
+    tested: Tested,
+    width: usize,
+    total: usize,
+    at: usize,
+    out: &mut [u8],
+    pos: usize,
+) -> usize
+    requires { (at + total * width ≤ length bytes.now) × (width ≡ kind_width (width_of table.now depth) (tested_kind (enums table.now) tested)) × (Fits (passage (items_r width (item_of table.now levels depth (Number tested)) total) bytes.now at) pos out.old) }
+    ensures { Shown (passage (items_r width (item_of table.now levels depth (Number tested)) total) bytes.now at) pos out.old out.new result }
 {
     let mut place = at;
     let mut next = pos;
@@ -302,6 +328,11 @@ fn show_items(
 {
     if let FieldKind::Plain { width: plain } = kind {
         return show_plain(bytes, at, usize::from(plain), total, out, pos);
+    }
+    if let FieldKind::Number { tested } = kind {
+        return show_numbers(
+            table, bytes, levels, depth, tested, width, total, at, out, pos,
+        );
     }
     let mut place = at;
     let mut next = pos;

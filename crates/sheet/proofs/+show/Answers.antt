@@ -265,6 +265,13 @@ pub show_items-returns-in-Plain : goal.show_items-returns-in-Plain
 show_items-returns-in-Plain t c = let a = c.args in let R = c.requires in let t = a.table.now in let b = a.bytes.now in let I = inner_of lax t a.levels in let es = enums t in let sw = width_of t a.depth in let S = static_of lax t a.levels a.depth in let e = c.in-Plain.is ∙ ap Plain (sym c.from.ensures) in
     shown-opens _ _ _ _ _ _ (items-plain I S es b a.at a.kind sw _ _ _ e R.3) c.show_plain.ensures
 
+pub show_items-show_numbers-requires : goal.show_items-show_numbers-requires
+unfolding kind_from
+show_items-show_numbers-requires t c = let R = c.requires in let e = c.in-Number.is in (R.2, rw e at R.3, rw e at R.5)
+
+pub show_items-returns-in-Number : goal.show_items-returns-in-Number
+show_items-returns-in-Number t c = rw c.in-Number.is c.show_numbers.ensures
+
 pub show_nested-show_mark-next-requires : goal.show_nested-show_mark-next-requires
 show_nested-show_mark-next-requires t c = let a = c.args in let R = c.requires in let t = a.table.now in let b = a.bytes.now in let L = opened _ _ _ _ _ _ _ (marked-inner GB b a.place t a.levels a.allowed _) (begun _ _ _ R.3) in mark-room GB _ _ (first_fits _ _ _ _ _ _ _ L)
 

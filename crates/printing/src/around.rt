@@ -24,10 +24,13 @@ fn print_line(page: &mut Page, bytes: &[u8], start: usize, marked: usize) {
 
 pub fn print_bytes(page: &mut Page, bytes: &[u8], marked: Option<usize>) {
     for (i, b) in bytes.iter().enumerate() {
-        let _ = if marked == Some(i) {
-            write!(page, " [{b:02x}]")
+        print::space(page);
+        if marked == Some(i) {
+            print::text(page, b"[");
+            print::hex_byte(page, *b);
+            print::text(page, b"]");
         } else {
-            write!(page, " {b:02x}")
-        };
+            print::hex_byte(page, *b);
+        }
     }
 }

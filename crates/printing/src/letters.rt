@@ -3,24 +3,24 @@ ghost use Rattle.std.specs.Prelude.{◌<◌, length};
 
 use crate::print;
 use crate::print::Page;
-use std::fmt::Write;
 use values::{Kind, Piece};
+
+fn print_code(page: &mut Page, mark: &[u8], code: u32) {
+    print::text(page, mark);
+    print::hex_number(page, u64::from(code), 1);
+    print::text(page, b"}");
+}
 
 // A character that is not printed as it is, by its bytes; one that is shown as a number, or a byte that begins none, by its code.
 fn print_marked(page: &mut Page, bytes: &[u8], piece: Piece) {
-    let code = piece.code;
     match piece.kind {
         Kind::Plain => print::text(page, bytes),
         Kind::Quoted => {
             print::text(page, b"\\");
             print::text(page, bytes);
         }
-        Kind::Numbered => {
-            let _ = write!(page, "\\u{{{code:x}}}");
-        }
-        Kind::Broken => {
-            let _ = write!(page, "\\x{{{code:x}}}");
-        }
+        Kind::Numbered => print_code(page, b"\\u{", piece.code),
+        Kind::Broken => print_code(page, b"\\x{", piece.code),
     }
 }
 

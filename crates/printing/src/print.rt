@@ -2,9 +2,9 @@
 ghost use Rattle.std.specs.Prelude.{◌≤◌};
 
 use crate::reason;
+use std::fmt;
 use std::fmt::{Display, Write};
 use std::rt::{Stderr, Stdout};
-use std::{fmt, io};
 
 // Where text goes.
 #[derive(Clone, Copy)]
@@ -21,10 +21,10 @@ impl Target {
         }
     }
 
-    fn write_all(self, words: &[u8]) -> io::Result<()> {
+    fn write_all(self, words: &[u8]) -> std::io::Result<()> {
         match self {
-            Target::Output(mut output) => io::Write::write_all(&mut output, words),
-            Target::Errors(mut errors) => io::Write::write_all(&mut errors, words),
+            Target::Output(mut output) => std::io::Write::write_all(&mut output, words),
+            Target::Errors(mut errors) => std::io::Write::write_all(&mut errors, words),
         }
     }
 }
@@ -65,7 +65,7 @@ pub fn is_lost(page: &Page) -> bool {
 }
 
 // Nothing is written after a loss: text with a hole in it looks whole.
-fn note(page: &mut Page, sent: io::Result<()>) {
+fn note(page: &mut Page, sent: std::io::Result<()>) {
     if let Err(why) = sent {
         page.is_lost = true;
         let _ = reason::report(page.errors, page.target.name(), why);
@@ -132,9 +132,24 @@ pub fn number<N: Display + Drop>(page: &mut Page, n: N) {
     let _ = write!(page, "{n}");
 }
 
+// In hex, with at least `width` digits. A text of control characters takes half as long again by `{n:x}`.
+pub fn hex_number(page: &mut Page, n: u64, width: usize) {
+    let mut digits = [0; 16];
+    let k = io::hex(n, width, &mut digits);
+    text(page, &digits[..k]);
+}
+
+const DIGITS: &[u8; 16] = b"0123456789abcdef";
+
+// Two digits. By `{b:02x}` a dump takes up to twice as long, and a large binary four times.
+pub fn hex_byte(page: &mut Page, b: u8) {
+    let n = usize::from(b);
+    text(page, &[DIGITS[n / 16], DIGITS[n % 16]]);
+}
+
 pub fn hex(page: &mut Page, bytes: &[u8]) {
     for b in bytes {
-        let _ = write!(page, "{b:02x}");
+        hex_byte(page, *b);
     }
 }
 

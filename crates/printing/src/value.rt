@@ -37,7 +37,9 @@ fn print_bits(page: &mut Page, bits: u64) {
     let mut text = [0u8; 32];
     let n = floats::text(bits, &mut text);
     print::text(page, &text[..n]);
-    let _ = write!(page, " ({bits:016x})");
+    print::text(page, b" (");
+    print::hex_number(page, bits, 16);
+    print::text(page, b")");
 }
 
 // A NaN does not come as a float.

@@ -10,10 +10,13 @@ use shortest::shortest;
 mod limbs;
 mod shortest;
 
-// A text as it is written, in room for the longest: a sign, 17 digits, a point and an exponent.
+// Room for the longest text: a sign, 17 digits, a point and an exponent.
+pub type Text = [u8; 32];
+
+// A text as it is written.
 #[derive(Drop)]
 struct Buffer {
-    bytes: [u8; 32],
+    bytes: Text,
     len: usize,
     ghost inside: { len ≤ length bytes },
 }
@@ -95,7 +98,7 @@ impl Buffer {
 
     // A float that is finite and not 0, without its sign.
     fn finite(&mut self, bits: u64) {
-        let shown = shortest(bits).unwrap_or_default();
+        let shown = shortest(bits);
         let mut digits = [0; 20];
         let n = io::decimal(shown.digits, &mut digits);
         self.decimal(&digits[..n], shown.scale);
@@ -117,7 +120,7 @@ impl Buffer {
 }
 
 // Puts the text of the f64 with these bits at the start of out, and answers its length.
-pub fn text(bits: u64, out: &mut [u8; 32]) -> usize
+pub fn text(bits: u64, out: &mut Text) -> usize
     ensures { IsPrefixLen result out.new }
 {
     let mut buffer = Buffer {

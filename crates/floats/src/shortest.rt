@@ -1,7 +1,7 @@
 // The shortest decimal of a float, by long division (Steele and White). The float is r / s, the
 // numbers that round to it reach from r - m to r + plus * m over s, and the digits of r / s are
 // made one by one until the decimal so far, or the next one up, is among them. Where a number
-// outgrows its room, there is no answer.
+// outgrows its room, there is none, and the answer is 0.
 ghost use Rattle.std.specs.Prelude.{◌≡◌, ◌+◌, ◌*◌, ◌<◌, ◌≤◌, ◌^◌, length, IfSome, OnSome};
 ghost use Rattle.floats.specs.Limbs.{value, up_to};
 ghost use Rattle.floats.specs.Shortest.{NextDigit, Settled};
@@ -87,13 +87,20 @@ fn divide(r: &mut [u32], s: &[u32]) -> Option<u64>
     None
 }
 
+// a = k * a, or nothing where that goes over.
+fn grow(a: &mut [u32], k: u32) -> Option<()>
+    ensures { OnSome result (value a.new ≡ k * value a.old) }
+{
+    (times(a, k) == 0).then_some(())
+}
+
 // The next digit of r / s.
 fn next(r: &mut [u32], s: &[u32], m: &mut [u32]) -> Option<u64>
     requires { (length s.now ≡ length r.old) × (length m.old ≡ length r.old) }
     ensures { IfSome result (λ d. (d < 10) × NextDigit (value r.old) (value s.now) (value m.old) d (value r.new) (value m.new)) }
 {
-    times(r, 10)?;
-    times(m, 10)?;
+    grow(r, 10)?;
+    grow(m, 10)?;
     divide(r, s)
 }
 
@@ -149,7 +156,7 @@ fn settle(
         if !reaches(r, s, m, t, gap) {
             return Some(scale);
         }
-        times(s, 10)?;
+        grow(s, 10)?;
     }
     None
 }
@@ -159,7 +166,7 @@ fn raise(a: &mut [u32], base: u32, n: usize) -> Option<()>
     ensures { OnSome result (value a.new ≡ base ^ n * value a.old) }
 {
     for _ in 0..n {
-        times(a, base)?;
+        grow(a, base)?;
     }
     Some(())
 }
@@ -265,9 +272,9 @@ fn mantissa(field: usize, fraction: u64) -> u64
     }
 }
 
-// The shortest decimal that reads back as the float of these bits, which is finite, not 0 and has
-// no sign. Below a power of two the floats lie twice as close.
-pub fn shortest(bits: u64) -> Option<Decimal>
+// The decimal of a float that is finite, not 0 and has no sign. Below a power of two the floats lie
+// twice as close.
+fn decimal_of(bits: u64) -> Option<Decimal>
     ensures { IfSome result (λ d. d.scale < 800) }
 {
     let field = (bits / 4503599627370496 % 2048) as usize;
@@ -294,4 +301,12 @@ pub fn shortest(bits: u64) -> Option<Decimal>
         field,
         gap,
     )
+}
+
+// The shortest decimal that reads back as the float of these bits, which is finite, not 0 and has
+// no sign.
+pub fn shortest(bits: u64) -> Decimal
+    ensures { result.scale < 800 }
+{
+    decimal_of(bits).unwrap_or_default()
 }

@@ -1,8 +1,8 @@
 // What came of a question, and the exit status that says so.
 ghost use Rattle.std.specs.Prelude.{◌≡◌};
-ghost use Rattle.answers.specs.Outcomes.{status_of};
+ghost use Rattle.answers.specs.Outcomes.{status_of, worse_of};
 
-// From the best to the worst: of several, `max` is what they come to.
+// From the best to the worst.
 #[derive(Clone, Copy, Debug, PartialEq, Eq, PartialOrd, Ord)]
 pub enum Outcome {
     // Accepted, written or answered.
@@ -21,4 +21,12 @@ pub fn status(outcome: Outcome) -> i32
         Outcome::Refused => 1,
         Outcome::Failed => 2,
     }
+}
+
+// Of two outcomes the one that matters more.
+#[tactic(auto, unfolding(crate::specs::Outcomes::worse_of))]
+pub fn worse(a: Outcome, b: Outcome) -> Outcome
+    ensures { result ≡ worse_of a b }
+{
+    a.max(b)
 }

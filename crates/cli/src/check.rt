@@ -2,7 +2,7 @@
 use crate::rooms;
 use answers::context::Context;
 use answers::outcome::Outcome;
-use answers::{questions, refusal};
+use answers::{outcome, questions, refusal};
 use inputs::arguments::PlainIndices;
 use inputs::{arguments, command};
 use printing::print::Page;
@@ -62,7 +62,7 @@ fn check_each(
     let mut worst = Outcome::Answered;
     for i in PlainIndices::new(rt).skip(command::INPUT - 1) {
         let next = check_at(rt, page, i, context, room, scratch);
-        worst = worst.max(next);
+        worst = outcome::worse(worst, next);
     }
     worst
 }

@@ -11,7 +11,7 @@ ghost use Rattle.ledgers.specs.Entries.{fill_of, entry_of, ledger_after, entry_o
 
 use answers::context::Context;
 use answers::outcome::Outcome;
-use answers::refusal;
+use answers::{outcome, refusal};
 use printing::print::Page;
 use schema::Fault;
 use tape::Answer;
@@ -113,7 +113,7 @@ fn enter_under(
         let message = tape::part_at(tape, at, step.answer);
         let entered = enter(context, message, step.answer, scratch, id, ledger, fill);
         let outcome = turn_outcome(step.answer, entered);
-        worst = worst.max(outcome);
+        worst = outcome::worse(worst, outcome);
         fill = fill_of(fill, entered);
         at = step.next;
     }

@@ -10,7 +10,7 @@ ghost use Rattle.tapes.specs.Outcomes.{answer_outcome, tape_outcome};
 
 use answers::context::Context;
 use answers::outcome::Outcome;
-use answers::refusal;
+use answers::{outcome, refusal};
 use printing::print;
 use printing::print::Page;
 use schema::Fault;
@@ -142,7 +142,7 @@ fn check_under(
     while at < tape.len() {
         let step = tape::step_under(table, index, store, customer, tape, at, scratch);
         let outcome = say(page, tape, at, step);
-        worst = worst.max(outcome);
+        worst = outcome::worse(worst, outcome);
         totals.count(outcome == Outcome::Refused);
         at = step.next;
     }

@@ -1,4 +1,4 @@
-use mathlib.Core.Path.{◌≡◌, refl, sym, ap, ◌∙◌}
+use mathlib.Core.Path.{refl, sym, ap, ◌∙◌}
 use native.Mathlib.Omega.{arith}
 use lib.ListN.{length}
 use Rattle.opening.specs.Opening.{under}
@@ -21,8 +21,7 @@ loop-at-smaller c = let a = c.args in let x = turn a.context.table.now a.tape.no
 pub loop-at-preserved : goal.loop-at-preserved
 loop-at-preserved c = let a = c.args in let u = under a.context.store.now a.context.customer (length a.scratch.now) in
     let x = turn a.context.table.now a.tape.now a.context.store.now a.context.customer _ _ _ _ c.loop-at.invariant.room c.loop-at-test.true c.step_under-step.ensures.value in
-    let e : c.max-worst.result ≡ worse_of c.loop-at.worst c.say-outcome.result = unfold worse_of in search rules in
-    record { room = search rules; inside = x.within; so_far = c.loop-at.invariant.so_far ∙ outcome-turn a.context.table.now a.tape.now u _ _ _ x ∙ ap (λ (w : Outcome). outcome_from a.context.table.now a.tape.now u w c.step_under-step.result.next) (ap (worse_of c.loop-at.worst) (sym c.say-outcome.ensures) ∙ sym e) }
+    record { room = search rules; inside = x.within; so_far = c.loop-at.invariant.so_far ∙ outcome-turn a.context.table.now a.tape.now u _ _ _ x ∙ ap (λ (w : Outcome). outcome_from a.context.table.now a.tape.now u w c.step_under-step.result.next) (ap (worse_of c.loop-at.worst) (sym c.say-outcome.ensures) ∙ sym c.worse-worst.ensures) }
 
 pub returns : goal.returns
 returns c = let a = c.args in sym (c.loop-at.invariant.so_far ∙ outcome-end a.context.table.now a.tape.now (under a.context.store.now a.context.customer (length a.scratch.now)) _ _ c.loop-at-test.false)

@@ -2,7 +2,7 @@
 // says what they are.
 //
 // The labels are those that crate `layout` gives the message. A byte beyond them has none.
-ghost use Rattle.std.specs.Prelude.{◌≡◌, ◌<◌, ◌≤◌, length, get_or, IfSome};
+ghost use Rattle.std.specs.Prelude.{◌≡◌, ◌<◌, ◌≤◌, length, get_or};
 ghost use Rattle.listing.specs.Fault.{has_no_room, at_fault};
 
 use crate::names;
@@ -157,11 +157,10 @@ fn print_column(page: &mut Page, line: &[u8], marked: Option<usize>) {
     }
 }
 
-// The runs, up to the byte at `mark`, which stands in brackets.
-pub fn print_runs(page: &mut Page, message: &[u8], labels: &[u64], mark: Option<usize>)
-    requires { IfSome mark (λ place. place < length message.now) }
-{
-    let end = mark.map_or(message.len(), |place| place + 1);
+// The runs, up to the byte at `mark`, which stands in brackets. A mark behind them marks none.
+pub fn print_runs(page: &mut Page, message: &[u8], labels: &[u64], mark: Option<usize>) {
+    let length = message.len();
+    let end = mark.map_or(length, |place| length.min(place.saturating_add(1)));
     let mut at = 0;
     while at < end {
         let next = run_end(labels, at, message.len());

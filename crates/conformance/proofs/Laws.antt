@@ -10,7 +10,6 @@ use borrow.Author.Tests.{le-leb}
 use Rattle.wire.specs.Bytes.{splice}
 use Rattle.wire.proofs.Laws.{drop_more, splice-cons, splice-nil}
 use Rattle.opening.specs.Opening.{Under}
-use Rattle.tape.specs.declared.Step.{Step}
 use Rattle.tape.specs.Tape.{tape_step}
 use Rattle.tape.proofs.Whole.{step_past}
 use Rattle.conformance.specs.Room.{filled, adler_from}
@@ -58,5 +57,5 @@ loaded k n got room e h l =
 
 -- A TAPE'S READER
 
-pub moved_on : (t s : List ℕ) (u : Under) (p : ℕ) (x : Step) → x ≡ tape_step t s p u → p < length s → p < x.next
-moved_on t s u p x e h = rw e (step_past t s u p h)
+pub moved_on : (t s : List ℕ) (u : Under) (p next : ℕ) → next ≡ (tape_step t s p u).next → p < length s → p < next
+moved_on t s u p next e h = rw e (step_past t s u p h)

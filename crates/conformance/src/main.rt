@@ -8,7 +8,9 @@ mod print;
 mod record;
 mod room;
 
-ghost use Rattle.std.specs.Prelude.{◌≡◌, ◌%◌, ◌^◌};
+ghost use Rattle.std.specs.Prelude.{IfOk, ◌≡◌, ◌%◌, ◌^◌, length};
+ghost use Rattle.opening.specs.Opening.{under};
+ghost use Rattle.tape.specs.Tape.{tape_step};
 
 use codec::{Ignored, Part};
 use held::{Context, Held};
@@ -245,62 +247,61 @@ fn answer_addition(alloc: Global, record: &Record, store: &mut [u8]) -> Result<S
     format!(in alloc; "{} {}", Verdict(added.err()), adler32(store))
 }
 
-// All steps from a place on; the last finds that the tape has ended. The first ones may be left out.
+// Writes the answer to one step, where it is asked for. Answers where the next one stands.
+fn answer_step(
+    alloc: Global,
+    context: Context,
+    tape: &[u8],
+    at: usize,
+    scratch: &mut [u8],
+    asked: bool,
+) -> Result<usize, AllocError>
+    ensures { IfOk result (λ next. next ≡ (tape_step context.entry.table.now tape.now at (under context.entry.store.now context.entry.customer (length scratch.old))).next) }
+{
+    let Context {
+        table,
+        store,
+        customer,
+    } = context;
+    let step = tape::step_at(table, store, customer, tape, at, scratch);
+    let next = step.next;
+    if asked {
+        let part = tape::part_at(tape, at, step.answer);
+        print::text(&format!(in alloc;
+            "{}",
+            Answer {
+                step,
+                part,
+                scratch
+            }
+        )?);
+    }
+    Ok(next)
+}
+
+// All steps from a place on; the last finds that the tape has ended. The first ones may be left out. They are written as
+// they come, since a tape may have as many as it has words; behind the last one comes the line's end.
 fn answer_tape(
     alloc: Global,
     context: Context,
     record: &Record,
     tape: &[u8],
 ) -> Result<String, AllocError> {
-    let mut line = String::new(alloc);
     let mut scratch = room::lent(alloc, record.scratch)?;
     let mut at = record.field as usize;
     let mut left_out = record.item as usize;
     while at < tape.len() {
-        let step = tape::step_at(
-            context.table,
-            context.store,
-            context.customer,
-            tape,
-            at,
-            &mut scratch,
-        );
-        if left_out == 0 {
-            let part = tape::part_at(tape, at, step.answer);
-            write!(
-                line,
-                "{}; ",
-                Answer {
-                    step,
-                    part,
-                    scratch: &scratch
-                }
-            )?;
+        let asked = left_out == 0;
+        at = answer_step(alloc, context, tape, at, &mut scratch, asked)?;
+        if asked {
+            print::text("; ");
         } else {
             left_out -= 1;
         }
-        at = step.next;
         room::fill(&mut scratch);
     }
-    let step = tape::step_at(
-        context.table,
-        context.store,
-        context.customer,
-        tape,
-        at,
-        &mut scratch,
-    );
-    let part = tape::part_at(tape, at, step.answer);
-    write!(
-        line,
-        "{}",
-        Answer {
-            step,
-            part,
-            scratch: &scratch
-        }
-    )?;
-    Ok(line)
+    answer_step(alloc, context, tape, at, &mut scratch, true)?;
+    Ok(String::new(alloc))
 }
 
 // The answer to a question, by its kind; empty where a buffer to lend is too long.

@@ -6,9 +6,13 @@ use tape::Step;
 
 const STDOUT_FILENO: i32 = 1;
 
-pub fn line(text: &str) {
+pub fn text(text: &str) {
     io::write_all(STDOUT_FILENO, text.as_bytes());
-    io::write_all(STDOUT_FILENO, b"\n");
+}
+
+pub fn line(line: &str) {
+    text(line);
+    text("\n");
 }
 
 // A fault's number and place, both 0 where nothing is refused.

@@ -1,18 +1,18 @@
 -- Laws of words, and of numbers as text.
 use Rattle.std.proofs.Common.{rules, arith, refl, ap, List, [], ◌∷◌, ℕ, ◌≡◌, ◌≢◌, ◌<◌, ◌^◌, Bool, true, false, cond, ◌&&◌, length, get_or, Some, None, Result, Ok, Err}
 use Rattle.std.specs.Bool.{Decides}
-use Rattle.std.specs.List.{starts_with}
+use Rattle.std.specs.List.{IsAnyAnswer, starts_with}
 use Rattle.std.specs.Result.{OkIff, result_ok}
 use Rattle.std.specs.Str.{IsUtf8}
 use Rattle.std.specs.Str.Parse.{ParsesUnsigned}
-use Rattle.std.proofs.lemmas.Bool.Decides.{Decides-eqb}
+use Rattle.std.proofs.lemmas.Bool.Decides.{Decides-eqb, when_true}
 use Rattle.std.proofs.lemmas.Fmt.{IsAscii-from_digits}
 use Rattle.std.proofs.lemmas.Slice.Eq.{compares_Decides, starts_is}
 use Rattle.std.proofs.lemmas.Str.{IsUtf8-from_ascii}
 use Rattle.std.proofs.lemmas.Str.Parse.{IsNumeralModel, numerals_by_fold, not_in_digits, parse_plain}
 use lib.Dec.{eqb, ltb}
 use mathlib.Core.Bool.{and-eq-true_iff}
-use Rattle.std.proofs.lemmas.Bool.{lt-ltb, ltb-true}
+use Rattle.std.proofs.lemmas.Bool.{eqb-true, lt-ltb, ltb-true}
 use Rattle.wire.specs.Bytes.{same}
 use Rattle.inputs.specs.Numbers.{all_digits, value_from, decimal_of}
 
@@ -46,6 +46,11 @@ number-not_text s h = none s (λ d _ _. h (IsUtf8-from_ascii s (IsAscii-from_dig
 pub number-plus : (s : List ℕ) (r : Bool) → r ≡ starts_with eqb s (43 ∷ []) → r ≡ true → None ≡ decimal_of s
 number-plus s r h e =
     none s (λ d l _. not_in_digits numerals s 43 d (λ i. omega (arith, i.0)) 0 l (ap (λ t. get_or t 0 0) ((starts_is Decides-eqb s (43 ∷ []) r h).0 e)))
+
+-- the byte behind the digit 9
+pub number_colon : (s : List ℕ) (r : Bool) → IsAnyAnswer (λ y b. eqb y 58 ≡ b) s r → r ≡ true → None ≡ decimal_of s
+number_colon s r h e =
+    let a = when_true _ _ e h in none s (λ d _ _. not_in_digits numerals s 58 d (λ i. omega (arith, i.1)) a.0 a.1 (eqb-true _ _ (a.2 0)))
 
 no_plus : (s : List ℕ) (r : Bool) → r ≡ starts_with eqb s (43 ∷ []) → r ≡ false → get_or s 0 0 ≢ 43
 no_plus [] r h e f = omega (arith, f)

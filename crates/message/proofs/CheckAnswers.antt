@@ -3,14 +3,16 @@ use Rattle.std.proofs.Common.{Ok, Err, Result, IsErrAnd, ◌≡◌, ℕ, ◌+◌
 use Rattle.std.proofs.lemmas.Result.{err_from_is_err_and}
 use native.Mathlib.Nat.{mod-add-mod}
 use Rattle.schema.specs.declared.Fault.{Fault}
+use Rattle.schema.specs.Faults.{fault_at}
 use Rattle.message.specs.Count.{Count, failed, counted, more, and_then}
 use Rattle.message.specs.Check.{count_by, count_of, after}
+use Rattle.message.specs.declared.failure.Failure.{Failure}
 use Rattle.message.specs.declared.Step.{Step}
 
 -- RETURNS
 
 module _ (F : ℕ → List ℕ) (k : ℕ) (c : Count) where
-  pub refuses : (f : Fault) → c ≡ failed f.number f.place → count_by F (Err f) ≡ after k c
+  pub refuses : (f : Failure) → c ≡ failed f.number f.place → count_by F (Err f) ≡ after k c
   unfolding count_by after
   refuses f e = rw e
 
@@ -44,7 +46,7 @@ module _ (F : ℕ → List ℕ) (k : ℕ) (c : Count) where
           let b : i ≡ F s.taken = cc in
           rw (a, b) (after_more k j (f (F s.taken)))
 
-  pub stopped : (G : ℕ → List ℕ) (e : Fault) (f : List ℕ → Count) → count_by F (Err e) ≡ after k c → count_by G (Err e) ≡ after k (and_then c f)
+  pub stopped : (G : ℕ → List ℕ) (e : Failure) (f : List ℕ → Count) → count_by F (Err e) ≡ after k c → count_by G (Err e) ≡ after k (and_then c f)
   unfolding count_by after and_then
   stopped G e f s = go c s
     where
@@ -61,7 +63,7 @@ module _ (F : ℕ → List ℕ) (k : ℕ) (c : Count) where
       go (counted j i) q = let a : s.length ≡ (k + j) % 2 ^ 64 = cc in omega (arith, a, mod-lt (k + j) {m = 2 ^ 64} (omega arith))
 
 -- what the exit of a `?` returns
-pub exits : {T : Type 0} (r : Result T Fault) (f : Fault) → IsErrAnd r (λ e. e ≡ f) → r ≡ Err f
+pub exits : {T E : Type 0} (r : Result T E) (f : E) → IsErrAnd r (λ e. e ≡ f) → r ≡ Err f
 exits r f h = let p = err_from_is_err_and r h in p.1 ∙ ap Err p.2
 
 -- THE CHECK'S ANSWER
@@ -75,6 +77,6 @@ module _ (k : ℕ) (c : Count) where
   unfolding count_of count_by
   check-accepts s e = e
 
-  pub check-stops : (f : Fault) → count_by (λ _. []) (Err f) ≡ after k c → count_of (Err f) [] ≡ after k c
+  pub check-stops : (f : Failure) → count_by (λ _. []) (Err f) ≡ after k c → count_of (Err (fault_at f.number f.place)) [] ≡ after k c
   unfolding count_of count_by
   check-stops f e = e

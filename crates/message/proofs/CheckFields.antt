@@ -3,7 +3,6 @@ use Rattle.std.proofs.Common.{Ok, Err, ◌≡◌, ℕ, zero, suc, ◌+◌, ◌-�
 use native.Mathlib.Nat.{sub-zero}
 use mir.Val.{bool_byte}
 use borrow.Author.Tests.{eqb-false, not-true, not-false}
-use Rattle.schema.specs.declared.Fault.{Fault}
 use Rattle.schema.specs.Schema.{Kind, plain, inline, any, Field, Group, kind_width, value_width, field_width, fields_of, fields_width, width, shallow_kind, shallow_fields, shallow}
 use Rattle.schema.specs.Table.{field_at, fields_at, field_count, enums, schema}
 use Rattle.schema.specs.Layout.{group_place, Layout}
@@ -19,6 +18,7 @@ use Rattle.message.specs.Sheet.{ST, kind_mark, field_mark}
 use Rattle.settings.specs.declared.Ignored.{Ignored}
 use Rattle.message.specs.Walk.{Here, here, Reader, Inner, byte, locate, indirect_r, inner_r, items_r, list_r, text_r, kind_r, marked_r, optional_r, value_r, field_r, fields_r, static_r}
 use Rattle.message.specs.Count.{Count, failed, counted, count, more, and_then}
+use Rattle.message.specs.declared.failure.Failure.{Failure}
 use Rattle.message.specs.Check.{count_by, after, place_by, Lands, item_r, marked_value_r, Ready}
 use Rattle.message.specs.declared.Step.{Step}
 use Rattle.message.specs.declared.Frame.{Frame}
@@ -30,7 +30,7 @@ use Rattle.message.proofs.CheckValues.{plain-counts}
 -- BEHIND AN OFFSET
 
 module _ (past w : ℕ) (inside : ℕ → Reader) (h : Here) (at : ℕ) (m : List ℕ) (F : ℕ → List ℕ) where
-  pub leads-nowhere : (f : Fault) → place_by F (Err f) ≡ locate past w h at m → count (indirect_r past w inside h at m) ≡ failed f.number f.place
+  pub leads-nowhere : (f : Failure) → place_by F (Err f) ≡ locate past w h at m → count (indirect_r past w inside h at m) ≡ failed f.number f.place
   unfolding place_by
   leads-nowhere f s = count-lost h at m past w inside f.number f.place (sym s)
 
@@ -50,7 +50,7 @@ module _ (I : Inner) (sw : ℕ → ℕ) (S : ℕ → Reader) (es : List (List �
         → after k (count (fields_r I sw S (fields_at es (n - i) (drop q t)) h at m)) ≡ after s.length (count (fields_r I sw S (fields_at es (n - (i + 1)) (drop (q + 16) t)) h (at + w) (F s.taken)))
     fields-passed s w e iw = rw (fields-turn l, iw) (passed F k _ s _ e)
 
-    pub fields-stopped : (G : ℕ → List ℕ) (f : Fault) → count_by F (Err f) ≡ after k (count (field_r I sw S (field_at es (drop q t)) h at m))
+    pub fields-stopped : (G : ℕ → List ℕ) (f : Failure) → count_by F (Err f) ≡ after k (count (field_r I sw S (field_at es (drop q t)) h at m))
         → count_by G (Err f) ≡ after k (count (fields_r I sw S (fields_at es (n - i) (drop q t)) h at m))
     fields-stopped G f e = rw (fields-turn l) (stopped F k _ G f _ e)
 
@@ -127,7 +127,7 @@ module _ (I : Inner) (sw : ℕ → ℕ) (S : ℕ → Reader) (f : Field) (h : He
         unfolding value_r
         sequence-is = count-marked h at m (field_mark f) (value_r I sw S f) ∙ rw (iw, ix, e)
 
-        pub sequence-nowhere : (l : Fault) → place_by F (Err l) ≡ locate 13 w h at m → count (marked_value_r I sw S f h at m) ≡ failed l.number l.place
+        pub sequence-nowhere : (l : Failure) → place_by F (Err l) ≡ locate 13 w h at m → count (marked_value_r I sw S f h at m) ≡ failed l.number l.place
         unfolding more
         sequence-nowhere l s = sequence-is ∙ ap (more 2) (leads-nowhere 13 w (list_r w (item_r I S x)) h at m F l s)
 
@@ -153,7 +153,7 @@ module _ (w : ℕ) (R : Reader) (h : Here) (n i at k : ℕ) (m : List ℕ) where
     pub items-passed : (s : Step) → count_by F (Ok s) ≡ after k (count (R h at m)) → after k (count (items_r w R (n - i) h at m)) ≡ after s.length (count (items_r w R (n - (i + 1)) h (at + w) (F s.taken)))
     items-passed s e = rw (items-turn l) (passed F k _ s _ e)
 
-    pub items-stopped : (G : ℕ → List ℕ) (f : Fault) → count_by F (Err f) ≡ after k (count (R h at m)) → count_by G (Err f) ≡ after k (count (items_r w R (n - i) h at m))
+    pub items-stopped : (G : ℕ → List ℕ) (f : Failure) → count_by F (Err f) ≡ after k (count (R h at m)) → count_by G (Err f) ≡ after k (count (items_r w R (n - i) h at m))
     items-stopped G f e = rw (items-turn l) (stopped F k _ G f _ e)
 
   pub items-end : (F : ℕ → List ℕ) (s : Step) → F s.taken ≡ m → s.length ≡ k → n ≤ i → k < 2 ^ 64 → count_by F (Ok s) ≡ after k (count (items_r w R (n - i) h at m))

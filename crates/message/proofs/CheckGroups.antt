@@ -3,7 +3,6 @@ use Rattle.std.proofs.Common.{Ok, Err, ◌≡◌, ℕ, zero, suc, ◌+◌, ◌-�
 use borrow.Author.Tests.{lt-leb}
 use Rattle.wire.specs.Bytes.{part, splice, le}
 use Rattle.wire.proofs.Laws.{length_part, splice-nil}
-use Rattle.schema.specs.declared.Fault.{Fault}
 use Rattle.schema.specs.Faults.{need}
 use Rattle.schema.specs.Schema.{Group, text_ok, width, find, known, allows}
 use Rattle.message.specs.Occupancy.{pads_zero, pads_before, occupy}
@@ -11,6 +10,7 @@ use Rattle.message.specs.Sheet.{GB, XT, XU, GE}
 use Rattle.settings.specs.declared.Ignored.{Ignored}
 use Rattle.message.specs.Walk.{Reading, refused, done, prefixed, next, Here, here, Inner, word, locate, indirect_r, inner_r, items_r, list_r, text_r, static_r, extending_r, groups_r, extension_r, extension_in, behind_r, padded, body_r, head_r, group_r, walk}
 use Rattle.message.specs.Count.{Count, failed, counted, count, more, and_then}
+use Rattle.message.specs.declared.failure.Failure.{Failure}
 use Rattle.message.specs.Check.{packed, occupancy_of, closing, count_by, after, place_by}
 use Rattle.message.specs.declared.Step.{Step}
 use Rattle.message.specs.declared.Found.{Found}
@@ -39,7 +39,7 @@ module _ (gs : List Group) (I : Inner) (h : Here) (at : ℕ) (m : List ℕ) wher
     unfolding extension_r
     extension-is = rw (ne_eqb _ _ e)
 
-    pub extension-nowhere : (f : Fault) → place_by F (Err f) ≡ locate 13 4 h at m → count (extension_r gs I h at m) ≡ failed f.number f.place
+    pub extension-nowhere : (f : Failure) → place_by F (Err f) ≡ locate 13 4 h at m → count (extension_r gs I h at m) ≡ failed f.number f.place
     extension-nowhere f s = ap count extension-is ∙ leads-nowhere 13 4 (groups_r gs I) h at m F f s
 
     module _ (f : Found) (s : place_by F (Ok f) ≡ locate 13 4 h at m) where

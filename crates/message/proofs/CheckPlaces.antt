@@ -4,13 +4,13 @@ use Rattle.std.proofs.lemmas.Result.{IfOk-weaker}
 use mathlib.Core.Bool.{and_assoc, and-true}
 use borrow.Author.Tests.{lt-leb}
 use Rattle.wire.proofs.Laws.{drop_more}
-use Rattle.schema.specs.declared.Fault.{Fault}
-use Rattle.schema.specs.Faults.{fault_at, need}
+use Rattle.schema.specs.Faults.{need}
 use Rattle.message.specs.Occupancy.{free, occupy, pads_zero, pads_before}
 use Rattle.message.proofs.CheckOccupancy.{occupy-twice}
 use Rattle.settings.specs.declared.Ignored.{Ignored}
 use Rattle.message.specs.Walk.{lost, found, here, word, in_area, locate}
 use Rattle.message.specs.Check.{place_by, Claims, Lands}
+use Rattle.message.specs.declared.failure.Failure.{Failure}
 use Rattle.message.specs.declared.Found.{Found}
 
 pub small : (n w : ℕ) → n < 2 ^ 32 → w ≤ 4096 → n * w ≤ 17592186044416
@@ -22,29 +22,30 @@ module _ (F : ℕ → List ℕ) where
   pub claims-at : (p n k : ℕ) (s : ℕ) (m : List ℕ) → occupy p k m ≡ F s → p + k ≤ length m → Claims F p n k (record { place = p; count = n; taken = s })
   claims-at p n k s m e l = record { place = refl; word = refl; taken = rw (← e) (occupy-twice p k m l) }
 
-  pub lands-claim : (w : ℕ) (b : List ℕ) (p n k : ℕ) (r : Result Found Fault) → IfOk r (Claims F p n k) → n < 2 ^ 32 → k ≡ 4 + n * w → p + k ≤ length b → IfOk r (Lands F w b)
+  pub lands-claim : (w : ℕ) (b : List ℕ) (p n k : ℕ) (r : Result Found Failure) → IfOk r (Claims F p n k) → n < 2 ^ 32 → k ≡ 4 + n * w → p + k ≤ length b → IfOk r (Lands F w b)
   lands-claim w b p n k r C h e l =
       IfOk-weaker r (Claims F p n k) (Lands F w b) (λ f C. record { four = rw C.word h; inside = rw (C.place, C.word, ← e) l; taken = rw (C.place, C.word, ← e) C.taken }) C
 
 -- LOCATE
 
 module _ (y : Ignored) (F : ℕ → List ℕ) (past w : ℕ) (b : List ℕ) (base area at : ℕ) (m : List ℕ) (o p n k : ℕ) (io : o ≡ word at b) (ip : p ≡ at + o) where
-  pub low : p < area → place_by F (Err (fault_at 5 (base + at))) ≡ locate past w (here y b base area) at m
-  unfolding place_by locate need in_area
-  low h = rw (← io, ← ip, lt-leb area p h)
+  module _ (f : Failure) where
+    pub low : f.number ≡ 5 → f.place ≡ base + at → p < area → place_by F (Err f) ≡ locate past w (here y b base area) at m
+    unfolding place_by locate need in_area
+    low fn fp h = rw (fn, fp, ← io, ← ip, lt-leb area p h)
 
-  pub high : area ≤ p → length b ≤ p → place_by F (Err (fault_at 5 (base + at))) ≡ locate past w (here y b base area) at m
-  unfolding place_by locate need in_area
-  high h k = rw (← io, ← ip, le-leb area p h, le-ltb p (length b) k)
+    pub high : f.number ≡ 5 → f.place ≡ base + at → area ≤ p → length b ≤ p → place_by F (Err f) ≡ locate past w (here y b base area) at m
+    unfolding place_by locate need in_area
+    high fn fp h k = rw (fn, fp, ← io, ← ip, le-leb area p h, le-ltb p (length b) k)
 
-  pub cut : area ≤ p → p < length b → length b < p + 4 → place_by F (Err (fault_at 26 (base + p))) ≡ locate past w (here y b base area) at m
-  unfolding place_by locate need in_area
-  cut h k l = rw (← io, ← ip, le-leb area p h, lt-ltb p (length b) k, lt-leb (p + 4) (length b) l)
+    pub cut : f.number ≡ 26 → f.place ≡ base + p → area ≤ p → p < length b → length b < p + 4 → place_by F (Err f) ≡ locate past w (here y b base area) at m
+    unfolding place_by locate need in_area
+    cut fn fp h k l = rw (fn, fp, ← io, ← ip, le-leb area p h, lt-ltb p (length b) k, lt-leb (p + 4) (length b) l)
 
   module _ (h : area ≤ p) (g : p < length b) (l : p + 4 ≤ length b) (in' : n ≡ word p b) (ik : k ≡ 4 + n * w) where
-    pub over : length b < p + k → place_by F (Err (fault_at past (base + p))) ≡ locate past w (here y b base area) at m
+    pub over : (f : Failure) → f.number ≡ past → f.place ≡ base + p → length b < p + k → place_by F (Err f) ≡ locate past w (here y b base area) at m
     unfolding place_by locate need in_area
-    over q = rw (← io, ← ip, ← in', ← ik, le-leb area p h, lt-ltb p (length b) g, le-leb (p + 4) (length b) l, lt-leb (p + k) (length b) q)
+    over f fn fp q = rw (fn, fp, ← io, ← ip, ← in', ← ik, le-leb area p h, lt-ltb p (length b) g, le-leb (p + 4) (length b) l, lt-leb (p + k) (length b) q)
 
     pub claims : p + k ≤ length b → need (free p k m) (lost 27 (base + p)) (found p n (occupy p k m)) ≡ locate past w (here y b base area) at m
     unfolding locate need in_area
@@ -53,9 +54,9 @@ module _ (y : Ignored) (F : ℕ → List ℕ) (past w : ℕ) (b : List ℕ) (bas
 -- CLAIM
 
 module _ (F : ℕ → List ℕ) (base p n k : ℕ) (m : List ℕ) where
-  pub claim-shared : free p k m ≡ false → place_by F (Err (fault_at 27 (base + p))) ≡ need (free p k m) (lost 27 (base + p)) (found p n (occupy p k m))
+  pub claim-shared : (f : Failure) → f.number ≡ 27 → f.place ≡ base + p → free p k m ≡ false → place_by F (Err f) ≡ need (free p k m) (lost 27 (base + p)) (found p n (occupy p k m))
   unfolding place_by need
-  claim-shared e = rw e
+  claim-shared f fn fp e = rw (fn, fp, e)
 
   pub claim-free : (s : ℕ) → free p k m ≡ true → occupy p k m ≡ F s → place_by F (Ok (record { place = p; count = n; taken = s })) ≡ need (free p k m) (lost 27 (base + p)) (found p n (occupy p k m))
   unfolding place_by need

@@ -1,6 +1,6 @@
 -- Both scopes of a group: how it is opened, and how it is closed.
 use Rattle.std.proofs.Common.{Ok, Err, Result, ◌≡◌, ℕ, ◌+◌, ◌*◌, ◌^◌, ◌<◌, ◌≤◌, List, [], sym, refl, ap, subst, arith}
-use Rattle.schema.specs.declared.Fault.{Fault}
+use Rattle.message.specs.declared.failure.Failure.{Failure}
 use Rattle.schema.specs.declared.Scope.{Scope}
 use Rattle.schema.specs.declared.Scope.TheVariants.{Whole, Fields}
 use Rattle.message.specs.Walk.{Here}
@@ -30,7 +30,7 @@ module _ (o f : Frame) where
   inside-long (Fields g) i n l a e = absurd (let c : ◌≡◌ {A = ℕ} 0 1 = cc in omega arith)
 
   -- the occupancy that goes out is that of the frame around it
-  pub inside-left : (z : Scope) → Inside z o f → (m : List ℕ) (r : Result Step Fault) → count_by (λ s. left_of z o.area s m) r ≡ count_by (λ s. left_of z f.area s m) r
+  pub inside-left : (z : Scope) → Inside z o f → (m : List ℕ) (r : Result Step Failure) → count_by (λ s. left_of z o.area s m) r ≡ count_by (λ s. left_of z f.area s m) r
   inside-left (Whole a) i m r = refl
   inside-left (Fields g) i m r = rw i refl
 
@@ -42,11 +42,11 @@ module _ (t i b m : List ℕ) (o : Frame) (d at k : ℕ) (z : Scope) where
     unfolding Opens
     opens-begun g h = h
 
-    pub opens-refused : (f : Fault) → Opens t i b m o d z at k c (Err f) → c ≡ failed f.number f.place
+    pub opens-refused : (f : Failure) → Opens t i b m o d z at k c (Err f) → c ≡ failed f.number f.place
     unfolding Opens
     opens-refused f h = h
 
-  pub opens-dynamic : (a : ℕ) → z ≡ Whole a → Lies t d z b at → (s : List ℕ) (r : Result Begun Fault) → Opens t i b m o 5 (Whole a) 16 k (count (inner_of (ignored_in o.rules) t (levels_in o.rules) a o.base b)) r
+  pub opens-dynamic : (a : ℕ) → z ≡ Whole a → Lies t d z b at → (s : List ℕ) (r : Result Begun Failure) → Opens t i b m o 5 (Whole a) 16 k (count (inner_of (ignored_in o.rules) t (levels_in o.rules) a o.base b)) r
       → Opens t i b m o d z at k (count (group_of t (levels_in o.rules) d z (within b o) at s)) r
   opens-dynamic a e F s r h =
       subst (λ z. Lies t d z b at → Opens t i b m o d z at k (count (group_of t (levels_in o.rules) d z (within b o) at s)) r) (sym e) (λ F. rw (F.0, F.1) h) F
@@ -64,7 +64,7 @@ module _ (t i b m : List ℕ) (o : Frame) (d at k : ℕ) (z : Scope) where
 -- CLOSED
 
 module _ (t : List ℕ) (n : ℕ) (h : Here) (m : List ℕ) (area : ℕ) (x : List ℕ) (k : ℕ) (z : Scope) where
-  pub closes-dynamic : (a : ℕ) → z ≡ Whole a → (r : Result Step Fault) → count_by (λ _. []) r ≡ after k (behind_of t n (Whole a) h m) → count_by (λ s. left_of z area s x) r ≡ after k (behind_of t n z h m)
+  pub closes-dynamic : (a : ℕ) → z ≡ Whole a → (r : Result Step Failure) → count_by (λ _. []) r ≡ after k (behind_of t n (Whole a) h m) → count_by (λ s. left_of z area s x) r ≡ after k (behind_of t n z h m)
   closes-dynamic a e r q = subst (λ z. count_by (λ s. left_of z area s x) r ≡ after k (behind_of t n z h m)) (sym e) q
 
   pub closes-static : (g : ℕ) → z ≡ Fields g → (s : ℕ) → m ≡ occupancy_of area s x → k < 2 ^ 64 → count_by (λ s. left_of z area s x) (Ok (record { length = k; taken = s })) ≡ after k (behind_of t n z h m)

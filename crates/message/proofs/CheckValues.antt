@@ -4,6 +4,7 @@ use borrow.Author.Tests.{lt-leb}
 use Rattle.wire.specs.Bytes.{part, bytes_of, all_zero, zeros}
 use Rattle.wire.proofs.Laws.{length_part, length-bytes}
 use Rattle.schema.specs.declared.Fault.{Fault}
+use Rattle.message.specs.declared.failure.Failure.{Failure}
 use Rattle.schema.specs.Faults.{fault_at, judged, need}
 use Rattle.schema.specs.Schema.{Test, any, flag, below, symbol, passes, test_fault, text_ok, plain, inline, kind_width}
 use Rattle.schema.specs.FieldKinds.{tested_kind, kind_fault}
@@ -122,7 +123,7 @@ module _ (y : Ignored) (I : Inner) (S : ℕ → Reader) (b : List ℕ) (base are
 -- INDIRECT TEXT
 
 module _ (y : Ignored) (u : Bool) (b : List ℕ) (base area at : ℕ) (m : List ℕ) (F : ℕ → List ℕ) where
-  pub text-lost : (f : Fault) → place_by F (Err f) ≡ locate 26 1 (here y b base area) at m → count (marked_r ST (indirect_r 26 1 (text_r u)) (here y b base area) at m) ≡ failed f.number f.place
+  pub text-lost : (f : Failure) → place_by F (Err f) ≡ locate 26 1 (here y b base area) at m → count (marked_r ST (indirect_r 26 1 (text_r u)) (here y b base area) at m) ≡ failed f.number f.place
   unfolding place_by more
   text-lost f s =
       count-marked (here y b base area) at m ST (indirect_r 26 1 (text_r u))

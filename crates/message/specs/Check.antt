@@ -10,6 +10,7 @@ use Rattle.message.specs.Occupancy.{occupy, pads_zero, pads_before}
 use Rattle.message.specs.Sheet.{kind_mark, field_mark}
 use Rattle.message.specs.Walk.{Here, here, Reader, Inner, Place, lost, found, marked_r, kind_r, value_r, static_r, group_r}
 use Rattle.message.specs.Count.{Count, failed, counted}
+use Rattle.message.specs.declared.failure.Failure.{Failure}
 use Rattle.message.specs.declared.Step.{Step}
 use Rattle.message.specs.declared.Found.{Found}
 use Rattle.message.specs.declared.Frame.{Frame}
@@ -41,7 +42,7 @@ occupancy_of a s m = occupy a (min (packed s) (length m) - a) (cond (scattered s
 -- ANSWERS
 
 -- The answer of a step of the walk; F gives the occupancy of what is taken.
-unfoldable pub count_by : (ℕ → List ℕ) → Result Step Fault → Count
+unfoldable pub count_by : (ℕ → List ℕ) → Result Step Failure → Count
 count_by F (Ok s) = counted s.length (F s.taken)
 count_by F (Err f) = failed f.number f.place
 
@@ -56,7 +57,7 @@ after k (failed n p) = failed n p
 after k (counted j m) = counted ((k + j) % 2 ^ 64) m
 
 -- Where an offset leads.
-unfoldable pub place_by : (ℕ → List ℕ) → Result Found Fault → Place
+unfoldable pub place_by : (ℕ → List ℕ) → Result Found Failure → Place
 place_by F (Ok f) = found f.place f.count (F f.taken)
 place_by F (Err f) = lost f.number f.place
 

@@ -2,12 +2,12 @@
 use Rattle.std.specs.Prelude.{Ok, Err, Result, ◌≡◌, ℕ, ◌+◌, ◌<◌, ◌≤◌, true, List, [], length}
 use Rattle.schema.specs.Schema.{shallow}
 use Rattle.schema.specs.Table.{schema}
-use Rattle.schema.specs.declared.Fault.{Fault}
 use Rattle.schema.specs.declared.Scope.{Scope}
 use Rattle.schema.specs.declared.Scope.TheVariants.{Whole, Fields}
 use Rattle.message.specs.Walk.{Here, Reader, extension_r}
 use Rattle.message.specs.Count.{Count, failed, counted, count, and_then}
 use Rattle.message.specs.Check.{levels_in, ignored_in, occupancy_of, closing, after, within, inner_of, width_of, static_of, Ready}
+use Rattle.message.specs.declared.failure.Failure.{Failure}
 use Rattle.message.specs.declared.Frame.{Frame}
 use Rattle.message.specs.declared.Begun.{Begun}
 
@@ -44,6 +44,6 @@ pub record Begins (t i b m : List ℕ) (o : Frame) (d : ℕ) (z : Scope) (at k :
   pub counts : after k c ≡ after g.length (and_then (count (static_of (ignored_in g.frame.rules) t (levels_in g.frame.rules) d g.group (within b g.frame) at (occupancy_of g.frame.area g.taken m))) (behind_of t (levels_in g.frame.rules) z (within b g.frame)))
 
 -- It is opened: begun, or refused by its first fault.
-unfoldable pub Opens : List ℕ → List ℕ → List ℕ → List ℕ → Frame → ℕ → Scope → ℕ → ℕ → Count → Result Begun Fault → Type 0
+unfoldable pub Opens : List ℕ → List ℕ → List ℕ → List ℕ → Frame → ℕ → Scope → ℕ → ℕ → Count → Result Begun Failure → Type 0
 Opens t i b m o d z at k c (Ok g) = Begins t i b m o d z at k c g
 Opens t i b m o d z at k c (Err f) = c ≡ failed f.number f.place

@@ -5,6 +5,8 @@
 // that of crate `schema`. Functions count the sheet's length on from `before`, what comes before them.
 #![tactic(auto)]
 
+mod failure;
+
 ghost use Rattle.std.specs.Prelude.{IfOk, ◌≡◌, ℕ, ◌+◌, ◌-◌, ◌*◌, ◌%◌, ◌^◌, ◌<◌, ◌≤◌, min, max, true, not, ◌&&◌, ◌||◌, List, [], length, drop, replicate, if◌then◌else◌, ◌==◌, ◌≢◌};
 ghost use Rattle.wire.specs.Bytes.{part, splice, all_zero};
 ghost use Rattle.schema.specs.Faults.{need};
@@ -22,6 +24,7 @@ ghost use Rattle.message.specs.Check.{levels_in, ignored_in, packed, scattered, 
 ghost use Rattle.message.specs.declared.Frame.{Frame};
 ghost use Rattle.message.specs.Scopes.{group_of, behind_of, left_of, Lies, Opens};
 
+use failure::Failure;
 use schema::{Fault, FieldKind, Scope, Tested};
 use settings::Ignored;
 
@@ -114,19 +117,19 @@ fn locate(
     at: usize,
     past: u8,
     width: usize,
-) -> Result<Found, Fault>
+) -> Result<Found, Failure>
     requires { (length occupied.old ≡ length bytes.now) × (frame.base + length bytes.now ≤ 65536) × (frame.area ≤ length bytes.now) × (at + 4 ≤ length bytes.now) × (width ≤ 4096) }
     ensures { (place_by (λ s. occupancy_of frame.area s occupied.new) result ≡ locate past width (within bytes.now frame) at (occupancy_of frame.area taken occupied.old)) × IfOk result (Lands (λ s. occupancy_of frame.area s occupied.new) width bytes.now) }
 {
     let place = at + wire::read_u32(bytes, at);
     if place < frame.area || bytes.len() <= place {
-        return Err(Fault {
+        return Err(Failure {
             number: 5,
             place: frame.base + at,
         });
     }
     if bytes.len() < place + 4 {
-        return Err(Fault {
+        return Err(Failure {
             number: 26,
             place: frame.base + place,
         });
@@ -134,8 +137,8 @@ fn locate(
     let count = wire::read_u32(bytes, place);
     let size = 4 + count * width;
     if bytes.len() < place + size {
-        return Err(Fault {
-            number: past,
+        return Err(Failure {
+            number: usize::from(past),
             place: frame.base + place,
         });
     }
@@ -150,19 +153,19 @@ fn claim(
     place: usize,
     count: usize,
     size: usize,
-) -> Result<Found, Fault>
+) -> Result<Found, Failure>
     requires { (frame.area ≤ place) × (1 ≤ size) × (place + size ≤ length occupied.old) × (frame.base + length occupied.old ≤ 65536) }
     ensures { (place_by (λ s. occupancy_of frame.area s occupied.new) result ≡ need (free place size (occupancy_of frame.area taken occupied.old)) (lost 27 (frame.base + place)) (found place count (occupy place size (occupancy_of frame.area taken occupied.old)))) × IfOk result (Claims (λ s. occupancy_of frame.area s occupied.new) place count size) }
 {
     if place < packed_end(taken) {
-        return Err(Fault {
+        return Err(Failure {
             number: 27,
             place: frame.base + place,
         });
     }
     if SCATTERED <= taken {
         if !wire::all_zero(occupied, place, size) {
-            return Err(Fault {
+            return Err(Failure {
                 number: 27,
                 place: frame.base + place,
             });
@@ -291,7 +294,7 @@ fn check_pads(
     frame: Frame,
     taken: usize,
     before: usize,
-) -> Result<Step, Fault>
+) -> Result<Step, Failure>
     requires { (length occupied.old ≡ length bytes.now) × (frame.base + length bytes.now ≤ 65536) × (frame.area ≤ length bytes.now) }
     ensures { count_by (λ _. []) result ≡ after before (closing (within bytes.now frame) (occupancy_of frame.area taken occupied.old)) }
 {
@@ -307,7 +310,7 @@ fn check_pads(
             taken,
         });
     }
-    Err(Fault {
+    Err(Failure {
         number: 6,
         place: frame.base + frame.area + bad_pad(occupied, bytes, frame.area, taken),
     })
@@ -325,7 +328,7 @@ fn check_number(
     at: usize,
     taken: usize,
     before: usize,
-) -> Result<Step, Fault>
+) -> Result<Step, Failure>
     requires { (Layout table.now index.now) × (at + kind_width (width_in index.now) (tested_kind (enums table.now) tested) ≤ length bytes.now) × (base + length bytes.now ≤ 65536) }
     ensures { (x : Ignored) (I : Inner) (S : ℕ → Reader) (area : ℕ) (F : ℕ → List ℕ) → count_by F result ≡ after before (count (item_r I S (tested_kind (enums table.now) tested) (here x bytes.now base area) at (F taken))) }
 {
@@ -348,7 +351,7 @@ fn check_numbers(
     at: usize,
     taken: usize,
     before: usize,
-) -> Result<Step, Fault>
+) -> Result<Step, Failure>
     requires { (Layout table.now index.now) × (at + total * kind_width (width_in index.now) (tested_kind (enums table.now) tested) ≤ length bytes.now) × (base + length bytes.now ≤ 65536) }
     ensures { (x : Ignored) (I : Inner) (S : ℕ → Reader) (area : ℕ) (F : ℕ → List ℕ) → count_by F result ≡ after before (count (items_r (kind_width (width_in index.now) (tested_kind (enums table.now) tested)) (item_r I S (tested_kind (enums table.now) tested)) total (here x bytes.now base area) at (F taken))) }
 {
@@ -383,27 +386,27 @@ fn check_inline(
     at: usize,
     taken: usize,
     before: usize,
-) -> Result<Step, Fault>
+) -> Result<Step, Failure>
     requires { (at + (capacity + 1) ≤ length bytes.now) × (frame.base + length bytes.now ≤ 65536) }
     ensures { (I : Inner) (S : ℕ → Reader) (F : ℕ → List ℕ) → count_by F result ≡ after before (count (item_r I S (inline utf8 capacity) (within bytes.now frame) at (F taken))) }
 {
     let room = usize::from(capacity);
     let count = usize::from(bytes[at]);
     if room < count {
-        return Err(Fault {
+        return Err(Failure {
             number: 7,
             place: frame.base + at,
         });
     }
     let end = at + 1 + count;
     if !is_blank(ignores_unused(frame.rules), bytes, end, room - count) {
-        return Err(Fault {
+        return Err(Failure {
             number: 8,
             place: frame.base + end + wire::count_zeros(bytes, end, room - count),
         });
     }
     if !schema::is_text(utf8, bytes, at + 1, count) {
-        return Err(Fault {
+        return Err(Failure {
             number: 9,
             place: frame.base + (at + 1),
         });
@@ -424,14 +427,14 @@ fn check_text(
     at: usize,
     taken: usize,
     before: usize,
-) -> Result<Step, Fault>
+) -> Result<Step, Failure>
     requires { (length occupied.old ≡ length bytes.now) × (frame.base + length bytes.now ≤ 65536) × (frame.area ≤ length bytes.now) × (at + 4 ≤ length bytes.now) }
     ensures { count_by (λ s. occupancy_of frame.area s occupied.new) result ≡ after before (count (marked_r ST (indirect_r 26 1 (text_r utf8)) (within bytes.now frame) at (occupancy_of frame.area taken occupied.old))) }
 {
     let found = locate(bytes, occupied, frame, taken, at, 26, 1)?;
     let text = found.place + 4;
     if !schema::is_text(utf8, bytes, text, found.count) {
-        return Err(Fault {
+        return Err(Failure {
             number: 9,
             place: frame.base + text,
         });
@@ -451,7 +454,7 @@ fn check_texts(
     at: usize,
     taken: usize,
     before: usize,
-) -> Result<Step, Fault>
+) -> Result<Step, Failure>
     requires { (length occupied.old ≡ length bytes.now) × (frame.base + length bytes.now ≤ 65536) × (frame.area ≤ length bytes.now) × (at + total * 4 ≤ length bytes.now) }
     ensures { count_by (λ s. occupancy_of frame.area s occupied.new) result ≡ after before (count (items_r 4 (marked_r ST (indirect_r 26 1 (text_r utf8))) total (within bytes.now frame) at (occupancy_of frame.area taken occupied.old))) }
 {
@@ -475,12 +478,12 @@ fn check_absent(
     width: usize,
     taken: usize,
     before: usize,
-) -> Result<Step, Fault>
+) -> Result<Step, Failure>
     requires { (byte at bytes.now ≢ 1) × (at + (width + 1) ≤ length bytes.now) × (frame.base + length bytes.now ≤ 65536) }
     ensures { (k : Mark) (R : Reader) (F : ℕ → List ℕ) → count_by F result ≡ after before (count (optional_r k width R (within bytes.now frame) at (F taken))) }
 {
     if bytes[at] != 0 {
-        return Err(Fault {
+        return Err(Failure {
             number: 11,
             place: frame.base + at,
         });
@@ -491,7 +494,7 @@ fn check_absent(
             taken,
         });
     }
-    Err(Fault {
+    Err(Failure {
         number: 4,
         place: frame.base + (at + 1) + wire::count_zeros(bytes, at + 1, width),
     })
@@ -547,7 +550,7 @@ fn check_group(
     at: usize,
     taken: usize,
     before: usize,
-) -> Result<Step, Fault>
+) -> Result<Step, Failure>
     requires { (Ready table.now index.now bytes.now occupied.old outer) × (Lies table.now depth scope bytes.now at) }
     ensures { count_by (λ s. left_of scope outer.area s occupied.new) result ≡ after before (count (group_of table.now (levels_in outer.rules) depth scope (within bytes.now outer) at (occupancy_of outer.area taken occupied.old))) }
 {
@@ -585,7 +588,7 @@ fn open_group(
     scope: Scope,
     taken: usize,
     before: usize,
-) -> Result<Begun, Fault>
+) -> Result<Begun, Failure>
     requires { (Layout table.now index.now) × (frame.base + length bytes.now ≤ 65536) }
     ensures { (m : List ℕ) (d at : ℕ) → Ready table.now index.now bytes.now m frame → Lies table.now d scope bytes.now at → Opens table.now index.now bytes.now m frame d scope at before (count (group_of table.now (levels_in frame.rules) d scope (within bytes.now frame) at (occupancy_of frame.area taken m))) result }
 {
@@ -609,12 +612,12 @@ fn open_dynamic(
     frame: Frame,
     allowed: usize,
     before: usize,
-) -> Result<Begun, Fault>
+) -> Result<Begun, Failure>
     requires { (Layout table.now index.now) × (frame.base + length bytes.now ≤ 65536) }
     ensures { (m : List ℕ) (o : Frame) → length m ≡ length bytes.now → (levels_in o.rules) ≡ (levels_in frame.rules) → Opens table.now index.now bytes.now m o 5 (Whole allowed) 16 before (count (inner_of (ignored_in frame.rules) table.now (levels_in frame.rules) allowed frame.base bytes.now)) result }
 {
     if bytes.len() < 16 {
-        return Err(Fault {
+        return Err(Failure {
             number: 1,
             place: frame.base,
         });
@@ -622,19 +625,19 @@ fn open_dynamic(
     let total = schema::group_total(index);
     let group = schema::find(table, index, total, wire::read_u64(bytes, 4));
     if total <= group {
-        return Err(Fault {
+        return Err(Failure {
             number: 2,
             place: frame.base,
         });
     }
     if !schema::allows(table, index, allowed, group) {
-        return Err(Fault {
+        return Err(Failure {
             number: 25,
             place: frame.base,
         });
     }
     if levels_left(frame.rules) == 0 {
-        return Err(Fault {
+        return Err(Failure {
             number: 24,
             place: frame.base,
         });
@@ -649,19 +652,19 @@ fn open_area(
     outer: Frame,
     group: usize,
     before: usize,
-) -> Result<Begun, Fault>
+) -> Result<Begun, Failure>
     requires { (Widths index.now) × (16 ≤ length bytes.now) × (outer.base + length bytes.now ≤ 65536) × (1 ≤ (levels_in outer.rules)) }
     ensures { (t m : List ℕ) (o : Frame) (allowed : ℕ) → Layout t index.now → group < length (schema t) → length m ≡ length bytes.now → (levels_in o.rules) ≡ (levels_in outer.rules) → Opens t index.now bytes.now m o 5 (Whole allowed) 16 before (count (body_r (ignored_in outer.rules) (schema t) (inner_of (ignored_in outer.rules) t ((levels_in outer.rules) - 1)) group outer.base bytes.now)) result }
 {
     let area = 16 + schema::group_width(index, group);
     if bytes.len() < area {
-        return Err(Fault {
+        return Err(Failure {
             number: 14,
             place: outer.base,
         });
     }
     if !extension_inside(bytes, area) {
-        return Err(Fault {
+        return Err(Failure {
             number: 3,
             place: outer.base + 12,
         });
@@ -690,7 +693,7 @@ fn close_group(
     scope: Scope,
     taken: usize,
     before: usize,
-) -> Result<Step, Fault>
+) -> Result<Step, Failure>
     requires { (Ready table.now index.now bytes.now occupied.old frame) × ((allowed : ℕ) → scope ≡ Whole allowed → 16 ≤ length bytes.now) }
     ensures { count_by (λ s. left_of scope frame.area s occupied.new) result ≡ after before (behind_of table.now (levels_in frame.rules) scope (within bytes.now frame) (occupancy_of frame.area taken occupied.old)) }
 {
@@ -725,7 +728,7 @@ fn check_rest(
     frame: Frame,
     taken: usize,
     before: usize,
-) -> Result<Step, Fault>
+) -> Result<Step, Failure>
     requires { (Ready table.now index.now bytes.now occupied.old frame) × (16 ≤ length bytes.now) }
     ensures { count_by (λ _. []) result ≡ after before (and_then (count (extension_r (schema table.now) (inner_of (ignored_in frame.rules) table.now (levels_in frame.rules)) (within bytes.now frame) 12 (occupancy_of frame.area taken occupied.old))) (closing (within bytes.now frame))) }
 {
@@ -747,7 +750,7 @@ fn check_fields(
     at: usize,
     taken: usize,
     before: usize,
-) -> Result<Step, Fault>
+) -> Result<Step, Failure>
     requires { (Ready table.now index.now bytes.now occupied.old frame) × (at + width_of table.now depth group ≤ length bytes.now) × (group < length (schema table.now)) × (shallow (schema table.now) depth group ≡ true) }
     ensures { count_by (λ s. occupancy_of frame.area s occupied.new) result ≡ after before (count (static_of (ignored_in frame.rules) table.now (levels_in frame.rules) depth group (within bytes.now frame) at (occupancy_of frame.area taken occupied.old))) }
 {
@@ -799,7 +802,7 @@ fn check_field(
     at: usize,
     taken: usize,
     before: usize,
-) -> Result<Step, Fault>
+) -> Result<Step, Failure>
     requires { (Ready table.now index.now bytes.now occupied.old frame) × (field + 16 ≤ length table.now) × (at + field_width (width_of table.now depth) (field_at (enums table.now) (drop field table.now)) ≤ length bytes.now) × (shallow_kind (shallow (schema table.now) depth) (width_of table.now depth) (field_at (enums table.now) (drop field table.now)).kind ≡ true) }
     ensures { count_by (λ s. occupancy_of frame.area s occupied.new) result ≡ after before (count (field_r (inner_of (ignored_in frame.rules) table.now (levels_in frame.rules)) (width_of table.now depth) (static_of (ignored_in frame.rules) table.now (levels_in frame.rules) depth) (field_at (enums table.now) (drop field table.now)) (within bytes.now frame) at (occupancy_of frame.area taken occupied.old))) }
 {
@@ -828,7 +831,7 @@ fn check_value(
     at: usize,
     taken: usize,
     before: usize,
-) -> Result<Step, Fault>
+) -> Result<Step, Failure>
     requires { (Ready table.now index.now bytes.now occupied.old frame) × (field + 16 ≤ length table.now) × (at + value_width (width_of table.now depth) (field_at (enums table.now) (drop field table.now)) ≤ length bytes.now) × (shallow_kind (shallow (schema table.now) depth) (width_of table.now depth) (field_at (enums table.now) (drop field table.now)).kind ≡ true) }
     ensures { count_by (λ s. occupancy_of frame.area s occupied.new) result ≡ after before (count (marked_value_r (inner_of (ignored_in frame.rules) table.now (levels_in frame.rules)) (width_of table.now depth) (static_of (ignored_in frame.rules) table.now (levels_in frame.rules) depth) (field_at (enums table.now) (drop field table.now)) (within bytes.now frame) at (occupancy_of frame.area taken occupied.old))) }
 {
@@ -866,7 +869,8 @@ fn check_value(
 }
 
 // So many items, each of `width` bytes. Plain values need no test, and are only counted; strings, and
-// numbers with a test, of which there may be thousands, have loops of their own.
+// numbers with a test, of which there may be thousands, have loops of their own. As one `match` the kinds
+// were told apart by a second jump through a table: deep groups took a tenth more time.
 #[cycle(walk)]
 fn check_items(
     table: &[u8],
@@ -881,45 +885,43 @@ fn check_items(
     at: usize,
     taken: usize,
     before: usize,
-) -> Result<Step, Fault>
+) -> Result<Step, Failure>
     requires { (Ready table.now index.now bytes.now occupied.old frame) × (at + total * width ≤ length bytes.now) × (total < 2 ^ 32) × (width ≤ 4096) × (width ≡ kind_width (width_of table.now depth) (kind_from (enums table.now) kind)) × (shallow_kind (shallow (schema table.now) depth) (width_of table.now depth) (kind_from (enums table.now) kind) ≡ true) }
     ensures { count_by (λ s. occupancy_of frame.area s occupied.new) result ≡ after before (count (items_r width (item_r (inner_of (ignored_in frame.rules) table.now (levels_in frame.rules)) (static_of (ignored_in frame.rules) table.now (levels_in frame.rules) depth) (kind_from (enums table.now) kind)) total (within bytes.now frame) at (occupancy_of frame.area taken occupied.old))) }
 {
-    match kind {
-        FieldKind::Plain { width: plain } => {
-            let length = before.wrapping_add(total * (2 + usize::from(plain)));
-            Ok(Step { length, taken })
-        }
-        FieldKind::Indirect { utf8 } => check_texts(
-            bytes, occupied, frame, utf8, total, at, taken, before,
-        ),
-        FieldKind::Number { tested } => check_numbers(
-            table, index, bytes, frame.base, tested, total, at, taken, before,
-        ),
-        _ => {
-            let mut place = at;
-            let mut step = Step {
-                length: before,
-                taken,
-            };
-            for _ in 0..total {
-                step = check_item(
-                    table,
-                    index,
-                    bytes,
-                    occupied,
-                    frame,
-                    depth,
-                    kind,
-                    place,
-                    step.taken,
-                    step.length,
-                )?;
-                place += width;
-            }
-            Ok(step)
-        }
+    if let FieldKind::Plain { width: plain } = kind {
+        let length = before.wrapping_add(total * (2 + usize::from(plain)));
+        return Ok(Step { length, taken });
     }
+    if let FieldKind::Indirect { utf8 } = kind {
+        return check_texts(bytes, occupied, frame, utf8, total, at, taken, before);
+    }
+    if let FieldKind::Number { tested } = kind {
+        return check_numbers(
+            table, index, bytes, frame.base, tested, total, at, taken, before,
+        );
+    }
+    let mut place = at;
+    let mut step = Step {
+        length: before,
+        taken,
+    };
+    for _ in 0..total {
+        step = check_item(
+            table,
+            index,
+            bytes,
+            occupied,
+            frame,
+            depth,
+            kind,
+            place,
+            step.taken,
+            step.length,
+        )?;
+        place += width;
+    }
+    Ok(step)
 }
 
 #[cycle(walk)]
@@ -934,7 +936,7 @@ fn check_item(
     at: usize,
     taken: usize,
     before: usize,
-) -> Result<Step, Fault>
+) -> Result<Step, Failure>
     requires { (Ready table.now index.now bytes.now occupied.old frame) × (at + kind_width (width_of table.now depth) (kind_from (enums table.now) kind) ≤ length bytes.now) × (shallow_kind (shallow (schema table.now) depth) (width_of table.now depth) (kind_from (enums table.now) kind) ≡ true) }
     ensures { count_by (λ s. occupancy_of frame.area s occupied.new) result ≡ after before (count (item_r (inner_of (ignored_in frame.rules) table.now (levels_in frame.rules)) (static_of (ignored_in frame.rules) table.now (levels_in frame.rules) depth) (kind_from (enums table.now) kind) (within bytes.now frame) at (occupancy_of frame.area taken occupied.old))) }
 {
@@ -987,7 +989,7 @@ fn check_dynamic(
     at: usize,
     taken: usize,
     before: usize,
-) -> Result<Step, Fault>
+) -> Result<Step, Failure>
     requires { (Ready table.now index.now bytes.now occupied.old frame) × (at + 4 ≤ length bytes.now) }
     ensures { count_by (λ s. occupancy_of frame.area s occupied.new) result ≡ after before (count (indirect_r 26 1 (inner_r (inner_of (ignored_in frame.rules) table.now (levels_in frame.rules)) allowed) (within bytes.now frame) at (occupancy_of frame.area taken occupied.old))) }
 {
@@ -1021,7 +1023,7 @@ fn check_nested(
     size: usize,
     taken: usize,
     before: usize,
-) -> Result<Step, Fault>
+) -> Result<Step, Failure>
     requires { (Ready table.now index.now bytes.now occupied.old frame) × (start + size ≤ length bytes.now) × (occupy start size (occupancy_of frame.area taken occupied.old) ≡ occupancy_of frame.area taken occupied.old) }
     ensures { count_by (λ s. occupancy_of frame.area s occupied.new) result ≡ after before (and_then (count (inner_of (ignored_in frame.rules) table.now (levels_in frame.rules) allowed (frame.base + start) (part size start bytes.now))) (λ _. counted 0 (occupancy_of frame.area taken occupied.old))) }
 {
@@ -1060,7 +1062,7 @@ fn check_extension(
     frame: Frame,
     taken: usize,
     before: usize,
-) -> Result<Step, Fault>
+) -> Result<Step, Failure>
     requires { (Ready table.now index.now bytes.now occupied.old frame) × (16 ≤ length bytes.now) }
     ensures { count_by (λ s. occupancy_of frame.area s occupied.new) result ≡ after before (count (extension_r (schema table.now) (inner_of (ignored_in frame.rules) table.now (levels_in frame.rules)) (within bytes.now frame) 12 (occupancy_of frame.area taken occupied.old))) }
 {
@@ -1101,7 +1103,7 @@ fn check_groups(
     at: usize,
     taken: usize,
     before: usize,
-) -> Result<Step, Fault>
+) -> Result<Step, Failure>
     requires { (Ready table.now index.now bytes.now occupied.old frame) × (at + total * 4 ≤ length bytes.now) }
     ensures { count_by (λ s. occupancy_of frame.area s occupied.new) result ≡ after before (count (items_r 4 (indirect_r 26 1 (extending_r (schema table.now) (inner_of (ignored_in frame.rules) table.now (levels_in frame.rules)))) total (within bytes.now frame) at (occupancy_of frame.area taken occupied.old))) }
 {
@@ -1137,13 +1139,13 @@ fn check_extending(
     at: usize,
     taken: usize,
     before: usize,
-) -> Result<Step, Fault>
+) -> Result<Step, Failure>
     requires { (Ready table.now index.now bytes.now occupied.old frame) × (at + 4 ≤ length bytes.now) }
     ensures { count_by (λ s. occupancy_of frame.area s occupied.new) result ≡ after before (count (indirect_r 26 1 (extending_r (schema table.now) (inner_of (ignored_in frame.rules) table.now (levels_in frame.rules))) (within bytes.now frame) at (occupancy_of frame.area taken occupied.old))) }
 {
     let found = locate(bytes, occupied, frame, taken, at, 26, 1)?;
     if found.count < 12 {
-        return Err(Fault {
+        return Err(Failure {
             number: 1,
             place: frame.base + found.place,
         });

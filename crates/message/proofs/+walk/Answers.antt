@@ -271,19 +271,19 @@ pub check_items-check_item-requires : goal.check_items-check_item-requires
 check_items-check_item-requires t c = let a = c.args in
     (search rules, (ready _ _ _ _ _ _ c.requires.0 (search rules), omega (arith, c.loop.invariant.inside, items_left a.total c.loop.counter a.width c.loop-test.true, c.requires.4), c.requires.5))
 
-pub check_items-returns-in_err-step-in_default : goal.check_items-returns-in_err-step-in_default
-check_items-returns-in_err-step-in_default t c = let a = c.args in let l = c.loop in rw (exits _ _ c.from_residual.ensures.1)
-    (items-stopped a.width _ (within a.bytes.now a.frame) a.total l.counter l.place l.step.length (occupancy_of a.frame.area l.step.taken l.occupied) _ c.loop-test.true _ _ c.in_err-step-in_default.ensures ∙ sym l.invariant.counts)
+pub check_items-returns-in_err-step : goal.check_items-returns-in_err-step
+check_items-returns-in_err-step t c = let a = c.args in let l = c.loop in rw (exits _ _ c.from_residual.ensures.1)
+    (items-stopped a.width _ (within a.bytes.now a.frame) a.total l.counter l.place l.step.length (occupancy_of a.frame.area l.step.taken l.occupied) _ c.loop-test.true _ _ c.in_err-step.ensures ∙ sym l.invariant.counts)
 
 pub check_items-loop-preserved : goal.check_items-loop-preserved
 check_items-loop-preserved t c = let a = c.args in let l = c.loop in record {
   inside = omega (arith, l.invariant.inside, items_left a.total l.counter a.width c.loop-test.true);
-  fits = bounded _ _ _ _ c.in_ok-step-in_default.ensures;
-  counts = l.invariant.counts ∙ items-passed a.width _ (within a.bytes.now a.frame) a.total l.counter l.place l.step.length (occupancy_of a.frame.area l.step.taken l.occupied) _ c.loop-test.true _ c.in_ok-step-in_default.ensures;
+  fits = bounded _ _ _ _ c.in_ok-step.ensures;
+  counts = l.invariant.counts ∙ items-passed a.width _ (within a.bytes.now a.frame) a.total l.counter l.place l.step.length (occupancy_of a.frame.area l.step.taken l.occupied) _ c.loop-test.true _ c.in_ok-step.ensures;
 }
 
-pub check_items-returns-after-loop : goal.check_items-returns-after-loop
-check_items-returns-after-loop t c = let a = c.args in let l = c.loop in items-end a.width _ (within a.bytes.now a.frame) a.total l.counter l.place l.step.length (occupancy_of a.frame.area l.step.taken l.occupied) _ _ refl refl c.loop-test.false l.invariant.fits ∙ sym l.invariant.counts
+pub check_items-returns : goal.check_items-returns
+check_items-returns t c = let a = c.args in let l = c.loop in items-end a.width _ (within a.bytes.now a.frame) a.total l.counter l.place l.step.length (occupancy_of a.frame.area l.step.taken l.occupied) _ _ refl refl c.loop-test.false l.invariant.fits ∙ sym l.invariant.counts
 
 pub check_nested-returns-in_err-group : goal.check_nested-returns-in_err-group
 check_nested-returns-in_err-group t c = let a = c.args in rw (exits _ _ c.from_residual.ensures.1)

@@ -1,11 +1,11 @@
-use Rattle.std.proofs.Common.{sym, ◌∙◌, arith}
+use Rattle.std.proofs.Common.{sym, refl, ◌∙◌, arith}
 use Rattle.message.proofs.CheckOccupancy.{is-scattered, not-scattered, claim-taken, claim-scattered, claim-packed, claimed-packed, claimed-scattered, claimed-first, occupied-room}
 use Rattle.message.proofs.CheckPlaces.{claims-at, claim-shared, claim-free}
 use Rattle.message.specs.Check.{occupancy_of}
 use Rattle.message.proofs.claim.Goals as goal
 
 pub returns-then-place-packed_end : goal.returns-then-place-packed_end
-returns-then-place-packed_end c = let a = c.args in (claim-shared _ a.frame.base a.place a.count a.size (occupancy_of a.frame.area a.taken a.occupied.now) (claim-taken a.frame.area a.taken a.occupied.now a.place a.size c.requires.0 c.requires.1 c.requires.2 (omega (arith, c.if-place-packed_end.true, c.packed_end.ensures))), tt)
+returns-then-place-packed_end c = let a = c.args in (claim-shared _ a.frame.base a.place a.count a.size (occupancy_of a.frame.area a.taken a.occupied.now) _ refl refl (claim-taken a.frame.area a.taken a.occupied.now a.place a.size c.requires.0 c.requires.1 c.requires.2 (omega (arith, c.if-place-packed_end.true, c.packed_end.ensures))), tt)
 
 pub returns-then-taken-ge-SCATTERED : goal.returns-then-taken-ge-SCATTERED
 returns-then-taken-ge-SCATTERED c = let a = c.args in let M = occupancy_of a.frame.area a.taken a.occupied.now in
@@ -14,7 +14,7 @@ returns-then-taken-ge-SCATTERED c = let a = c.args in let M = occupancy_of a.fra
     (claim-free _ a.frame.base a.place a.count a.size M _ f g, claims-at _ a.place a.count a.size _ M g (occupied-room a.frame.area a.taken a.occupied.now a.place a.size c.requires.0 c.requires.2))
 
 pub returns-then-not-all_zero : goal.returns-then-not-all_zero
-returns-then-not-all_zero c = let a = c.args in (claim-shared _ a.frame.base a.place a.count a.size (occupancy_of a.frame.area a.taken a.occupied.now) (claim-scattered a.frame.area a.taken a.occupied.now a.place a.size c.requires.0 c.requires.1 c.requires.2 (omega (arith, c.if-place-packed_end.false, c.packed_end.ensures)) (is-scattered _ c.if-taken-ge-SCATTERED.true) ∙ sym c.all_zero.ensures ∙ c.if-not-all_zero.true), tt)
+returns-then-not-all_zero c = let a = c.args in (claim-shared _ a.frame.base a.place a.count a.size (occupancy_of a.frame.area a.taken a.occupied.now) _ refl refl (claim-scattered a.frame.area a.taken a.occupied.now a.place a.size c.requires.0 c.requires.1 c.requires.2 (omega (arith, c.if-place-packed_end.false, c.packed_end.ensures)) (is-scattered _ c.if-taken-ge-SCATTERED.true) ∙ sym c.all_zero.ensures ∙ c.if-not-all_zero.true), tt)
 
 pub returns-then-place-taken : goal.returns-then-place-taken
 returns-then-place-taken c = let a = c.args in let M = occupancy_of a.frame.area a.taken a.occupied.now in

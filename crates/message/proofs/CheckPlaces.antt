@@ -29,18 +29,17 @@ module _ (F : ℕ → List ℕ) where
 -- LOCATE
 
 module _ (y : Ignored) (F : ℕ → List ℕ) (past w : ℕ) (b : List ℕ) (base area at : ℕ) (m : List ℕ) (o p n k : ℕ) (io : o ≡ word at b) (ip : p ≡ at + o) where
-  module _ (f : Failure) where
-    pub low : f.number ≡ 5 → f.place ≡ base + at → p < area → place_by F (Err f) ≡ locate past w (here y b base area) at m
-    unfolding place_by locate need in_area
-    low fn fp h = rw (fn, fp, ← io, ← ip, lt-leb area p h)
+  pub low : (f : Failure) → f.number ≡ 5 → f.place ≡ base + at → p < area → place_by F (Err f) ≡ locate past w (here y b base area) at m
+  unfolding place_by locate need in_area
+  low f fn fp h = rw (fn, fp, ← io, ← ip, lt-leb area p h)
 
-    pub high : f.number ≡ 5 → f.place ≡ base + at → area ≤ p → length b ≤ p → place_by F (Err f) ≡ locate past w (here y b base area) at m
-    unfolding place_by locate need in_area
-    high fn fp h k = rw (fn, fp, ← io, ← ip, le-leb area p h, le-ltb p (length b) k)
+  pub high : (f : Failure) → f.number ≡ 5 → f.place ≡ base + at → area ≤ p → length b ≤ p → place_by F (Err f) ≡ locate past w (here y b base area) at m
+  unfolding place_by locate need in_area
+  high f fn fp h k = rw (fn, fp, ← io, ← ip, le-leb area p h, le-ltb p (length b) k)
 
-    pub cut : f.number ≡ 26 → f.place ≡ base + p → area ≤ p → p < length b → length b < p + 4 → place_by F (Err f) ≡ locate past w (here y b base area) at m
-    unfolding place_by locate need in_area
-    cut fn fp h k l = rw (fn, fp, ← io, ← ip, le-leb area p h, lt-ltb p (length b) k, lt-leb (p + 4) (length b) l)
+  pub cut : (f : Failure) → f.number ≡ 26 → f.place ≡ base + p → area ≤ p → p < length b → length b < p + 4 → place_by F (Err f) ≡ locate past w (here y b base area) at m
+  unfolding place_by locate need in_area
+  cut f fn fp h k l = rw (fn, fp, ← io, ← ip, le-leb area p h, lt-ltb p (length b) k, lt-leb (p + 4) (length b) l)
 
   module _ (h : area ≤ p) (g : p < length b) (l : p + 4 ≤ length b) (in' : n ≡ word p b) (ik : k ≡ 4 + n * w) where
     pub over : (f : Failure) → f.number ≡ past → f.place ≡ base + p → length b < p + k → place_by F (Err f) ≡ locate past w (here y b base area) at m

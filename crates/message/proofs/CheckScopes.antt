@@ -1,12 +1,12 @@
 -- Both scopes of a group: how it is opened, and how it is closed.
 use Rattle.std.proofs.Common.{Ok, Err, Result, ◌≡◌, ℕ, ◌+◌, ◌*◌, ◌^◌, ◌<◌, ◌≤◌, List, [], sym, refl, ap, subst, arith}
-use Rattle.message.specs.declared.failure.Failure.{Failure}
 use Rattle.schema.specs.declared.Scope.{Scope}
 use Rattle.schema.specs.declared.Scope.TheVariants.{Whole, Fields}
 use Rattle.message.specs.Walk.{Here}
 use Rattle.message.specs.Count.{Count, failed, count}
 use Rattle.message.specs.Check.{levels_in, ignored_in, occupancy_of, count_by, after, within, inner_of, Ready}
 use Rattle.message.specs.Scopes.{group_of, behind_of, left_of, Lies, Inside, Begins, Opens}
+use Rattle.message.specs.declared.failure.Failure.{Failure}
 use Rattle.message.specs.declared.Frame.{Frame}
 use Rattle.message.specs.declared.Step.{Step}
 use Rattle.message.specs.declared.Begun.{Begun}

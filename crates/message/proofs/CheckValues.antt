@@ -4,7 +4,6 @@ use borrow.Author.Tests.{lt-leb}
 use Rattle.wire.specs.Bytes.{part, bytes_of, all_zero, zeros}
 use Rattle.wire.proofs.Laws.{length_part, length-bytes}
 use Rattle.schema.specs.declared.Fault.{Fault}
-use Rattle.message.specs.declared.failure.Failure.{Failure}
 use Rattle.schema.specs.Faults.{fault_at, judged, need}
 use Rattle.schema.specs.Schema.{Test, any, flag, below, symbol, passes, test_fault, text_ok, plain, inline, kind_width}
 use Rattle.schema.specs.FieldKinds.{tested_kind, kind_fault}
@@ -15,6 +14,7 @@ use Rattle.settings.specs.declared.Ignored.{Ignored}
 use Rattle.message.specs.Walk.{here, Reader, Inner, word, byte, optional_r, plain_r, inline_r, in_area, extension_in, locate, indirect_r, text_r, kind_r, marked_r}
 use Rattle.message.specs.Count.{failed, counted, count, more}
 use Rattle.message.specs.Check.{place_by, item_r}
+use Rattle.message.specs.declared.failure.Failure.{Failure}
 use Rattle.message.specs.declared.Found.{Found}
 use Rattle.message.proofs.Count.{count-marked, count-lost, count-found}
 

@@ -1,5 +1,4 @@
 // How the walk fails.
-#![tactic(auto)]
 
 ghost use Rattle.std.specs.Prelude.{◌≡◌, ◌≤◌};
 ghost use Rattle.schema.specs.Faults.{fault_at};
@@ -7,7 +6,7 @@ ghost use Rattle.schema.specs.Faults.{fault_at};
 use schema::Fault;
 
 // A fault whose number fills a word. That of a `Fault` is one byte of a word that an `Ok` fills, and each
-// `?` would take this word apart and put it together again: small groups took a third more time.
+// `?` would take this word apart and put it together again: statics took a third more time.
 #[derive(Clone, Copy)]
 pub struct Failure {
     pub number: usize,

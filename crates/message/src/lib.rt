@@ -869,8 +869,9 @@ fn check_value(
 }
 
 // So many items, each of `width` bytes. Plain values need no test, and are only counted; strings, and
-// numbers with a test, of which there may be thousands, have loops of their own. As one `match` the kinds
-// were told apart by a second jump through a table: deep groups took a tenth more time.
+// numbers with a test, of which there may be thousands, have loops of their own. As one `match` these kinds
+// were told apart by a jump through a table, as in `check_item`: deep groups among statics took a tenth
+// more time.
 #[cycle(walk)]
 fn check_items(
     table: &[u8],
